@@ -1,0 +1,62 @@
+-- One step of the comparison of two lists from an index on, and what the stretch of a pool is in each case.
+use Prim.Native.Nat.{ℕ, zero, suc, _+_, _-_, _≤_, _<_}
+use mathlib.Core.List.{List, [], _∷_}
+use mathlib.Core.Bool.{Bool, true, false}
+use mathlib.Core.Path.{_≡_, refl, sym, ap, _∙_}
+use native.Mathlib.Nat.{add-sub-cancel-left}
+use native.Mathlib.Numerals.{add-one}
+use native.Mathlib.Omega.{arith}
+use lib.ListN.{length, take, drop, getD, drop-of-length-le, length-drop}
+use lib.Seq.{drop-cons, take-all, take-nil}
+use lib.Dec.{leb, ltb, eqb}
+use borrow.Author.Tests.{eq-eqb, ne-eqb, le-leb, lt-leb, lt-ltb, le-ltb}
+use Rattle.record.specs.Base.{eqs}
+use Rattle.record.specs.Stretch.{textOf}
+use Rattle.record.specs.declared.text.Text.{Text}
+
+module _ (a b : List ℕ) (i : ℕ) where
+  pub same-step : i < length a → i < length b → getD a i 0 ≡ getD b i 0 → eqs (drop i a) (drop i b) ≡ eqs (drop (i + 1) a) (drop (i + 1) b)
+  unfolding eqs
+  same-step p q e = rw (add-one, drop-cons a i 0, drop-cons b i 0, eq-eqb (getD a i 0) (getD b i 0) e)
+
+  pub same-differ : i < length a → i < length b → (getD a i 0 ≡ getD b i 0 → ⊥) → eqs (drop i a) (drop i b) ≡ false
+  unfolding eqs
+  same-differ p q e = rw (drop-cons a i 0, drop-cons b i 0, ne-eqb (getD a i 0) (getD b i 0) e)
+
+  pub same-longer : i < length a → length b ≤ i → eqs (drop i a) (drop i b) ≡ false
+  unfolding eqs
+  same-longer p q = rw (drop-cons a i 0, drop-of-length-le b)
+
+  pub same-shorter : length a ≤ i → i < length b → eqs (drop i a) (drop i b) ≡ false
+  unfolding eqs
+  same-shorter p q = rw (drop-of-length-le a, drop-cons b i 0)
+
+  pub same-end : length a ≤ i → length b ≤ i → eqs (drop i a) (drop i b) ≡ true
+  unfolding eqs
+  same-end p q = rw (drop-of-length-le a, drop-of-length-le b)
+
+module _ (pool : List ℕ) (t : Text) where
+  pub text-past : length pool ≤ t .start → take (length pool - length pool) (drop (length pool) pool) ≡ textOf pool t
+  unfolding textOf
+  text-past h = rw (drop-of-length-le pool {i = t .start} h, drop-of-length-le pool {i = length pool} (omega arith), take-nil, take-nil)
+
+  pub text-whole : take (t .start + t .len - t .start) (drop (t .start) pool) ≡ textOf pool t
+  unfolding textOf
+  text-whole = rw (add-sub-cancel-left (t .start) (t .len))
+
+  pub text-cut : length pool - t .start ≤ t .len → take (length pool - t .start) (drop (t .start) pool) ≡ textOf pool t
+  unfolding textOf
+  text-cut h =
+      take-all (length pool - t .start) (drop (t .start) pool) (rw length-drop (omega arith))
+      ∙ sym (take-all (t .len) (drop (t .start) pool) (rw length-drop (omega arith)))
+
+-- a loop's invariant says that the answer wanted is x's, so far: it stays so after a step, and at a way out the value there is the answer
+pub kept : {A : Type 0} {x y z : A} → x ≡ y → y ≡ z → x ≡ z
+kept p q = p ∙ q
+
+pub ended : {A : Type 0} {x y z : A} → x ≡ y → y ≡ z → z ≡ x
+ended p q = sym (p ∙ q)
+
+pub ruleset same-laws = (same-step, same-differ, same-longer, same-shorter, same-end)
+
+pub ruleset text-laws = (text-past, text-whole, text-cut)

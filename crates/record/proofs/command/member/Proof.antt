@@ -1,0 +1,59 @@
+use Rattle.record.proofs.CommandLaws.{field-here}
+use borrow.Author.Needs.{needs}
+use Rattle.record.proofs.command.member.Statement.{statement}
+use Rattle.record.proofs.command.member.Tie as tie
+use Rattle.record.proofs.command.member.Reads as reads
+use Rattle.record.proofs.command.member.Lts as lts
+use Rattle.record.proofs.operands.opt_number_at.Reads as opt-number-at-reads
+use Rattle.record.proofs.operands.opt_text_at.Reads as opt-text-at-reads
+use Rattle.record.proofs.operands.text_at.Reads as text-at-reads
+
+-- src/command.rt:153:15
+text-at-requires : tie.Need-text-at-requires
+text-at-requires c κs = search needs
+
+-- src/command.rt:154:15
+text-at-requires-2 : tie.Need-text-at-requires-2
+text-at-requires-2 c κs = search needs
+
+-- src/command.rt:155:20
+opt-text-at-requires : tie.Need-opt-text-at-requires
+opt-text-at-requires c κs = search needs
+
+-- src/command.rt:156:18
+opt-text-at-requires-2 : tie.Need-opt-text-at-requires-2
+opt-text-at-requires-2 c κs = search needs
+
+-- src/command.rt:157:16
+opt-number-at-requires : tie.Need-opt-number-at-requires
+opt-number-at-requires c κs = search needs
+
+-- src/command.rt:158:15
+opt-number-at-requires-2 : tie.Need-opt-number-at-requires-2
+opt-number-at-requires-2 c κs = search needs
+
+-- src/command.rt:159:15
+opt-number-at-requires-3 : tie.Need-opt-number-at-requires-3
+opt-number-at-requires-3 c κs = search needs
+
+-- src/command.rt:160:15
+opt-number-at-requires-4 : tie.Need-opt-number-at-requires-4
+opt-number-at-requires-4 c κs = search needs
+
+-- src/command.rt:149:1
+returns : tie.Need-returns
+returns c = search field-here
+
+pub member-spec : {M : Type 1} → statement M
+member-spec =
+    tie.close
+    (tie.spec
+    text-at-requires
+    text-at-requires-2
+    opt-text-at-requires
+    opt-text-at-requires-2
+    opt-number-at-requires
+    opt-number-at-requires-2
+    opt-number-at-requires-3
+    opt-number-at-requires-4
+    returns)

@@ -1,0 +1,60 @@
+use mathlib.Core.Path.{sym}
+use native.Mathlib.Omega.{arith}
+use Rattle.record.specs.Le.{u32At, u32-past}
+use borrow.Author.Needs.{needs}
+use Rattle.record.proofs.le.u32_at.Statement.{statement}
+use Rattle.record.proofs.le.u32_at.Tie as tie
+use Rattle.record.proofs.le.u32_at.Reads as reads
+use Rattle.record.proofs.le.u32_at.Lts as lts
+use Rattle.record.proofs.le.u16_at.Reads as u16-at-reads
+
+-- src/lib.rt:30:19
+u16-at-requires : tie.Need-u16-at-requires
+u16-at-requires c κs = search needs
+
+-- src/lib.rt:30:19
+cast-low : tie.Need-cast-low
+cast-low c = search needs
+
+-- src/lib.rt:31:30
+add-u16-at : tie.Need-add-u16-at
+add-u16-at c = search needs
+
+-- src/lib.rt:31:20
+u16-at-requires-2 : tie.Need-u16-at-requires-2
+u16-at-requires-2 c κs = search needs
+
+-- src/lib.rt:31:20
+cast-high : tie.Need-cast-high
+cast-high c = search needs
+
+-- src/lib.rt:32:15
+mul-result : tie.Need-mul-result
+mul-result c = search needs
+
+-- src/lib.rt:32:9
+add-result : tie.Need-add-result
+add-result c = search needs
+
+-- src/lib.rt:26:1
+returns : tie.Need-returns
+unfolding u32At
+returns c = omega arith
+
+-- src/lib.rt:26:1
+returns-2 : tie.Need-returns-2
+returns-2 c = sym (u32-past _ _ (c .if1 .left))
+
+pub u32-at-spec : {M : Type 1} → statement M
+u32-at-spec =
+    tie.close
+    (tie.spec
+    u16-at-requires
+    cast-low
+    add-u16-at
+    u16-at-requires-2
+    cast-high
+    mul-result
+    add-result
+    returns
+    returns-2)

@@ -1,0 +1,57 @@
+// The operands of a command, at a place of the bytes from the command on. A byte past the end counts as 0.
+use crate::le;
+use crate::text::Text;
+ghost use mathlib.Core.Path.{_≡_};
+ghost use Rattle.record.specs.Operands.{textAt, optTextAt, optNumberAt, flagAt};
+
+pub enum OptText {
+    Absent,
+    Given(Text),
+}
+
+pub enum OptNumber {
+    Missing,
+    Number(u32),
+}
+
+pub fn text_at(s: &[u8], at: usize) -> Text
+    ensures { λ r. ⌜ r ≡ textAt (now (s .entry)) at ⌝ }
+{
+    if at < s.len() {
+        Text {
+            start: le::u16_at(s, at),
+            len: le::byte_at(s, at + 2),
+        }
+    } else {
+        Text { start: 0, len: 0 }
+    }
+}
+
+pub fn opt_text_at(s: &[u8], at: usize) -> OptText
+    ensures { λ r. ⌜ r ≡ optTextAt (now (s .entry)) at ⌝ }
+{
+    let t = text_at(s, at);
+    if t.start == 65535 {
+        if t.len == 0 {
+            return OptText::Absent;
+        }
+    }
+    OptText::Given(t)
+}
+
+pub fn flag_at(s: &[u8], at: usize) -> bool
+    ensures { λ r. ⌜ r ≡ flagAt (now (s .entry)) at ⌝ }
+{
+    le::byte_at(s, at) == 1
+}
+
+pub fn opt_number_at(s: &[u8], at: usize) -> OptNumber
+    ensures { λ r. ⌜ r ≡ optNumberAt (now (s .entry)) at ⌝ }
+{
+    if at < s.len() {
+        if le::byte_at(s, at) != 0 {
+            return OptNumber::Number(le::u32_at(s, at + 1));
+        }
+    }
+    OptNumber::Missing
+}
