@@ -1,63 +1,108 @@
--- The paper's list example, and check on bytes, computed. Assumes nothing.
+-- Whole answers of the check on bytes, computed. Assumes nothing.
 use mathlib.Core.Path.{_≡_, refl}
-use mathlib.Core.List.{List, [], _∷_, _++_, map}
-use mathlib.Core.Option.{Option, none, some}
-use mathlib.Core.Bool.{Bool, true, false, _&&_, not, cond}
-use Prim.Native.Nat.{ℕ}
+use mathlib.Core.List.{List, [], _∷_, _++_}
+use mathlib.Core.Bool.{Bool, _&&_, cond}
+use Prim.Native.Nat.{ℕ, suc}
+use Prim.Native.String.{String}
 use lib.Dec.{eqb}
-use Rattle.compare.specs.Words.{wordNumber}
-use Rattle.record.specs.Refusals.{refusalNumber}
-use Rattle.record.specs.Base.{Str, bytes, eqs, isText, before, signed, lastOr, findLast, digits, decimal, orElse, find, any, filterB}
-use Rattle.compare.specs.Verdict.{Verdict, pass, stop, _then_, ensure, each, onFound}
-use Rattle.record.specs.Shapes.{Kind, pointers, kinds, kindOf, primSize, sized, mapOption, enumSize, aliasSize, bitfieldSize, sizeAs, shapeSize, orOption, spaced, restAs, shapeType, Place, placeOf, places, plain, prefix}
-use Rattle.layout.specs.Layout.{TypeLayout, variantName, layStruct, layFamily, layVariant, layFamilies, listed, insert, insertAll, types, lookup}
-use Rattle.record.specs.Owner.{structNamed, familyNamed, structIn, hasSlot, namesType, namesElement, referenced, variantFields, fieldsOf, typeFields, Owned, ownedIn, unless, enter, visit, visitAll, claim, declared, claimRoots, withRoot, rootsIn, roots, rootOf, ownerOf}
-use Rattle.compare.specs.Messages.{named, joined, enumGone, renumbered, renamed, valueGone, bitFieldGone, memberRenamed, memberGone, bitMoved, widthChanged}
-use Rattle.compare.specs.Check.{constantNamed, enumNamed, checkValue, checkValues, eachEnum, empty, checkEnum, checkEnums, widthOf, bitFieldNamed, checkMember, checkMembers, eachBits, checkBitField, checkBitFields, checkPlace, checkType, checkFields, eqPlace, eqPlaces, sameAs, changed, shipped, checkShipped, checkFamily, checkStandalone, owning, standsAlone, checkCovered, ownedBy, under, Generation, asGeneration, ofConstant, ofVersion, ofStruct, generation, withName, versioned, slots, checkRise, checkNumber, checkAgainst, checkGeneration, checkGenerations, dotted, gained, change, standing, nameOf, rose}
-use Rattle.compare.specs.Compare.{passes, passList, firstOf, compare}
-use Rattle.record.specs.Release.{ontoHead, parts, digit, allDigits, startsZero, isEmpty, isDecimal, number, fits, threeParts, releaseParts, earlier, firstNaming}
-use Rattle.compare.specs.Early.{checkNothing, nowOf, copyRelease, checkCopy, checkOrder, shippedAs, checkArrival, ofConst, ofEnum, ofKey, ofOldValue, ofValue, isAbsent, isNone, checkConstArrival, checkValueArrival, checkEnumArrival, withKey, fieldKeys, structKeys, keysOf, checkKeyArrival, checkFirstReleases, valueText, insertConst, insertConsts, holdsGeneration, checkConstant, checkConstants, checkArrived, ofBits, ofOldMember, ofMember, checkBitsArrived, checkBitReleases}
-use Rattle.record.specs.Reader.{Rec, Side, current, released, Op, width, widths, operands, byteAt, numberAt, absentAt, textAt, optionAt, countAt, flagAt, inPool, textOk, presentOk, flagOk, allOk, textGiven, isOpen, inFamily, mayStand, opens, keyAt, cmdAt, guard, judge, nextAt, onto, closing, after, moveOn, parse}
-use Rattle.record.specs.Build.{Part, blank, start, add, build, strange, large, vast, vastOr, conclude, parsed, reading}
-use Rattle.compare.specs.Answer.{Answer, refusalOf, answer, both-read, check}
+use lib.ListN.{length, take}
+use Rattle.record.specs.Base.{Str, bytes, eqs, first}
+use Rattle.record.specs.Scalars.{builtIn}
+use Rattle.record.specs.Le.{u16At, u32At, u64At}
+use Rattle.record.specs.Stretch.{textOf}
+use Rattle.record.specs.Operands.{textAt, optText, optTextAt, flagAt, optNumberAt}
+use Rattle.record.specs.Commands.{operands, wide, widths, widthWith, widthOf, commandOf, stepAt, commandsFrom, commandsAt}
+use Rattle.record.specs.Lists.{listed, heads, constants, aliases, values, enums, members, bitfields, keys, fields, structs, variants, families, unstored, versions}
+use Rattle.record.specs.Judge.{ifAbsent, flagFault, operandFault, faultsFrom, follows, mayStand, parentAfter, ready, judgedWith, judgedAt}
+use Rattle.record.specs.Letters.{isLetter, oddLetter}
+use Rattle.record.specs.Reading.{rec, releaseOf, unreleasedOf, schemaFrom, openedAt, opened, large, vast, onto, continued, parse, parsed, streamLimit, poolLimit, vastOr, sizesOf, concluded, reading}
+use Rattle.compare.specs.Answer.{refusalOf, verdictOf, answered, check}
+use Rattle.compare.proofs.Edges.{Case, failing, gives}
 
-pub record Case : Type 0 where
-  pub now-stream : Str
-  pub now-pool : Str
-  pub was-stream : Str
-  pub was-pool : Str
-  pub number : ℕ
-  pub side : ℕ
-  pub place : ℕ
-  pub text : Str
+-- writing a record: a text is where the pool has it first
+pool : Str
+pool = bytes "0.10.0 0.9.0 0.8.0 GEN metadata struct_ptr bitfield scalar padding enum u16 u8 head next tile skip gap new bits fam tag len m V b x e a n"
 
-runs : Case → Bool
-unfolding
-    bytes eqs isText before signed lastOr findLast decimal orElse find any filterB _then_ ensure each onFound
-    pointers kinds kindOf primSize sized mapOption enumSize aliasSize bitfieldSize sizeAs shapeSize orOption spaced restAs shapeType placeOf places plain prefix variantName layStruct layFamily layVariant layFamilies listed insert insertAll types lookup
-    structNamed familyNamed structIn hasSlot namesType namesElement referenced variantFields fieldsOf typeFields ownedIn unless enter visit visitAll claim declared claimRoots withRoot rootsIn roots rootOf ownerOf
-    constantNamed enumNamed named joined enumGone renumbered renamed valueGone checkValue checkValues eachEnum empty checkEnum checkEnums widthOf bitFieldNamed checkMember checkMembers eachBits bitFieldGone memberRenamed memberGone bitMoved widthChanged checkBitField checkBitFields checkPlace checkType checkFields eqPlace eqPlaces sameAs changed shipped checkShipped checkFamily checkStandalone owning standsAlone checkCovered ownedBy under asGeneration ofConstant ofVersion ofStruct generation withName versioned slots checkRise checkNumber checkAgainst checkGeneration checkGenerations dotted gained change standing nameOf rose passes passList firstOf compare
-    ontoHead parts digit allDigits startsZero isEmpty isDecimal number fits threeParts releaseParts earlier firstNaming
-    checkNothing nowOf copyRelease checkCopy checkOrder shippedAs checkArrival ofConst ofEnum ofKey ofOldValue ofValue isAbsent isNone checkConstArrival checkValueArrival checkEnumArrival withKey fieldKeys structKeys keysOf checkKeyArrival checkFirstReleases valueText insertConst insertConsts holdsGeneration checkConstant checkConstants checkArrived ofBits ofOldMember ofMember checkBitsArrived checkBitReleases
-    width widths operands byteAt numberAt absentAt textAt optionAt countAt flagAt inPool textOk presentOk flagOk allOk textGiven isOpen inFamily mayStand opens keyAt cmdAt guard judge nextAt onto closing after wordNumber refusalNumber moveOn parse
-    blank start add build strange large vast vastOr conclude parsed reading refusalOf answer both-read check
-runs c =
-    let a = check 65536 (record { stream = c .now-stream; pool = c .now-pool }) (record { stream = c .was-stream; pool = c .was-pool }) in
-    eqb (a .number) (c .number) && eqb (a .side) (c .side) && eqb (a .place) (c .place) && eqs (a .text) (c .text)
+placeIn : Str → Str → ℕ
+placeIn w [] = 0
+placeIn w (b ∷ p) = cond (eqs (take (length w) (b ∷ p)) w) 0 (suc (placeIn w p))
 
-pub allRun : List Case → Bool
-allRun [] = true
-allRun (c ∷ cs) = runs c && allRun cs
+t : String → Str
+t w = placeIn (bytes w) pool ∷ 0 ∷ length (bytes w) ∷ []
 
-pub cases : List Case
-cases =
-    record { now-stream = 1 ∷ 0 ∷ 0 ∷ 6 ∷ 0 ∷ 2 ∷ 6 ∷ 0 ∷ 3 ∷ 0 ∷ 3 ∷ 0 ∷ 0 ∷ 0 ∷ 0 ∷ 0 ∷ 0 ∷ 0 ∷ 255 ∷ 255 ∷ 0 ∷ 0 ∷ 255 ∷ 255 ∷ 0 ∷ 4 ∷ 9 ∷ 0 ∷ 1 ∷ 1 ∷ 0 ∷ 0 ∷ 0 ∷ 0 ∷ 255 ∷ 255 ∷ 0 ∷ 5 ∷ 10 ∷ 0 ∷ 1 ∷ 253 ∷ 255 ∷ 255 ∷ 255 ∷ 255 ∷ 255 ∷ 255 ∷ 255 ∷ 255 ∷ 255 ∷ 0 ∷ 6 ∷ 11 ∷ 0 ∷ 4 ∷ 1 ∷ 0 ∷ 0 ∷ 0 ∷ 15 ∷ 0 ∷ 5 ∷ 7 ∷ 20 ∷ 0 ∷ 1 ∷ 2 ∷ 0 ∷ 0 ∷ 0 ∷ 0 ∷ 0 ∷ 0 ∷ 0 ∷ 0 ∷ 255 ∷ 255 ∷ 0 ∷ 8 ∷ 21 ∷ 0 ∷ 4 ∷ 25 ∷ 0 ∷ 8 ∷ 6 ∷ 0 ∷ 3 ∷ 11 ∷ 33 ∷ 0 ∷ 4 ∷ 37 ∷ 0 ∷ 10 ∷ 47 ∷ 0 ∷ 4 ∷ 255 ∷ 255 ∷ 0 ∷ 0 ∷ 0 ∷ 0 ∷ 0 ∷ 0 ∷ 0 ∷ 0 ∷ 0 ∷ 0 ∷ 0 ∷ 0 ∷ 0 ∷ 0 ∷ 0 ∷ 0 ∷ 0 ∷ 0 ∷ 0 ∷ 0 ∷ 0 ∷ 8 ∷ 47 ∷ 0 ∷ 4 ∷ 255 ∷ 255 ∷ 0 ∷ 255 ∷ 255 ∷ 0 ∷ 11 ∷ 33 ∷ 0 ∷ 1 ∷ 51 ∷ 0 ∷ 6 ∷ 57 ∷ 0 ∷ 3 ∷ 255 ∷ 255 ∷ 0 ∷ 0 ∷ 0 ∷ 0 ∷ 0 ∷ 0 ∷ 0 ∷ 0 ∷ 0 ∷ 0 ∷ 0 ∷ 0 ∷ 0 ∷ 0 ∷ 0 ∷ 0 ∷ 0 ∷ 0 ∷ 0 ∷ 0 ∷ 0 ∷ 11 ∷ 60 ∷ 0 ∷ 4 ∷ 51 ∷ 0 ∷ 6 ∷ 64 ∷ 0 ∷ 2 ∷ 255 ∷ 255 ∷ 0 ∷ 0 ∷ 0 ∷ 0 ∷ 0 ∷ 0 ∷ 0 ∷ 0 ∷ 0 ∷ 0 ∷ 0 ∷ 0 ∷ 0 ∷ 0 ∷ 0 ∷ 0 ∷ 0 ∷ 0 ∷ 0 ∷ 0 ∷ 0 ∷ 11 ∷ 66 ∷ 0 ∷ 3 ∷ 69 ∷ 0 ∷ 7 ∷ 255 ∷ 255 ∷ 0 ∷ 255 ∷ 255 ∷ 0 ∷ 0 ∷ 0 ∷ 0 ∷ 0 ∷ 0 ∷ 0 ∷ 0 ∷ 0 ∷ 0 ∷ 0 ∷ 0 ∷ 0 ∷ 0 ∷ 0 ∷ 0 ∷ 1 ∷ 1 ∷ 0 ∷ 0 ∷ 0 ∷ 9 ∷ 76 ∷ 0 ∷ 3 ∷ 79 ∷ 0 ∷ 3 ∷ 9 ∷ 0 ∷ 1 ∷ 82 ∷ 0 ∷ 3 ∷ 64 ∷ 0 ∷ 2 ∷ 1 ∷ 11 ∷ 41 ∷ 0 ∷ 1 ∷ 85 ∷ 0 ∷ 4 ∷ 9 ∷ 0 ∷ 1 ∷ 255 ∷ 255 ∷ 0 ∷ 0 ∷ 0 ∷ 0 ∷ 0 ∷ 0 ∷ 0 ∷ 0 ∷ 0 ∷ 0 ∷ 0 ∷ 0 ∷ 0 ∷ 0 ∷ 0 ∷ 0 ∷ 0 ∷ 0 ∷ 0 ∷ 0 ∷ 0 ∷ 10 ∷ 89 ∷ 0 ∷ 1 ∷ 11 ∷ 35 ∷ 0 ∷ 1 ∷ 90 ∷ 0 ∷ 8 ∷ 11 ∷ 0 ∷ 4 ∷ 255 ∷ 255 ∷ 0 ∷ 0 ∷ 0 ∷ 0 ∷ 0 ∷ 0 ∷ 0 ∷ 0 ∷ 0 ∷ 0 ∷ 0 ∷ 0 ∷ 0 ∷ 0 ∷ 0 ∷ 0 ∷ 0 ∷ 0 ∷ 0 ∷ 0 ∷ 0 ∷ 15 ∷ []; now-pool = 48 ∷ 46 ∷ 49 ∷ 48 ∷ 46 ∷ 48 ∷ 71 ∷ 69 ∷ 78 ∷ 101 ∷ 97 ∷ 98 ∷ 105 ∷ 116 ∷ 115 ∷ 48 ∷ 46 ∷ 56 ∷ 46 ∷ 48 ∷ 109 ∷ 104 ∷ 101 ∷ 97 ∷ 100 ∷ 109 ∷ 101 ∷ 116 ∷ 97 ∷ 100 ∷ 97 ∷ 116 ∷ 97 ∷ 110 ∷ 101 ∷ 120 ∷ 116 ∷ 115 ∷ 116 ∷ 114 ∷ 117 ∷ 99 ∷ 116 ∷ 95 ∷ 112 ∷ 116 ∷ 114 ∷ 116 ∷ 105 ∷ 108 ∷ 101 ∷ 115 ∷ 99 ∷ 97 ∷ 108 ∷ 97 ∷ 114 ∷ 117 ∷ 49 ∷ 54 ∷ 115 ∷ 107 ∷ 105 ∷ 112 ∷ 117 ∷ 56 ∷ 103 ∷ 97 ∷ 112 ∷ 112 ∷ 97 ∷ 100 ∷ 100 ∷ 105 ∷ 110 ∷ 103 ∷ 102 ∷ 97 ∷ 109 ∷ 116 ∷ 97 ∷ 103 ∷ 108 ∷ 101 ∷ 110 ∷ 101 ∷ 110 ∷ 117 ∷ 109 ∷ 86 ∷ 98 ∷ 105 ∷ 116 ∷ 102 ∷ 105 ∷ 101 ∷ 108 ∷ 100 ∷ []; was-stream = 1 ∷ 0 ∷ 0 ∷ 5 ∷ 0 ∷ 2 ∷ 5 ∷ 0 ∷ 3 ∷ 0 ∷ 3 ∷ 0 ∷ 0 ∷ 0 ∷ 0 ∷ 0 ∷ 0 ∷ 0 ∷ 255 ∷ 255 ∷ 0 ∷ 0 ∷ 255 ∷ 255 ∷ 0 ∷ 4 ∷ 8 ∷ 0 ∷ 1 ∷ 1 ∷ 0 ∷ 0 ∷ 0 ∷ 0 ∷ 255 ∷ 255 ∷ 0 ∷ 5 ∷ 9 ∷ 0 ∷ 1 ∷ 253 ∷ 255 ∷ 255 ∷ 255 ∷ 255 ∷ 255 ∷ 255 ∷ 255 ∷ 255 ∷ 255 ∷ 0 ∷ 6 ∷ 10 ∷ 0 ∷ 4 ∷ 1 ∷ 0 ∷ 0 ∷ 0 ∷ 14 ∷ 0 ∷ 5 ∷ 7 ∷ 19 ∷ 0 ∷ 1 ∷ 2 ∷ 0 ∷ 0 ∷ 0 ∷ 0 ∷ 0 ∷ 0 ∷ 0 ∷ 0 ∷ 255 ∷ 255 ∷ 0 ∷ 8 ∷ 20 ∷ 0 ∷ 4 ∷ 24 ∷ 0 ∷ 8 ∷ 5 ∷ 0 ∷ 3 ∷ 11 ∷ 32 ∷ 0 ∷ 4 ∷ 36 ∷ 0 ∷ 10 ∷ 46 ∷ 0 ∷ 4 ∷ 255 ∷ 255 ∷ 0 ∷ 0 ∷ 0 ∷ 0 ∷ 0 ∷ 0 ∷ 0 ∷ 0 ∷ 0 ∷ 0 ∷ 0 ∷ 0 ∷ 0 ∷ 0 ∷ 0 ∷ 0 ∷ 0 ∷ 0 ∷ 0 ∷ 0 ∷ 0 ∷ 8 ∷ 46 ∷ 0 ∷ 4 ∷ 255 ∷ 255 ∷ 0 ∷ 255 ∷ 255 ∷ 0 ∷ 11 ∷ 32 ∷ 0 ∷ 1 ∷ 50 ∷ 0 ∷ 6 ∷ 56 ∷ 0 ∷ 3 ∷ 255 ∷ 255 ∷ 0 ∷ 0 ∷ 0 ∷ 0 ∷ 0 ∷ 0 ∷ 0 ∷ 0 ∷ 0 ∷ 0 ∷ 0 ∷ 0 ∷ 0 ∷ 0 ∷ 0 ∷ 0 ∷ 0 ∷ 0 ∷ 0 ∷ 0 ∷ 0 ∷ 11 ∷ 59 ∷ 0 ∷ 4 ∷ 50 ∷ 0 ∷ 6 ∷ 63 ∷ 0 ∷ 2 ∷ 255 ∷ 255 ∷ 0 ∷ 0 ∷ 0 ∷ 0 ∷ 0 ∷ 0 ∷ 0 ∷ 0 ∷ 0 ∷ 0 ∷ 0 ∷ 0 ∷ 0 ∷ 0 ∷ 0 ∷ 0 ∷ 0 ∷ 0 ∷ 0 ∷ 0 ∷ 0 ∷ 11 ∷ 65 ∷ 0 ∷ 3 ∷ 68 ∷ 0 ∷ 7 ∷ 255 ∷ 255 ∷ 0 ∷ 255 ∷ 255 ∷ 0 ∷ 0 ∷ 0 ∷ 0 ∷ 0 ∷ 0 ∷ 0 ∷ 0 ∷ 0 ∷ 0 ∷ 0 ∷ 0 ∷ 0 ∷ 0 ∷ 0 ∷ 0 ∷ 1 ∷ 1 ∷ 0 ∷ 0 ∷ 0 ∷ 9 ∷ 75 ∷ 0 ∷ 3 ∷ 78 ∷ 0 ∷ 3 ∷ 8 ∷ 0 ∷ 1 ∷ 81 ∷ 0 ∷ 3 ∷ 63 ∷ 0 ∷ 2 ∷ 1 ∷ 11 ∷ 40 ∷ 0 ∷ 1 ∷ 84 ∷ 0 ∷ 4 ∷ 8 ∷ 0 ∷ 1 ∷ 255 ∷ 255 ∷ 0 ∷ 0 ∷ 0 ∷ 0 ∷ 0 ∷ 0 ∷ 0 ∷ 0 ∷ 0 ∷ 0 ∷ 0 ∷ 0 ∷ 0 ∷ 0 ∷ 0 ∷ 0 ∷ 0 ∷ 0 ∷ 0 ∷ 0 ∷ 0 ∷ 10 ∷ 88 ∷ 0 ∷ 1 ∷ 11 ∷ 34 ∷ 0 ∷ 1 ∷ 89 ∷ 0 ∷ 8 ∷ 10 ∷ 0 ∷ 4 ∷ 255 ∷ 255 ∷ 0 ∷ 0 ∷ 0 ∷ 0 ∷ 0 ∷ 0 ∷ 0 ∷ 0 ∷ 0 ∷ 0 ∷ 0 ∷ 0 ∷ 0 ∷ 0 ∷ 0 ∷ 0 ∷ 0 ∷ 0 ∷ 0 ∷ 0 ∷ 0 ∷ 15 ∷ []; was-pool = 48 ∷ 46 ∷ 57 ∷ 46 ∷ 48 ∷ 71 ∷ 69 ∷ 78 ∷ 101 ∷ 97 ∷ 98 ∷ 105 ∷ 116 ∷ 115 ∷ 48 ∷ 46 ∷ 56 ∷ 46 ∷ 48 ∷ 109 ∷ 104 ∷ 101 ∷ 97 ∷ 100 ∷ 109 ∷ 101 ∷ 116 ∷ 97 ∷ 100 ∷ 97 ∷ 116 ∷ 97 ∷ 110 ∷ 101 ∷ 120 ∷ 116 ∷ 115 ∷ 116 ∷ 114 ∷ 117 ∷ 99 ∷ 116 ∷ 95 ∷ 112 ∷ 116 ∷ 114 ∷ 116 ∷ 105 ∷ 108 ∷ 101 ∷ 115 ∷ 99 ∷ 97 ∷ 108 ∷ 97 ∷ 114 ∷ 117 ∷ 49 ∷ 54 ∷ 115 ∷ 107 ∷ 105 ∷ 112 ∷ 117 ∷ 56 ∷ 103 ∷ 97 ∷ 112 ∷ 112 ∷ 97 ∷ 100 ∷ 100 ∷ 105 ∷ 110 ∷ 103 ∷ 102 ∷ 97 ∷ 109 ∷ 116 ∷ 97 ∷ 103 ∷ 108 ∷ 101 ∷ 110 ∷ 101 ∷ 110 ∷ 117 ∷ 109 ∷ 86 ∷ 98 ∷ 105 ∷ 116 ∷ 102 ∷ 105 ∷ 101 ∷ 108 ∷ 100 ∷ []; number = 0; side = 0; place = 0; text = bytes "" }
-    ∷ record { now-stream = 1 ∷ 0 ∷ 0 ∷ 6 ∷ 0 ∷ 2 ∷ 6 ∷ 0 ∷ 3 ∷ 0 ∷ 3 ∷ 0 ∷ 0 ∷ 0 ∷ 0 ∷ 0 ∷ 0 ∷ 0 ∷ 255 ∷ 255 ∷ 0 ∷ 0 ∷ 255 ∷ 255 ∷ 0 ∷ 4 ∷ 9 ∷ 0 ∷ 1 ∷ 1 ∷ 0 ∷ 0 ∷ 0 ∷ 0 ∷ 255 ∷ 255 ∷ 0 ∷ 5 ∷ 10 ∷ 0 ∷ 1 ∷ 253 ∷ 255 ∷ 255 ∷ 255 ∷ 255 ∷ 255 ∷ 255 ∷ 255 ∷ 255 ∷ 255 ∷ 0 ∷ 6 ∷ 11 ∷ 0 ∷ 4 ∷ 1 ∷ 0 ∷ 0 ∷ 0 ∷ 15 ∷ 0 ∷ 5 ∷ 7 ∷ 20 ∷ 0 ∷ 1 ∷ 2 ∷ 0 ∷ 0 ∷ 0 ∷ 0 ∷ 0 ∷ 0 ∷ 0 ∷ 0 ∷ 255 ∷ 255 ∷ 0 ∷ 8 ∷ 21 ∷ 0 ∷ 4 ∷ 25 ∷ 0 ∷ 8 ∷ 6 ∷ 0 ∷ 3 ∷ 11 ∷ 33 ∷ 0 ∷ 4 ∷ 37 ∷ 0 ∷ 10 ∷ 47 ∷ 0 ∷ 4 ∷ 255 ∷ 255 ∷ 0 ∷ 0 ∷ 0 ∷ 0 ∷ 0 ∷ 0 ∷ 0 ∷ 0 ∷ 0 ∷ 0 ∷ 0 ∷ 0 ∷ 0 ∷ 0 ∷ 0 ∷ 0 ∷ 0 ∷ 0 ∷ 0 ∷ 0 ∷ 0 ∷ 8 ∷ 47 ∷ 0 ∷ 4 ∷ 255 ∷ 255 ∷ 0 ∷ 255 ∷ 255 ∷ 0 ∷ 11 ∷ 33 ∷ 0 ∷ 1 ∷ 51 ∷ 0 ∷ 6 ∷ 57 ∷ 0 ∷ 3 ∷ 255 ∷ 255 ∷ 0 ∷ 0 ∷ 0 ∷ 0 ∷ 0 ∷ 0 ∷ 0 ∷ 0 ∷ 0 ∷ 0 ∷ 0 ∷ 0 ∷ 0 ∷ 0 ∷ 0 ∷ 0 ∷ 0 ∷ 0 ∷ 0 ∷ 0 ∷ 0 ∷ 11 ∷ 60 ∷ 0 ∷ 4 ∷ 51 ∷ 0 ∷ 6 ∷ 64 ∷ 0 ∷ 2 ∷ 255 ∷ 255 ∷ 0 ∷ 0 ∷ 0 ∷ 0 ∷ 0 ∷ 0 ∷ 0 ∷ 0 ∷ 0 ∷ 0 ∷ 0 ∷ 0 ∷ 0 ∷ 0 ∷ 0 ∷ 0 ∷ 0 ∷ 0 ∷ 0 ∷ 0 ∷ 0 ∷ 11 ∷ 66 ∷ 0 ∷ 3 ∷ 51 ∷ 0 ∷ 6 ∷ 64 ∷ 0 ∷ 2 ∷ 255 ∷ 255 ∷ 0 ∷ 0 ∷ 0 ∷ 0 ∷ 0 ∷ 0 ∷ 0 ∷ 0 ∷ 0 ∷ 0 ∷ 0 ∷ 0 ∷ 0 ∷ 0 ∷ 0 ∷ 0 ∷ 0 ∷ 0 ∷ 0 ∷ 0 ∷ 0 ∷ 9 ∷ 69 ∷ 0 ∷ 3 ∷ 72 ∷ 0 ∷ 3 ∷ 9 ∷ 0 ∷ 1 ∷ 75 ∷ 0 ∷ 3 ∷ 64 ∷ 0 ∷ 2 ∷ 1 ∷ 11 ∷ 41 ∷ 0 ∷ 1 ∷ 78 ∷ 0 ∷ 4 ∷ 9 ∷ 0 ∷ 1 ∷ 255 ∷ 255 ∷ 0 ∷ 0 ∷ 0 ∷ 0 ∷ 0 ∷ 0 ∷ 0 ∷ 0 ∷ 0 ∷ 0 ∷ 0 ∷ 0 ∷ 0 ∷ 0 ∷ 0 ∷ 0 ∷ 0 ∷ 0 ∷ 0 ∷ 0 ∷ 0 ∷ 10 ∷ 82 ∷ 0 ∷ 1 ∷ 11 ∷ 35 ∷ 0 ∷ 1 ∷ 83 ∷ 0 ∷ 8 ∷ 11 ∷ 0 ∷ 4 ∷ 255 ∷ 255 ∷ 0 ∷ 0 ∷ 0 ∷ 0 ∷ 0 ∷ 0 ∷ 0 ∷ 0 ∷ 0 ∷ 0 ∷ 0 ∷ 0 ∷ 0 ∷ 0 ∷ 0 ∷ 0 ∷ 0 ∷ 0 ∷ 0 ∷ 0 ∷ 0 ∷ 15 ∷ []; now-pool = 48 ∷ 46 ∷ 49 ∷ 48 ∷ 46 ∷ 48 ∷ 71 ∷ 69 ∷ 78 ∷ 101 ∷ 97 ∷ 98 ∷ 105 ∷ 116 ∷ 115 ∷ 48 ∷ 46 ∷ 56 ∷ 46 ∷ 48 ∷ 109 ∷ 104 ∷ 101 ∷ 97 ∷ 100 ∷ 109 ∷ 101 ∷ 116 ∷ 97 ∷ 100 ∷ 97 ∷ 116 ∷ 97 ∷ 110 ∷ 101 ∷ 120 ∷ 116 ∷ 115 ∷ 116 ∷ 114 ∷ 117 ∷ 99 ∷ 116 ∷ 95 ∷ 112 ∷ 116 ∷ 114 ∷ 116 ∷ 105 ∷ 108 ∷ 101 ∷ 115 ∷ 99 ∷ 97 ∷ 108 ∷ 97 ∷ 114 ∷ 117 ∷ 49 ∷ 54 ∷ 115 ∷ 107 ∷ 105 ∷ 112 ∷ 117 ∷ 56 ∷ 110 ∷ 101 ∷ 119 ∷ 102 ∷ 97 ∷ 109 ∷ 116 ∷ 97 ∷ 103 ∷ 108 ∷ 101 ∷ 110 ∷ 101 ∷ 110 ∷ 117 ∷ 109 ∷ 86 ∷ 98 ∷ 105 ∷ 116 ∷ 102 ∷ 105 ∷ 101 ∷ 108 ∷ 100 ∷ []; was-stream = 1 ∷ 0 ∷ 0 ∷ 5 ∷ 0 ∷ 2 ∷ 5 ∷ 0 ∷ 3 ∷ 0 ∷ 3 ∷ 0 ∷ 0 ∷ 0 ∷ 0 ∷ 0 ∷ 0 ∷ 0 ∷ 255 ∷ 255 ∷ 0 ∷ 0 ∷ 255 ∷ 255 ∷ 0 ∷ 4 ∷ 8 ∷ 0 ∷ 1 ∷ 1 ∷ 0 ∷ 0 ∷ 0 ∷ 0 ∷ 255 ∷ 255 ∷ 0 ∷ 5 ∷ 9 ∷ 0 ∷ 1 ∷ 253 ∷ 255 ∷ 255 ∷ 255 ∷ 255 ∷ 255 ∷ 255 ∷ 255 ∷ 255 ∷ 255 ∷ 0 ∷ 6 ∷ 10 ∷ 0 ∷ 4 ∷ 1 ∷ 0 ∷ 0 ∷ 0 ∷ 14 ∷ 0 ∷ 5 ∷ 7 ∷ 19 ∷ 0 ∷ 1 ∷ 2 ∷ 0 ∷ 0 ∷ 0 ∷ 0 ∷ 0 ∷ 0 ∷ 0 ∷ 0 ∷ 255 ∷ 255 ∷ 0 ∷ 8 ∷ 20 ∷ 0 ∷ 4 ∷ 24 ∷ 0 ∷ 8 ∷ 5 ∷ 0 ∷ 3 ∷ 11 ∷ 32 ∷ 0 ∷ 4 ∷ 36 ∷ 0 ∷ 10 ∷ 46 ∷ 0 ∷ 4 ∷ 255 ∷ 255 ∷ 0 ∷ 0 ∷ 0 ∷ 0 ∷ 0 ∷ 0 ∷ 0 ∷ 0 ∷ 0 ∷ 0 ∷ 0 ∷ 0 ∷ 0 ∷ 0 ∷ 0 ∷ 0 ∷ 0 ∷ 0 ∷ 0 ∷ 0 ∷ 0 ∷ 8 ∷ 46 ∷ 0 ∷ 4 ∷ 255 ∷ 255 ∷ 0 ∷ 255 ∷ 255 ∷ 0 ∷ 11 ∷ 32 ∷ 0 ∷ 1 ∷ 50 ∷ 0 ∷ 6 ∷ 56 ∷ 0 ∷ 3 ∷ 255 ∷ 255 ∷ 0 ∷ 0 ∷ 0 ∷ 0 ∷ 0 ∷ 0 ∷ 0 ∷ 0 ∷ 0 ∷ 0 ∷ 0 ∷ 0 ∷ 0 ∷ 0 ∷ 0 ∷ 0 ∷ 0 ∷ 0 ∷ 0 ∷ 0 ∷ 0 ∷ 11 ∷ 59 ∷ 0 ∷ 4 ∷ 50 ∷ 0 ∷ 6 ∷ 63 ∷ 0 ∷ 2 ∷ 255 ∷ 255 ∷ 0 ∷ 0 ∷ 0 ∷ 0 ∷ 0 ∷ 0 ∷ 0 ∷ 0 ∷ 0 ∷ 0 ∷ 0 ∷ 0 ∷ 0 ∷ 0 ∷ 0 ∷ 0 ∷ 0 ∷ 0 ∷ 0 ∷ 0 ∷ 0 ∷ 11 ∷ 65 ∷ 0 ∷ 3 ∷ 68 ∷ 0 ∷ 7 ∷ 255 ∷ 255 ∷ 0 ∷ 255 ∷ 255 ∷ 0 ∷ 0 ∷ 0 ∷ 0 ∷ 0 ∷ 0 ∷ 0 ∷ 0 ∷ 0 ∷ 0 ∷ 0 ∷ 0 ∷ 0 ∷ 0 ∷ 0 ∷ 0 ∷ 1 ∷ 1 ∷ 0 ∷ 0 ∷ 0 ∷ 9 ∷ 75 ∷ 0 ∷ 3 ∷ 78 ∷ 0 ∷ 3 ∷ 8 ∷ 0 ∷ 1 ∷ 81 ∷ 0 ∷ 3 ∷ 63 ∷ 0 ∷ 2 ∷ 1 ∷ 11 ∷ 40 ∷ 0 ∷ 1 ∷ 84 ∷ 0 ∷ 4 ∷ 8 ∷ 0 ∷ 1 ∷ 255 ∷ 255 ∷ 0 ∷ 0 ∷ 0 ∷ 0 ∷ 0 ∷ 0 ∷ 0 ∷ 0 ∷ 0 ∷ 0 ∷ 0 ∷ 0 ∷ 0 ∷ 0 ∷ 0 ∷ 0 ∷ 0 ∷ 0 ∷ 0 ∷ 0 ∷ 0 ∷ 10 ∷ 88 ∷ 0 ∷ 1 ∷ 11 ∷ 34 ∷ 0 ∷ 1 ∷ 89 ∷ 0 ∷ 8 ∷ 10 ∷ 0 ∷ 4 ∷ 255 ∷ 255 ∷ 0 ∷ 0 ∷ 0 ∷ 0 ∷ 0 ∷ 0 ∷ 0 ∷ 0 ∷ 0 ∷ 0 ∷ 0 ∷ 0 ∷ 0 ∷ 0 ∷ 0 ∷ 0 ∷ 0 ∷ 0 ∷ 0 ∷ 0 ∷ 0 ∷ 15 ∷ []; was-pool = 48 ∷ 46 ∷ 57 ∷ 46 ∷ 48 ∷ 71 ∷ 69 ∷ 78 ∷ 101 ∷ 97 ∷ 98 ∷ 105 ∷ 116 ∷ 115 ∷ 48 ∷ 46 ∷ 56 ∷ 46 ∷ 48 ∷ 109 ∷ 104 ∷ 101 ∷ 97 ∷ 100 ∷ 109 ∷ 101 ∷ 116 ∷ 97 ∷ 100 ∷ 97 ∷ 116 ∷ 97 ∷ 110 ∷ 101 ∷ 120 ∷ 116 ∷ 115 ∷ 116 ∷ 114 ∷ 117 ∷ 99 ∷ 116 ∷ 95 ∷ 112 ∷ 116 ∷ 114 ∷ 116 ∷ 105 ∷ 108 ∷ 101 ∷ 115 ∷ 99 ∷ 97 ∷ 108 ∷ 97 ∷ 114 ∷ 117 ∷ 49 ∷ 54 ∷ 115 ∷ 107 ∷ 105 ∷ 112 ∷ 117 ∷ 56 ∷ 103 ∷ 97 ∷ 112 ∷ 112 ∷ 97 ∷ 100 ∷ 100 ∷ 105 ∷ 110 ∷ 103 ∷ 102 ∷ 97 ∷ 109 ∷ 116 ∷ 97 ∷ 103 ∷ 108 ∷ 101 ∷ 110 ∷ 101 ∷ 110 ∷ 117 ∷ 109 ∷ 86 ∷ 98 ∷ 105 ∷ 116 ∷ 102 ∷ 105 ∷ 101 ∷ 108 ∷ 100 ∷ []; number = 43; side = 0; place = 0; text = bytes "head is still generation 3, and tile's layout has changed since the last release - raise GEN to 4, and add a [[versions]] entry saying which release that generation ships in" }
-    ∷ record { now-stream = 1 ∷ 0 ∷ 0 ∷ 6 ∷ 0 ∷ 2 ∷ 6 ∷ 0 ∷ 3 ∷ 0 ∷ 4 ∷ 0 ∷ 0 ∷ 0 ∷ 0 ∷ 0 ∷ 0 ∷ 0 ∷ 255 ∷ 255 ∷ 0 ∷ 0 ∷ 255 ∷ 255 ∷ 0 ∷ 4 ∷ 9 ∷ 0 ∷ 1 ∷ 1 ∷ 0 ∷ 0 ∷ 0 ∷ 0 ∷ 255 ∷ 255 ∷ 0 ∷ 5 ∷ 10 ∷ 0 ∷ 1 ∷ 253 ∷ 255 ∷ 255 ∷ 255 ∷ 255 ∷ 255 ∷ 255 ∷ 255 ∷ 255 ∷ 255 ∷ 0 ∷ 6 ∷ 11 ∷ 0 ∷ 4 ∷ 1 ∷ 0 ∷ 0 ∷ 0 ∷ 15 ∷ 0 ∷ 5 ∷ 7 ∷ 20 ∷ 0 ∷ 1 ∷ 2 ∷ 0 ∷ 0 ∷ 0 ∷ 0 ∷ 0 ∷ 0 ∷ 0 ∷ 0 ∷ 255 ∷ 255 ∷ 0 ∷ 8 ∷ 21 ∷ 0 ∷ 4 ∷ 25 ∷ 0 ∷ 8 ∷ 6 ∷ 0 ∷ 3 ∷ 11 ∷ 33 ∷ 0 ∷ 4 ∷ 37 ∷ 0 ∷ 10 ∷ 47 ∷ 0 ∷ 4 ∷ 255 ∷ 255 ∷ 0 ∷ 0 ∷ 0 ∷ 0 ∷ 0 ∷ 0 ∷ 0 ∷ 0 ∷ 0 ∷ 0 ∷ 0 ∷ 0 ∷ 0 ∷ 0 ∷ 0 ∷ 0 ∷ 0 ∷ 0 ∷ 0 ∷ 0 ∷ 0 ∷ 8 ∷ 47 ∷ 0 ∷ 4 ∷ 255 ∷ 255 ∷ 0 ∷ 255 ∷ 255 ∷ 0 ∷ 11 ∷ 33 ∷ 0 ∷ 1 ∷ 51 ∷ 0 ∷ 6 ∷ 57 ∷ 0 ∷ 3 ∷ 255 ∷ 255 ∷ 0 ∷ 0 ∷ 0 ∷ 0 ∷ 0 ∷ 0 ∷ 0 ∷ 0 ∷ 0 ∷ 0 ∷ 0 ∷ 0 ∷ 0 ∷ 0 ∷ 0 ∷ 0 ∷ 0 ∷ 0 ∷ 0 ∷ 0 ∷ 0 ∷ 11 ∷ 60 ∷ 0 ∷ 4 ∷ 51 ∷ 0 ∷ 6 ∷ 64 ∷ 0 ∷ 2 ∷ 255 ∷ 255 ∷ 0 ∷ 0 ∷ 0 ∷ 0 ∷ 0 ∷ 0 ∷ 0 ∷ 0 ∷ 0 ∷ 0 ∷ 0 ∷ 0 ∷ 0 ∷ 0 ∷ 0 ∷ 0 ∷ 0 ∷ 0 ∷ 0 ∷ 0 ∷ 0 ∷ 11 ∷ 66 ∷ 0 ∷ 3 ∷ 51 ∷ 0 ∷ 6 ∷ 64 ∷ 0 ∷ 2 ∷ 255 ∷ 255 ∷ 0 ∷ 0 ∷ 0 ∷ 0 ∷ 0 ∷ 0 ∷ 0 ∷ 0 ∷ 0 ∷ 0 ∷ 0 ∷ 0 ∷ 0 ∷ 0 ∷ 0 ∷ 0 ∷ 0 ∷ 0 ∷ 0 ∷ 0 ∷ 0 ∷ 9 ∷ 69 ∷ 0 ∷ 3 ∷ 72 ∷ 0 ∷ 3 ∷ 9 ∷ 0 ∷ 1 ∷ 75 ∷ 0 ∷ 3 ∷ 64 ∷ 0 ∷ 2 ∷ 1 ∷ 11 ∷ 41 ∷ 0 ∷ 1 ∷ 78 ∷ 0 ∷ 4 ∷ 9 ∷ 0 ∷ 1 ∷ 255 ∷ 255 ∷ 0 ∷ 0 ∷ 0 ∷ 0 ∷ 0 ∷ 0 ∷ 0 ∷ 0 ∷ 0 ∷ 0 ∷ 0 ∷ 0 ∷ 0 ∷ 0 ∷ 0 ∷ 0 ∷ 0 ∷ 0 ∷ 0 ∷ 0 ∷ 0 ∷ 10 ∷ 82 ∷ 0 ∷ 1 ∷ 11 ∷ 35 ∷ 0 ∷ 1 ∷ 83 ∷ 0 ∷ 8 ∷ 11 ∷ 0 ∷ 4 ∷ 255 ∷ 255 ∷ 0 ∷ 0 ∷ 0 ∷ 0 ∷ 0 ∷ 0 ∷ 0 ∷ 0 ∷ 0 ∷ 0 ∷ 0 ∷ 0 ∷ 0 ∷ 0 ∷ 0 ∷ 0 ∷ 0 ∷ 0 ∷ 0 ∷ 0 ∷ 0 ∷ 14 ∷ 21 ∷ 0 ∷ 4 ∷ 4 ∷ 0 ∷ 0 ∷ 0 ∷ 15 ∷ []; now-pool = 48 ∷ 46 ∷ 49 ∷ 48 ∷ 46 ∷ 48 ∷ 71 ∷ 69 ∷ 78 ∷ 101 ∷ 97 ∷ 98 ∷ 105 ∷ 116 ∷ 115 ∷ 48 ∷ 46 ∷ 56 ∷ 46 ∷ 48 ∷ 109 ∷ 104 ∷ 101 ∷ 97 ∷ 100 ∷ 109 ∷ 101 ∷ 116 ∷ 97 ∷ 100 ∷ 97 ∷ 116 ∷ 97 ∷ 110 ∷ 101 ∷ 120 ∷ 116 ∷ 115 ∷ 116 ∷ 114 ∷ 117 ∷ 99 ∷ 116 ∷ 95 ∷ 112 ∷ 116 ∷ 114 ∷ 116 ∷ 105 ∷ 108 ∷ 101 ∷ 115 ∷ 99 ∷ 97 ∷ 108 ∷ 97 ∷ 114 ∷ 117 ∷ 49 ∷ 54 ∷ 115 ∷ 107 ∷ 105 ∷ 112 ∷ 117 ∷ 56 ∷ 110 ∷ 101 ∷ 119 ∷ 102 ∷ 97 ∷ 109 ∷ 116 ∷ 97 ∷ 103 ∷ 108 ∷ 101 ∷ 110 ∷ 101 ∷ 110 ∷ 117 ∷ 109 ∷ 86 ∷ 98 ∷ 105 ∷ 116 ∷ 102 ∷ 105 ∷ 101 ∷ 108 ∷ 100 ∷ []; was-stream = 1 ∷ 0 ∷ 0 ∷ 5 ∷ 0 ∷ 2 ∷ 5 ∷ 0 ∷ 3 ∷ 0 ∷ 3 ∷ 0 ∷ 0 ∷ 0 ∷ 0 ∷ 0 ∷ 0 ∷ 0 ∷ 255 ∷ 255 ∷ 0 ∷ 0 ∷ 255 ∷ 255 ∷ 0 ∷ 4 ∷ 8 ∷ 0 ∷ 1 ∷ 1 ∷ 0 ∷ 0 ∷ 0 ∷ 0 ∷ 255 ∷ 255 ∷ 0 ∷ 5 ∷ 9 ∷ 0 ∷ 1 ∷ 253 ∷ 255 ∷ 255 ∷ 255 ∷ 255 ∷ 255 ∷ 255 ∷ 255 ∷ 255 ∷ 255 ∷ 0 ∷ 6 ∷ 10 ∷ 0 ∷ 4 ∷ 1 ∷ 0 ∷ 0 ∷ 0 ∷ 14 ∷ 0 ∷ 5 ∷ 7 ∷ 19 ∷ 0 ∷ 1 ∷ 2 ∷ 0 ∷ 0 ∷ 0 ∷ 0 ∷ 0 ∷ 0 ∷ 0 ∷ 0 ∷ 255 ∷ 255 ∷ 0 ∷ 8 ∷ 20 ∷ 0 ∷ 4 ∷ 24 ∷ 0 ∷ 8 ∷ 5 ∷ 0 ∷ 3 ∷ 11 ∷ 32 ∷ 0 ∷ 4 ∷ 36 ∷ 0 ∷ 10 ∷ 46 ∷ 0 ∷ 4 ∷ 255 ∷ 255 ∷ 0 ∷ 0 ∷ 0 ∷ 0 ∷ 0 ∷ 0 ∷ 0 ∷ 0 ∷ 0 ∷ 0 ∷ 0 ∷ 0 ∷ 0 ∷ 0 ∷ 0 ∷ 0 ∷ 0 ∷ 0 ∷ 0 ∷ 0 ∷ 0 ∷ 8 ∷ 46 ∷ 0 ∷ 4 ∷ 255 ∷ 255 ∷ 0 ∷ 255 ∷ 255 ∷ 0 ∷ 11 ∷ 32 ∷ 0 ∷ 1 ∷ 50 ∷ 0 ∷ 6 ∷ 56 ∷ 0 ∷ 3 ∷ 255 ∷ 255 ∷ 0 ∷ 0 ∷ 0 ∷ 0 ∷ 0 ∷ 0 ∷ 0 ∷ 0 ∷ 0 ∷ 0 ∷ 0 ∷ 0 ∷ 0 ∷ 0 ∷ 0 ∷ 0 ∷ 0 ∷ 0 ∷ 0 ∷ 0 ∷ 0 ∷ 11 ∷ 59 ∷ 0 ∷ 4 ∷ 50 ∷ 0 ∷ 6 ∷ 63 ∷ 0 ∷ 2 ∷ 255 ∷ 255 ∷ 0 ∷ 0 ∷ 0 ∷ 0 ∷ 0 ∷ 0 ∷ 0 ∷ 0 ∷ 0 ∷ 0 ∷ 0 ∷ 0 ∷ 0 ∷ 0 ∷ 0 ∷ 0 ∷ 0 ∷ 0 ∷ 0 ∷ 0 ∷ 0 ∷ 11 ∷ 65 ∷ 0 ∷ 3 ∷ 68 ∷ 0 ∷ 7 ∷ 255 ∷ 255 ∷ 0 ∷ 255 ∷ 255 ∷ 0 ∷ 0 ∷ 0 ∷ 0 ∷ 0 ∷ 0 ∷ 0 ∷ 0 ∷ 0 ∷ 0 ∷ 0 ∷ 0 ∷ 0 ∷ 0 ∷ 0 ∷ 0 ∷ 1 ∷ 1 ∷ 0 ∷ 0 ∷ 0 ∷ 9 ∷ 75 ∷ 0 ∷ 3 ∷ 78 ∷ 0 ∷ 3 ∷ 8 ∷ 0 ∷ 1 ∷ 81 ∷ 0 ∷ 3 ∷ 63 ∷ 0 ∷ 2 ∷ 1 ∷ 11 ∷ 40 ∷ 0 ∷ 1 ∷ 84 ∷ 0 ∷ 4 ∷ 8 ∷ 0 ∷ 1 ∷ 255 ∷ 255 ∷ 0 ∷ 0 ∷ 0 ∷ 0 ∷ 0 ∷ 0 ∷ 0 ∷ 0 ∷ 0 ∷ 0 ∷ 0 ∷ 0 ∷ 0 ∷ 0 ∷ 0 ∷ 0 ∷ 0 ∷ 0 ∷ 0 ∷ 0 ∷ 0 ∷ 10 ∷ 88 ∷ 0 ∷ 1 ∷ 11 ∷ 34 ∷ 0 ∷ 1 ∷ 89 ∷ 0 ∷ 8 ∷ 10 ∷ 0 ∷ 4 ∷ 255 ∷ 255 ∷ 0 ∷ 0 ∷ 0 ∷ 0 ∷ 0 ∷ 0 ∷ 0 ∷ 0 ∷ 0 ∷ 0 ∷ 0 ∷ 0 ∷ 0 ∷ 0 ∷ 0 ∷ 0 ∷ 0 ∷ 0 ∷ 0 ∷ 0 ∷ 0 ∷ 15 ∷ []; was-pool = 48 ∷ 46 ∷ 57 ∷ 46 ∷ 48 ∷ 71 ∷ 69 ∷ 78 ∷ 101 ∷ 97 ∷ 98 ∷ 105 ∷ 116 ∷ 115 ∷ 48 ∷ 46 ∷ 56 ∷ 46 ∷ 48 ∷ 109 ∷ 104 ∷ 101 ∷ 97 ∷ 100 ∷ 109 ∷ 101 ∷ 116 ∷ 97 ∷ 100 ∷ 97 ∷ 116 ∷ 97 ∷ 110 ∷ 101 ∷ 120 ∷ 116 ∷ 115 ∷ 116 ∷ 114 ∷ 117 ∷ 99 ∷ 116 ∷ 95 ∷ 112 ∷ 116 ∷ 114 ∷ 116 ∷ 105 ∷ 108 ∷ 101 ∷ 115 ∷ 99 ∷ 97 ∷ 108 ∷ 97 ∷ 114 ∷ 117 ∷ 49 ∷ 54 ∷ 115 ∷ 107 ∷ 105 ∷ 112 ∷ 117 ∷ 56 ∷ 103 ∷ 97 ∷ 112 ∷ 112 ∷ 97 ∷ 100 ∷ 100 ∷ 105 ∷ 110 ∷ 103 ∷ 102 ∷ 97 ∷ 109 ∷ 116 ∷ 97 ∷ 103 ∷ 108 ∷ 101 ∷ 110 ∷ 101 ∷ 110 ∷ 117 ∷ 109 ∷ 86 ∷ 98 ∷ 105 ∷ 116 ∷ 102 ∷ 105 ∷ 101 ∷ 108 ∷ 100 ∷ []; number = 0; side = 0; place = 0; text = bytes "" }
-    ∷ record { now-stream = 1 ∷ 0 ∷ 0 ∷ 6 ∷ 0 ∷ 2 ∷ 6 ∷ 0 ∷ 3 ∷ 0 ∷ 3 ∷ 0 ∷ 0 ∷ 0 ∷ 0 ∷ 0 ∷ 0 ∷ 0 ∷ 255 ∷ 255 ∷ 0 ∷ 0 ∷ 255 ∷ 255 ∷ 0 ∷ 4 ∷ 9 ∷ 0 ∷ 1 ∷ 1 ∷ 0 ∷ 0 ∷ 0 ∷ 0 ∷ 255 ∷ 255 ∷ 0 ∷ 5 ∷ 10 ∷ 0 ∷ 1 ∷ 253 ∷ 255 ∷ 255 ∷ 255 ∷ 255 ∷ 255 ∷ 255 ∷ 255 ∷ 255 ∷ 255 ∷ 0 ∷ 6 ∷ 11 ∷ 0 ∷ 4 ∷ 1 ∷ 0 ∷ 0 ∷ 0 ∷ 15 ∷ 0 ∷ 5 ∷ 7 ∷ 20 ∷ 0 ∷ 1 ∷ 2 ∷ 0 ∷ 0 ∷ 0 ∷ 0 ∷ 0 ∷ 0 ∷ 0 ∷ 0 ∷ 255 ∷ 255 ∷ 0 ∷ 8 ∷ 21 ∷ 0 ∷ 4 ∷ 25 ∷ 0 ∷ 8 ∷ 6 ∷ 0 ∷ 3 ∷ 11 ∷ 33 ∷ 0 ∷ 4 ∷ 37 ∷ 0 ∷ 10 ∷ 47 ∷ 0 ∷ 4 ∷ 255 ∷ 255 ∷ 0 ∷ 0 ∷ 0 ∷ 0 ∷ 0 ∷ 0 ∷ 0 ∷ 0 ∷ 0 ∷ 0 ∷ 0 ∷ 0 ∷ 0 ∷ 0 ∷ 0 ∷ 0 ∷ 0 ∷ 0 ∷ 0 ∷ 0 ∷ 0 ∷ 8 ∷ 47 ∷ 0 ∷ 4 ∷ 255 ∷ 255 ∷ 0 ∷ 255 ∷ 255 ∷ 0 ∷ 11 ∷ 33 ∷ 0 ∷ 1 ∷ 51 ∷ 0 ∷ 6 ∷ 57 ∷ 0 ∷ 3 ∷ 255 ∷ 255 ∷ 0 ∷ 0 ∷ 0 ∷ 0 ∷ 0 ∷ 0 ∷ 0 ∷ 0 ∷ 0 ∷ 0 ∷ 0 ∷ 0 ∷ 0 ∷ 0 ∷ 0 ∷ 0 ∷ 0 ∷ 0 ∷ 0 ∷ 0 ∷ 0 ∷ 11 ∷ 60 ∷ 0 ∷ 4 ∷ 51 ∷ 0 ∷ 6 ∷ 64 ∷ 0 ∷ 2 ∷ 255 ∷ 255 ∷ 0 ∷ 0 ∷ 0 ∷ 0 ∷ 0 ∷ 0 ∷ 0 ∷ 0 ∷ 0 ∷ 0 ∷ 0 ∷ 0 ∷ 0 ∷ 0 ∷ 0 ∷ 0 ∷ 0 ∷ 0 ∷ 0 ∷ 0 ∷ 0 ∷ 11 ∷ 66 ∷ 0 ∷ 3 ∷ 69 ∷ 0 ∷ 7 ∷ 255 ∷ 255 ∷ 0 ∷ 255 ∷ 255 ∷ 0 ∷ 0 ∷ 0 ∷ 0 ∷ 0 ∷ 0 ∷ 0 ∷ 0 ∷ 0 ∷ 0 ∷ 0 ∷ 0 ∷ 0 ∷ 0 ∷ 0 ∷ 0 ∷ 1 ∷ 1 ∷ 0 ∷ 0 ∷ 0 ∷ 9 ∷ 76 ∷ 0 ∷ 3 ∷ 79 ∷ 0 ∷ 3 ∷ 9 ∷ 0 ∷ 1 ∷ 82 ∷ 0 ∷ 3 ∷ 64 ∷ 0 ∷ 2 ∷ 1 ∷ 11 ∷ 41 ∷ 0 ∷ 1 ∷ 85 ∷ 0 ∷ 4 ∷ 9 ∷ 0 ∷ 1 ∷ 255 ∷ 255 ∷ 0 ∷ 0 ∷ 0 ∷ 0 ∷ 0 ∷ 0 ∷ 0 ∷ 0 ∷ 0 ∷ 0 ∷ 0 ∷ 0 ∷ 0 ∷ 0 ∷ 0 ∷ 0 ∷ 0 ∷ 0 ∷ 0 ∷ 0 ∷ 0 ∷ 10 ∷ 89 ∷ 0 ∷ 1 ∷ 11 ∷ 35 ∷ 0 ∷ 1 ∷ 90 ∷ 0 ∷ 8 ∷ 11 ∷ 0 ∷ 4 ∷ 255 ∷ 255 ∷ 0 ∷ 0 ∷ 0 ∷ 0 ∷ 0 ∷ 0 ∷ 0 ∷ 0 ∷ 0 ∷ 0 ∷ 0 ∷ 0 ∷ 0 ∷ 0 ∷ 0 ∷ 0 ∷ 0 ∷ 0 ∷ 0 ∷ 0 ∷ 0 ∷ 15 ∷ []; now-pool = 48 ∷ 46 ∷ 49 ∷ 48 ∷ 46 ∷ 48 ∷ 71 ∷ 69 ∷ 78 ∷ 101 ∷ 97 ∷ 98 ∷ 105 ∷ 116 ∷ 115 ∷ 48 ∷ 46 ∷ 56 ∷ 46 ∷ 48 ∷ 109 ∷ 104 ∷ 101 ∷ 97 ∷ 100 ∷ 109 ∷ 101 ∷ 116 ∷ 97 ∷ 100 ∷ 97 ∷ 116 ∷ 97 ∷ 110 ∷ 101 ∷ 120 ∷ 116 ∷ 115 ∷ 116 ∷ 114 ∷ 117 ∷ 99 ∷ 116 ∷ 95 ∷ 112 ∷ 116 ∷ 114 ∷ 116 ∷ 105 ∷ 108 ∷ 101 ∷ 115 ∷ 99 ∷ 97 ∷ 108 ∷ 97 ∷ 114 ∷ 117 ∷ 49 ∷ 54 ∷ 115 ∷ 107 ∷ 105 ∷ 112 ∷ 117 ∷ 56 ∷ 103 ∷ 97 ∷ 112 ∷ 112 ∷ 97 ∷ 100 ∷ 100 ∷ 105 ∷ 110 ∷ 103 ∷ 102 ∷ 97 ∷ 109 ∷ 116 ∷ 97 ∷ 103 ∷ 108 ∷ 101 ∷ 110 ∷ 101 ∷ 110 ∷ 117 ∷ 109 ∷ 86 ∷ 98 ∷ 105 ∷ 116 ∷ 102 ∷ 105 ∷ 101 ∷ 108 ∷ 100 ∷ []; was-stream = 1 ∷ 0 ∷ 0 ∷ 6 ∷ 0 ∷ 2 ∷ 6 ∷ 0 ∷ 3 ∷ 0 ∷ 3 ∷ 0 ∷ 0 ∷ 0 ∷ 0 ∷ 0 ∷ 0 ∷ 0 ∷ 255 ∷ 255 ∷ 0 ∷ 0 ∷ 255 ∷ 255 ∷ 0 ∷ 4 ∷ 9 ∷ 0 ∷ 1 ∷ 1 ∷ 0 ∷ 0 ∷ 0 ∷ 0 ∷ 255 ∷ 255 ∷ 0 ∷ 5 ∷ 10 ∷ 0 ∷ 1 ∷ 253 ∷ 255 ∷ 255 ∷ 255 ∷ 255 ∷ 255 ∷ 255 ∷ 255 ∷ 255 ∷ 255 ∷ 0 ∷ 6 ∷ 11 ∷ 0 ∷ 4 ∷ 1 ∷ 0 ∷ 0 ∷ 0 ∷ 15 ∷ 0 ∷ 5 ∷ 7 ∷ 20 ∷ 0 ∷ 1 ∷ 2 ∷ 0 ∷ 0 ∷ 0 ∷ 0 ∷ 0 ∷ 0 ∷ 0 ∷ 0 ∷ 255 ∷ 255 ∷ 0 ∷ 8 ∷ 21 ∷ 0 ∷ 4 ∷ 25 ∷ 0 ∷ 8 ∷ 6 ∷ 0 ∷ 3 ∷ 11 ∷ 33 ∷ 0 ∷ 4 ∷ 37 ∷ 0 ∷ 10 ∷ 47 ∷ 0 ∷ 4 ∷ 255 ∷ 255 ∷ 0 ∷ 0 ∷ 0 ∷ 0 ∷ 0 ∷ 0 ∷ 0 ∷ 0 ∷ 0 ∷ 0 ∷ 0 ∷ 0 ∷ 0 ∷ 0 ∷ 0 ∷ 0 ∷ 0 ∷ 0 ∷ 0 ∷ 0 ∷ 0 ∷ 8 ∷ 47 ∷ 0 ∷ 4 ∷ 255 ∷ 255 ∷ 0 ∷ 255 ∷ 255 ∷ 0 ∷ 11 ∷ 33 ∷ 0 ∷ 1 ∷ 51 ∷ 0 ∷ 6 ∷ 57 ∷ 0 ∷ 3 ∷ 255 ∷ 255 ∷ 0 ∷ 0 ∷ 0 ∷ 0 ∷ 0 ∷ 0 ∷ 0 ∷ 0 ∷ 0 ∷ 0 ∷ 0 ∷ 0 ∷ 0 ∷ 0 ∷ 0 ∷ 0 ∷ 0 ∷ 0 ∷ 0 ∷ 0 ∷ 0 ∷ 11 ∷ 60 ∷ 0 ∷ 4 ∷ 51 ∷ 0 ∷ 6 ∷ 64 ∷ 0 ∷ 2 ∷ 255 ∷ 255 ∷ 0 ∷ 0 ∷ 0 ∷ 0 ∷ 0 ∷ 0 ∷ 0 ∷ 0 ∷ 0 ∷ 0 ∷ 0 ∷ 0 ∷ 0 ∷ 0 ∷ 0 ∷ 0 ∷ 0 ∷ 0 ∷ 0 ∷ 0 ∷ 0 ∷ 11 ∷ 66 ∷ 0 ∷ 3 ∷ 69 ∷ 0 ∷ 7 ∷ 255 ∷ 255 ∷ 0 ∷ 255 ∷ 255 ∷ 0 ∷ 0 ∷ 0 ∷ 0 ∷ 0 ∷ 0 ∷ 0 ∷ 0 ∷ 0 ∷ 0 ∷ 0 ∷ 0 ∷ 0 ∷ 0 ∷ 0 ∷ 0 ∷ 1 ∷ 1 ∷ 0 ∷ 0 ∷ 0 ∷ 9 ∷ 76 ∷ 0 ∷ 3 ∷ 79 ∷ 0 ∷ 3 ∷ 9 ∷ 0 ∷ 1 ∷ 82 ∷ 0 ∷ 3 ∷ 64 ∷ 0 ∷ 2 ∷ 1 ∷ 11 ∷ 41 ∷ 0 ∷ 1 ∷ 85 ∷ 0 ∷ 4 ∷ 9 ∷ 0 ∷ 1 ∷ 255 ∷ 255 ∷ 0 ∷ 0 ∷ 0 ∷ 0 ∷ 0 ∷ 0 ∷ 0 ∷ 0 ∷ 0 ∷ 0 ∷ 0 ∷ 0 ∷ 0 ∷ 0 ∷ 0 ∷ 0 ∷ 0 ∷ 0 ∷ 0 ∷ 0 ∷ 0 ∷ 10 ∷ 89 ∷ 0 ∷ 1 ∷ 11 ∷ 35 ∷ 0 ∷ 1 ∷ 90 ∷ 0 ∷ 8 ∷ 11 ∷ 0 ∷ 4 ∷ 255 ∷ 255 ∷ 0 ∷ 0 ∷ 0 ∷ 0 ∷ 0 ∷ 0 ∷ 0 ∷ 0 ∷ 0 ∷ 0 ∷ 0 ∷ 0 ∷ 0 ∷ 0 ∷ 0 ∷ 0 ∷ 0 ∷ 0 ∷ 0 ∷ 0 ∷ 0 ∷ []; was-pool = 48 ∷ 46 ∷ 49 ∷ 48 ∷ 46 ∷ 48 ∷ 71 ∷ 69 ∷ 78 ∷ 101 ∷ 97 ∷ 98 ∷ 105 ∷ 116 ∷ 115 ∷ 48 ∷ 46 ∷ 56 ∷ 46 ∷ 48 ∷ 109 ∷ 104 ∷ 101 ∷ 97 ∷ 100 ∷ 109 ∷ 101 ∷ 116 ∷ 97 ∷ 100 ∷ 97 ∷ 116 ∷ 97 ∷ 110 ∷ 101 ∷ 120 ∷ 116 ∷ 115 ∷ 116 ∷ 114 ∷ 117 ∷ 99 ∷ 116 ∷ 95 ∷ 112 ∷ 116 ∷ 114 ∷ 116 ∷ 105 ∷ 108 ∷ 101 ∷ 115 ∷ 99 ∷ 97 ∷ 108 ∷ 97 ∷ 114 ∷ 117 ∷ 49 ∷ 54 ∷ 115 ∷ 107 ∷ 105 ∷ 112 ∷ 117 ∷ 56 ∷ 103 ∷ 97 ∷ 112 ∷ 112 ∷ 97 ∷ 100 ∷ 100 ∷ 105 ∷ 110 ∷ 103 ∷ 102 ∷ 97 ∷ 109 ∷ 116 ∷ 97 ∷ 103 ∷ 108 ∷ 101 ∷ 110 ∷ 101 ∷ 110 ∷ 117 ∷ 109 ∷ 86 ∷ 98 ∷ 105 ∷ 116 ∷ 102 ∷ 105 ∷ 101 ∷ 108 ∷ 100 ∷ []; number = 1; side = 1; place = 318; text = bytes "" }
-    ∷ record { now-stream = 1 ∷ 0 ∷ 0 ∷ 6 ∷ 0 ∷ 2 ∷ 6 ∷ 0 ∷ 3 ∷ 0 ∷ 3 ∷ 0 ∷ 0 ∷ 0 ∷ 0 ∷ 0 ∷ 0 ∷ 0 ∷ 255 ∷ 255 ∷ 0 ∷ 0 ∷ 255 ∷ 255 ∷ 0 ∷ 4 ∷ 9 ∷ 0 ∷ 1 ∷ 1 ∷ 0 ∷ 0 ∷ 0 ∷ 0 ∷ 255 ∷ 255 ∷ 0 ∷ 5 ∷ 10 ∷ 0 ∷ 1 ∷ 253 ∷ 255 ∷ 255 ∷ 255 ∷ 255 ∷ 255 ∷ 255 ∷ 255 ∷ 255 ∷ 255 ∷ 0 ∷ 6 ∷ 11 ∷ 0 ∷ 4 ∷ 1 ∷ 0 ∷ 0 ∷ 0 ∷ 15 ∷ 0 ∷ 5 ∷ 7 ∷ 20 ∷ 0 ∷ 1 ∷ 2 ∷ 0 ∷ 0 ∷ 0 ∷ 0 ∷ 0 ∷ 0 ∷ 0 ∷ 0 ∷ 255 ∷ 255 ∷ 0 ∷ 8 ∷ 21 ∷ 0 ∷ 4 ∷ 25 ∷ 0 ∷ 8 ∷ 6 ∷ 0 ∷ 3 ∷ 11 ∷ 33 ∷ 0 ∷ 4 ∷ 37 ∷ 0 ∷ 10 ∷ 47 ∷ 0 ∷ 4 ∷ 255 ∷ 255 ∷ 0 ∷ 0 ∷ 0 ∷ 0 ∷ 0 ∷ 0 ∷ 0 ∷ 0 ∷ 0 ∷ 0 ∷ 0 ∷ 0 ∷ 0 ∷ 0 ∷ 0 ∷ 0 ∷ 0 ∷ 0 ∷ 0 ∷ 0 ∷ 0 ∷ 8 ∷ 47 ∷ 0 ∷ 4 ∷ 255 ∷ 255 ∷ 0 ∷ 255 ∷ 255 ∷ 0 ∷ 11 ∷ 33 ∷ 0 ∷ 1 ∷ 51 ∷ 0 ∷ 6 ∷ 57 ∷ 0 ∷ 3 ∷ 255 ∷ 255 ∷ 0 ∷ 0 ∷ 0 ∷ 0 ∷ 0 ∷ 0 ∷ 0 ∷ 0 ∷ 0 ∷ 0 ∷ 0 ∷ 0 ∷ 0 ∷ 0 ∷ 0 ∷ 0 ∷ 0 ∷ 0 ∷ 0 ∷ 0 ∷ 0 ∷ 11 ∷ 60 ∷ 0 ∷ 4 ∷ 51 ∷ 0 ∷ 6 ∷ 64 ∷ 0 ∷ 2 ∷ 255 ∷ 255 ∷ 0 ∷ 0 ∷ 0 ∷ 0 ∷ 0 ∷ 0 ∷ 0 ∷ 0 ∷ 0 ∷ 0 ∷ 0 ∷ 0 ∷ 0 ∷ 0 ∷ 0 ∷ 0 ∷ 0 ∷ 0 ∷ 0 ∷ 0 ∷ 0 ∷ 11 ∷ 66 ∷ 0 ∷ 3 ∷ 69 ∷ 0 ∷ 7 ∷ 255 ∷ 255 ∷ 0 ∷ 255 ∷ 255 ∷ 0 ∷ 0 ∷ 0 ∷ 0 ∷ 0 ∷ 0 ∷ 0 ∷ 0 ∷ 0 ∷ 0 ∷ 0 ∷ 0 ∷ 0 ∷ 0 ∷ 0 ∷ 0 ∷ 1 ∷ 1 ∷ 0 ∷ 0 ∷ 0 ∷ 9 ∷ 76 ∷ 0 ∷ 3 ∷ 79 ∷ 0 ∷ 3 ∷ 9 ∷ 0 ∷ 1 ∷ 82 ∷ 0 ∷ 3 ∷ 64 ∷ 0 ∷ 2 ∷ 1 ∷ 11 ∷ 41 ∷ 0 ∷ 1 ∷ 85 ∷ 0 ∷ 4 ∷ 9 ∷ 0 ∷ 1 ∷ 255 ∷ 255 ∷ 0 ∷ 0 ∷ 0 ∷ 0 ∷ 0 ∷ 0 ∷ 0 ∷ 0 ∷ 0 ∷ 0 ∷ 0 ∷ 0 ∷ 0 ∷ 0 ∷ 0 ∷ 0 ∷ 0 ∷ 0 ∷ 0 ∷ 0 ∷ 0 ∷ 10 ∷ 89 ∷ 0 ∷ 1 ∷ 11 ∷ 35 ∷ 0 ∷ 1 ∷ 90 ∷ 0 ∷ 8 ∷ 11 ∷ 0 ∷ 4 ∷ 255 ∷ 255 ∷ 0 ∷ 0 ∷ 0 ∷ 0 ∷ 0 ∷ 0 ∷ 0 ∷ 0 ∷ 0 ∷ 0 ∷ 0 ∷ 0 ∷ 0 ∷ 0 ∷ 0 ∷ 0 ∷ 0 ∷ 0 ∷ 0 ∷ 0 ∷ 0 ∷ []; now-pool = 48 ∷ 46 ∷ 49 ∷ 48 ∷ 46 ∷ 48 ∷ 71 ∷ 69 ∷ 78 ∷ 101 ∷ 97 ∷ 98 ∷ 105 ∷ 116 ∷ 115 ∷ 48 ∷ 46 ∷ 56 ∷ 46 ∷ 48 ∷ 109 ∷ 104 ∷ 101 ∷ 97 ∷ 100 ∷ 109 ∷ 101 ∷ 116 ∷ 97 ∷ 100 ∷ 97 ∷ 116 ∷ 97 ∷ 110 ∷ 101 ∷ 120 ∷ 116 ∷ 115 ∷ 116 ∷ 114 ∷ 117 ∷ 99 ∷ 116 ∷ 95 ∷ 112 ∷ 116 ∷ 114 ∷ 116 ∷ 105 ∷ 108 ∷ 101 ∷ 115 ∷ 99 ∷ 97 ∷ 108 ∷ 97 ∷ 114 ∷ 117 ∷ 49 ∷ 54 ∷ 115 ∷ 107 ∷ 105 ∷ 112 ∷ 117 ∷ 56 ∷ 103 ∷ 97 ∷ 112 ∷ 112 ∷ 97 ∷ 100 ∷ 100 ∷ 105 ∷ 110 ∷ 103 ∷ 102 ∷ 97 ∷ 109 ∷ 116 ∷ 97 ∷ 103 ∷ 108 ∷ 101 ∷ 110 ∷ 101 ∷ 110 ∷ 117 ∷ 109 ∷ 86 ∷ 98 ∷ 105 ∷ 116 ∷ 102 ∷ 105 ∷ 101 ∷ 108 ∷ 100 ∷ []; was-stream = 1 ∷ 0 ∷ 0 ∷ 5 ∷ 0 ∷ 2 ∷ 5 ∷ 0 ∷ 3 ∷ 0 ∷ 3 ∷ 0 ∷ 0 ∷ 0 ∷ 0 ∷ 0 ∷ 0 ∷ 0 ∷ 255 ∷ 255 ∷ 0 ∷ 0 ∷ 255 ∷ 255 ∷ 0 ∷ 4 ∷ 8 ∷ 0 ∷ 1 ∷ 1 ∷ 0 ∷ 0 ∷ 0 ∷ 0 ∷ 255 ∷ 255 ∷ 0 ∷ 5 ∷ 9 ∷ 0 ∷ 1 ∷ 253 ∷ 255 ∷ 255 ∷ 255 ∷ 255 ∷ 255 ∷ 255 ∷ 255 ∷ 255 ∷ 255 ∷ 0 ∷ 6 ∷ 10 ∷ 0 ∷ 4 ∷ 1 ∷ 0 ∷ 0 ∷ 0 ∷ 14 ∷ 0 ∷ 5 ∷ 7 ∷ 19 ∷ 0 ∷ 1 ∷ 2 ∷ 0 ∷ 0 ∷ 0 ∷ 0 ∷ 0 ∷ 0 ∷ 0 ∷ 0 ∷ 255 ∷ 255 ∷ 0 ∷ 8 ∷ 20 ∷ 0 ∷ 4 ∷ 24 ∷ 0 ∷ 8 ∷ 5 ∷ 0 ∷ 3 ∷ 11 ∷ 32 ∷ 0 ∷ 4 ∷ 36 ∷ 0 ∷ 10 ∷ 46 ∷ 0 ∷ 4 ∷ 255 ∷ 255 ∷ 0 ∷ 0 ∷ 0 ∷ 0 ∷ 0 ∷ 0 ∷ 0 ∷ 0 ∷ 0 ∷ 0 ∷ 0 ∷ 0 ∷ 0 ∷ 0 ∷ 0 ∷ 0 ∷ 0 ∷ 0 ∷ 0 ∷ 0 ∷ 0 ∷ 8 ∷ 46 ∷ 0 ∷ 4 ∷ 255 ∷ 255 ∷ 0 ∷ 255 ∷ 255 ∷ 0 ∷ 11 ∷ 32 ∷ 0 ∷ 1 ∷ 50 ∷ 0 ∷ 6 ∷ 56 ∷ 0 ∷ 3 ∷ 255 ∷ 255 ∷ 0 ∷ 0 ∷ 0 ∷ 0 ∷ 0 ∷ 0 ∷ 0 ∷ 0 ∷ 0 ∷ 0 ∷ 0 ∷ 0 ∷ 0 ∷ 0 ∷ 0 ∷ 0 ∷ 0 ∷ 0 ∷ 0 ∷ 0 ∷ 0 ∷ 11 ∷ 59 ∷ 0 ∷ 4 ∷ 50 ∷ 0 ∷ 6 ∷ 63 ∷ 0 ∷ 2 ∷ 255 ∷ 255 ∷ 0 ∷ 0 ∷ 0 ∷ 0 ∷ 0 ∷ 0 ∷ 0 ∷ 0 ∷ 0 ∷ 0 ∷ 0 ∷ 0 ∷ 0 ∷ 0 ∷ 0 ∷ 0 ∷ 0 ∷ 0 ∷ 0 ∷ 0 ∷ 0 ∷ 11 ∷ 65 ∷ 0 ∷ 3 ∷ 68 ∷ 0 ∷ 7 ∷ 255 ∷ 255 ∷ 0 ∷ 255 ∷ 255 ∷ 0 ∷ 0 ∷ 0 ∷ 0 ∷ 0 ∷ 0 ∷ 0 ∷ 0 ∷ 0 ∷ 0 ∷ 0 ∷ 0 ∷ 0 ∷ 0 ∷ 0 ∷ 0 ∷ 1 ∷ 1 ∷ 0 ∷ 0 ∷ 0 ∷ 9 ∷ 75 ∷ 0 ∷ 3 ∷ 78 ∷ 0 ∷ 3 ∷ 8 ∷ 0 ∷ 1 ∷ 81 ∷ 0 ∷ 3 ∷ 63 ∷ 0 ∷ 2 ∷ 1 ∷ 11 ∷ 40 ∷ 0 ∷ 1 ∷ 84 ∷ 0 ∷ 4 ∷ 8 ∷ 0 ∷ 1 ∷ 255 ∷ 255 ∷ 0 ∷ 0 ∷ 0 ∷ 0 ∷ 0 ∷ 0 ∷ 0 ∷ 0 ∷ 0 ∷ 0 ∷ 0 ∷ 0 ∷ 0 ∷ 0 ∷ 0 ∷ 0 ∷ 0 ∷ 0 ∷ 0 ∷ 0 ∷ 0 ∷ 10 ∷ 88 ∷ 0 ∷ 1 ∷ 11 ∷ 34 ∷ 0 ∷ 1 ∷ 89 ∷ 0 ∷ 8 ∷ 10 ∷ 0 ∷ 4 ∷ 255 ∷ 255 ∷ 0 ∷ 0 ∷ 0 ∷ 0 ∷ 0 ∷ 0 ∷ 0 ∷ 0 ∷ 0 ∷ 0 ∷ 0 ∷ 0 ∷ 0 ∷ 0 ∷ 0 ∷ 0 ∷ 0 ∷ 0 ∷ 0 ∷ 0 ∷ 0 ∷ 15 ∷ []; was-pool = 48 ∷ 46 ∷ 57 ∷ 46 ∷ 48 ∷ 71 ∷ 69 ∷ 78 ∷ 101 ∷ 97 ∷ 98 ∷ 105 ∷ 116 ∷ 115 ∷ 48 ∷ 46 ∷ 56 ∷ 46 ∷ 48 ∷ 109 ∷ 104 ∷ 101 ∷ 97 ∷ 100 ∷ 109 ∷ 101 ∷ 116 ∷ 97 ∷ 100 ∷ 97 ∷ 116 ∷ 97 ∷ 110 ∷ 101 ∷ 120 ∷ 116 ∷ 115 ∷ 116 ∷ 114 ∷ 117 ∷ 99 ∷ 116 ∷ 95 ∷ 112 ∷ 116 ∷ 114 ∷ 116 ∷ 105 ∷ 108 ∷ 101 ∷ 115 ∷ 99 ∷ 97 ∷ 108 ∷ 97 ∷ 114 ∷ 117 ∷ 49 ∷ 54 ∷ 115 ∷ 107 ∷ 105 ∷ 112 ∷ 117 ∷ 56 ∷ 103 ∷ 97 ∷ 112 ∷ 112 ∷ 97 ∷ 100 ∷ 100 ∷ 105 ∷ 110 ∷ 103 ∷ 102 ∷ 97 ∷ 109 ∷ 116 ∷ 97 ∷ 103 ∷ 108 ∷ 101 ∷ 110 ∷ 101 ∷ 110 ∷ 117 ∷ 109 ∷ 86 ∷ 98 ∷ 105 ∷ 116 ∷ 102 ∷ 105 ∷ 101 ∷ 108 ∷ 100 ∷ []; number = 1; side = 0; place = 318; text = bytes "" }
+-- an absent text, no number, and an unsigned number of four bytes
+o : Str
+o = 255 ∷ 255 ∷ 0 ∷ []
+
+no : Str
+no = 0 ∷ 0 ∷ 0 ∷ 0 ∷ 0 ∷ []
+
+w : ℕ → Str
+w n = n ∷ 0 ∷ 0 ∷ 0 ∷ []
+
+field : String → String → Str → Str → Str
+field n k ty size = 11 ∷ t n ++ t k ++ ty ++ o ++ no ++ no ++ no ++ size
+
+-- a record of this release and generation, with a last field in tile and with version entries, all but the end
+begun : String → ℕ → Str → Str → Str
+begun release generation last entries =
+    1 ∷ t release ++ 0 ∷ []
+    ++ 2 ∷ t "GEN" ++ 0 ∷ w generation ++ w 0 ++ o ++ 0 ∷ o
+    ++ 4 ∷ t "e" ++ w 1 ++ 0 ∷ o
+    ++ 5 ∷ t "a" ++ 253 ∷ 255 ∷ 255 ∷ 255 ∷ 255 ∷ 255 ∷ 255 ∷ 255 ∷ o
+    ++ 6 ∷ t "bits" ++ w 1 ++ t "0.8.0"
+    ++ 7 ∷ t "m" ++ w 2 ++ no ++ o
+    ++ 8 ∷ t "head" ++ t "metadata" ++ t "GEN"
+    ++ field "next" "struct_ptr" (t "tile") no
+    ++ 8 ∷ t "tile" ++ o ++ o
+    ++ field "n" "scalar" (t "u16") no
+    ++ field "skip" "scalar" (t "u8") no
+    ++ last
+    ++ 9 ∷ t "fam" ++ t "tag" ++ t "e" ++ t "len" ++ t "u8" ++ 1 ∷ []
+    ++ field "b" "enum" (t "e") no
+    ++ 10 ∷ t "V"
+    ++ field "x" "bitfield" (t "bits") no
+    ++ entries
+
+gap : Str
+gap = field "gap" "padding" o (1 ∷ w 1)
+
+new : Str
+new = field "new" "scalar" (t "u8") no
+
+whole : Str → Str
+whole s = s ++ 15 ∷ []
+
+-- number, side, place and message: the current stream, then the released one
+says : Str → Str → ℕ → ℕ → ℕ → String → Bool
+unfolding gives first u16At u32At u64At textOf textAt optText optTextAt flagAt optNumberAt
+    operands wide widths widthWith widthOf commandOf stepAt commandsFrom commandsAt
+    listed heads constants aliases values enums members bitfields keys fields structs variants families unstored versions
+    ifAbsent flagFault operandFault faultsFrom follows mayStand parentAfter ready judgedWith judgedAt isLetter oddLetter
+    releaseOf unreleasedOf schemaFrom openedAt opened large vast onto continued parse parsed streamLimit poolLimit vastOr sizesOf concluded reading
+    refusalOf verdictOf answered check
+says is was number side place text =
+    let a = check 65536 (rec is pool builtIn) (rec was pool builtIn) in
+    eqb (a .number) number && eqb (a .side) side && eqb (a .place) place && eqb (a .len) (length (bytes text)) && eqs (a .text) (bytes text)
+
+pub byte-cases : List Case
+byte-cases =
+    -- the same layout: accepted
+    record { id = 1; holds = says (whole (begun "0.10.0" 3 gap [])) (whole (begun "0.9.0" 3 gap [])) 0 0 0 "" }
+    -- another layout under the same number
+    ∷ record {
+      id = 2;
+      holds =
+          says (whole (begun "0.10.0" 3 new [])) (whole (begun "0.9.0" 3 gap [])) 43 0 0
+          "head is still generation 3, and tile's layout has changed since the last release - raise GEN to 4, and add a [[versions]] entry saying which release that generation ships in";
+    }
+    -- under the next number, with its entry
+    ∷ record { id = 3; holds = says (whole (begun "0.10.0" 4 new (14 ∷ t "head" ++ w 4))) (whole (begun "0.9.0" 3 gap [])) 0 0 0 "" }
+    -- without 0F: cut, at the stream's length, on either side
+    ∷ record { id = 4; holds = says (whole (begun "0.10.0" 3 gap [])) (begun "0.9.0" 3 gap []) 1 1 318 "" }
+    ∷ record { id = 5; holds = says (begun "0.10.0" 3 gap []) (whole (begun "0.9.0" 3 gap [])) 1 0 318 "" }
     ∷ []
 
-pub byte-edges : allRun cases ≡ true
-unfolding allRun cases runs
+pub byte-edges : failing byte-cases ≡ []
+unfolding failing byte-cases says begun field whole gap new t o no w pool placeIn
 byte-edges = refl

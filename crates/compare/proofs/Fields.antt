@@ -1,32 +1,28 @@
 -- One step: fields stay. Assumes nothing.
-use mathlib.Core.Path.{_≡_, refl, sym, _∙_, ap}
-use mathlib.Core.List.{List, [], _∷_, _++_, List·Memᴰ, List·Memᴰ·head, List·Memᴰ·tail, List·Memᴰ·not-nil}
-use mathlib.Core.Option.{Option, none, some}
-use mathlib.Core.Bool.{Bool, true, false, _&&_}
+use mathlib.Core.Path.{_≡_, _∙_}
 use Prim.Native.Nat.{ℕ}
-use lib.Dec.{eqb}
 use borrow.Author.Tests.{eqb-true}
-use Rattle.record.specs.Base.{Str, eqs, find}
-use Rattle.compare.specs.Verdict.{Verdict, pass, stop, _then_, ensure, each, onFound}
+use Rattle.record.specs.Base.{Str, eqs}
 use Rattle.record.specs.Schema.{Schema}
 use Rattle.record.specs.Shapes.{Place}
-use Rattle.layout.specs.Layout.{TypeLayout, types, lookup}
-use Rattle.compare.specs.Check.{checkPlace, checkType, checkFields}
-use Rattle.compare.specs.Chain.{HasField, Good}
 use Rattle.record.proofs.Basics.{eqs→eq, find-some}
-use Rattle.compare.proofs.Passes.{stop≢pass, then-pass, ensured, ensure-false, each-pass, found-pass, found-stop}
+use Rattle.layout.specs.Layout.{TypeLayout, types, typeIn}
+use Rattle.compare.specs.Verdicts.{pass, typeGone, fieldGone, moved, resized, redescribed}
+use Rattle.compare.specs.Fields.{placeIn, checkPlace, checkPlaces, checkType, checkFields}
+use Rattle.compare.specs.Chain.{HasField, Kinds}
+use Rattle.compare.proofs.Passes.{then-pass, ensured, ensure-false, each-pass, found-stop}
 use Rattle.compare.proofs.Described.{told, same-padding}
 
-pub keep-field : (cur rel : Schema) → Good cur → Good rel → checkFields (types cur) (types rel) ≡ pass
-    → {t f : Str} {o z : ℕ} {d : Str} → HasField rel t f o z d → HasField cur t f o z d
-unfolding checkFields checkType checkPlace lookup
-keep-field cur rel gc gr h {t} {f} {o} {z} {d} w =
+pub keep-field : (cur rel : Schema) → Kinds cur → Kinds rel → checkFields (types cur) (types rel) ≡ pass
+    → {t f : Str} {o z : ℕ} {d : Str} → HasField (types rel) t f o z d → HasField (types cur) t f o z d
+unfolding checkFields checkType checkPlaces checkPlace typeIn placeIn typeGone fieldGone moved resized redescribed
+keep-field cur rel gc gr h w =
     let at-type = each-pass (checkType (types cur)) (types rel) h (w .is-parent) in
-    let is = found-stop (lookup (w .parent .name) (types cur)) _ _ _ at-type in
+    let is = found-stop (typeIn (w .parent .name) (types cur)) _ _ _ at-type in
     let is-in = find-some (λ (x : TypeLayout). eqs (x .name) (w .parent .name)) (types cur) (is .1) in
-    let at-place = each-pass (checkPlace (is .0) (w .parent)) (w .parent .fields) (is .2) (w .is-child) in
+    let at-place = each-pass (checkPlace (w .parent .name) (is .0 .fields)) (w .parent .fields) (is .2) (w .is-child) in
     let at-real = ensure-false (w .child .padding) _ (w .child-real) at-place in
-    let new = found-stop (find (λ (x : Place). eqs (x .name) (w .child .name)) (is .0 .fields)) _ _ _ at-real in
+    let new = found-stop (placeIn (w .child .name) (is .0 .fields)) _ _ _ at-real in
     let new-in = find-some (λ (x : Place). eqs (x .name) (w .child .name)) (is .0 .fields) (new .1) in
     let tests = then-pass _ _ (new .2) in
     let first = then-pass _ _ (tests .0) in

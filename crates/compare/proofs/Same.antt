@@ -1,17 +1,18 @@
 -- Equality tests of layouts; unique names; names before "::". Assumes nothing.
-use mathlib.Core.Path.{_≡_, refl, sym, _∙_, ap, ap₂, subst}
-use mathlib.Core.List.{List, [], _∷_, _++_, map, List·Memᴰ, List·Memᴰ·head, List·Memᴰ·tail, List·Memᴰ·not-nil, Memᴰ·map, Memᴰ·cast}
+use mathlib.Core.Path.{_≡_, refl, sym, _∙_, ap, ap₂}
+use mathlib.Core.List.{List, [], _∷_, map, List·Memᴰ, List·Memᴰ·head, List·Memᴰ·tail, List·Memᴰ·not-nil, Memᴰ·map, Memᴰ·cast}
 use mathlib.Core.Option.{Option, none, some}
-use mathlib.Core.Bool.{Bool, true, false, _&&_, not, cond, false≢true, Bool·beq}
-use Prim.Native.Nat.{ℕ, _+_}
+use mathlib.Core.Bool.{Bool, true, false, false≢true, Bool·beq}
+use Prim.Native.Nat.{ℕ}
 use native.Mathlib.Omega.{arith}
 use lib.Dec.{eqb}
 use borrow.Author.Tests.{eqb-true, ne-eqb}
 use Rattle.record.specs.Base.{Str, eqs}
 use Rattle.record.specs.Schema.{Struct}
 use Rattle.record.specs.Shapes.{Place}
-use Rattle.layout.specs.Layout.{TypeLayout, variantName}
-use Rattle.compare.specs.Check.{eqPlace, eqPlaces, owning}
+use Rattle.layout.specs.Layout.{variantName}
+use Rattle.compare.specs.Fields.{eqPlace, eqPlaces}
+use Rattle.compare.specs.Generations.{owning}
 use Rattle.compare.specs.Chain.{NoDup, NoColon, slotsOf, withSlot}
 use Rattle.record.proofs.Basics.{both, eqs→eq}
 

@@ -1,17 +1,18 @@
--- The sorted layouts: byte order, look-ups as the last of a name, the next name as a scan. Assumes nothing.
+-- Maps by name: byte order is an order, the list is sorted, a look-up is the last of the name, the next name is found by a scan. Assumes nothing.
 use mathlib.Core.Path.{_≡_, refl, sym, _∙_, ap, subst}
-use mathlib.Core.List.{List, [], _∷_, _++_, map, List·Memᴰ, List·Memᴰ·head, List·Memᴰ·tail, List·Memᴰ·not-nil}
+use mathlib.Core.List.{List, [], _∷_, List·Memᴰ, List·Memᴰ·head, List·Memᴰ·tail, List·Memᴰ·not-nil}
 use mathlib.Core.Option.{Option, none, some}
-use mathlib.Core.Bool.{Bool, true, false, _&&_, _||_, not, cond, false≢true}
+use mathlib.Core.Bool.{Bool, true, false, _&&_, _||_, cond, false≢true}
 use mathlib.Core.Logic.{_⊎_, inl, inr}
-use Prim.Native.Nat.{ℕ, _+_, _<_, _≤_}
+use Prim.Native.Nat.{ℕ, _<_, _≤_}
 use native.Mathlib.Omega.{arith}
 use lib.Dec.{eqb, ltb}
-use borrow.Author.Tests.{eqb-true, eqb-false, eq-eqb, ne-eqb, ltb-true, ltb-false, lt-ltb, le-ltb}
+use borrow.Author.Tests.{eqb-true, eqb-false, eq-eqb, ltb-true, ltb-false, lt-ltb, le-ltb}
 use Rattle.record.specs.Base.{Str, eqs, before, find, lastOr, findLast}
 use Rattle.record.specs.Schema.{Schema}
-use Rattle.layout.specs.Layout.{TypeLayout, listed, insert, insertAll, types, lookup}
-use Rattle.record.proofs.Basics.{eqs→eq, eqs-refl, find-some}
+use Rattle.layout.specs.Sorted.{insert, insertAll, sorted}
+use Rattle.layout.specs.Layout.{TypeLayout, flattened, types, typeIn}
+use Rattle.record.proofs.Basics.{eqs→eq, find-some}
 use Rattle.layout.proofs.Origin.{insert-mem}
 
 -- byte order, as what a test says of the heads
@@ -92,57 +93,18 @@ before-total (a ∷ s) (b ∷ t) e h = go (order a b) e h (λ x y. before-total 
         below i j p q = omega arith
 
 -- sorted strictly by name
-abbrev Sorted : List TypeLayout → Type 0
-Sorted [] = Unit {0}
-Sorted (t ∷ l) = ((u : TypeLayout) → List·Memᴰ u l → before (t .name) (u .name) ≡ true) × Sorted l
-
-insert-sorted : (t : TypeLayout) (l : List TypeLayout) → Sorted l → Sorted (insert t l)
-unfolding insert
-insert-sorted t [] s = (λ u m. absurd (List·Memᴰ·not-nil m), tt)
-insert-sorted t (x ∷ xs) s = go (eqs (t .name) (x .name)) (before (t .name) (x .name)) refl refl (insert-sorted t xs (s .1))
-  where
-    over : before (t .name) (x .name) ≡ true → (u : TypeLayout) → List·Memᴰ u (x ∷ xs) → before (t .name) (u .name) ≡ true
-    over h u (List·Memᴰ·head e) = subst (λ (y : TypeLayout). before (t .name) (y .name) ≡ true) (sym e) h
-    over h u (List·Memᴰ·tail m) = before-trans (t .name) (x .name) (u .name) h (s .0 u m)
-
-    under : before (x .name) (t .name) ≡ true → (u : TypeLayout) → (u ≡ t) ⊎ List·Memᴰ u xs → before (x .name) (u .name) ≡ true
-    under h u (inl e) = subst (λ (y : TypeLayout). before (x .name) (y .name) ≡ true) (sym e) h
-    under h u (inr m) = s .0 u m
-
-    go : (b c : Bool) → eqs (t .name) (x .name) ≡ b → before (t .name) (x .name) ≡ c → Sorted (insert t xs)
-        → Sorted (cond b (t ∷ xs) (cond c (t ∷ x ∷ xs) (x ∷ insert t xs)))
-    go true c e f r = (λ u m. subst (λ (n : Str). before n (u .name) ≡ true) (sym (eqs→eq _ _ e)) (s .0 u m), s .1)
-    go false true e f r = (over f, s)
-    go false false e f r = (λ u m. under (before-total (t .name) (x .name) e f) u (insert-mem t xs m), r)
-
-insertAll-sorted : (ts acc : List TypeLayout) → Sorted acc → Sorted (insertAll ts acc)
-unfolding insertAll
-insertAll-sorted [] acc s = s
-insertAll-sorted (t ∷ ts) acc s = insertAll-sorted ts (insert t acc) (insert-sorted t acc s)
-
-pub types-sorted : (s : Schema) → Sorted (types s)
-unfolding types
-types-sorted s = insertAll-sorted (listed s) [] tt
+abbrev pub Sorted : {A : Type 0} → (A → Str) → List A → Type 0
+Sorted name [] = Unit {0}
+Sorted {A} name (x ∷ l) = ((y : A) → List·Memᴰ y l → before (name x) (name y) ≡ true) × Sorted name l
 
 -- the first in order that passes a test of names, after one more is put in
-pub better : (Str → Bool) → Option TypeLayout → TypeLayout → Option TypeLayout
-better p none t = cond (p (t .name)) (some t) none
-better p (some u) t = cond (p (t .name)) (cond (before (u .name) (t .name)) (some u) (some t)) (some u)
+pub better : {A : Type 0} → (A → Str) → (Str → Bool) → Option A → A → Option A
+better name p none x = cond (p (name x)) (some x) none
+better name p (some y) x = cond (p (name x)) (cond (before (name y) (name x)) (some y) (some x)) (some y)
 
-pub scan : (Str → Bool) → Option TypeLayout → List TypeLayout → Option TypeLayout
-scan p o [] = o
-scan p o (t ∷ ts) = scan p (better p o t) ts
-
-better-not : (p : Str → Bool) (o : Option TypeLayout) (t : TypeLayout) → p (t .name) ≡ false → better p o t ≡ o
-unfolding better
-better-not p none t e = rw e
-better-not p (some u) t e = rw e
-
-better-first : (p : Str → Bool) (o : Option TypeLayout) (t : TypeLayout) → p (t .name) ≡ true
-    → ((u : TypeLayout) → o ≡ some u → before (u .name) (t .name) ≡ false) → better p o t ≡ some t
-unfolding better
-better-first p none t e f = rw e
-better-first p (some u) t e f = rw (e, f u refl)
+pub scan : {A : Type 0} → (A → Str) → (Str → Bool) → Option A → List A → Option A
+scan name p o [] = o
+scan name p o (x ∷ xs) = scan name p (better name p o x) xs
 
 not-after : (s t : Str) → before s t ≡ true → before t s ≡ false
 not-after s t h = go (before t s) refl
@@ -158,82 +120,131 @@ not-self s t q = go (before s t) refl
     go true e = absurd (before-irrefl s (subst (λ (x : Str). before s x ≡ true) (sym q) e))
     go false e = refl
 
-find-insert : (p : Str → Bool) (t : TypeLayout) (l : List TypeLayout) → Sorted l
-    → find (λ (u : TypeLayout). p (u .name)) (insert t l) ≡ better p (find (λ (u : TypeLayout). p (u .name)) l) t
-unfolding insert find better
-find-insert p t [] s = refl
-find-insert p t (x ∷ xs) s =
-    go (eqs (t .name) (x .name)) (before (t .name) (x .name)) refl refl (p (t .name)) (p (x .name)) refl refl (find-insert p t xs (s .1))
-  where
-    q : TypeLayout → Bool
-    q u = p (u .name)
+module _ {A : Type 0} (name : A → Str) where
+  insert-sorted : (x : A) (l : List A) → Sorted name l → Sorted name (insert name x l)
+  unfolding insert
+  insert-sorted x [] s = (λ u m. absurd (List·Memᴰ·not-nil m), tt)
+  insert-sorted x (y ∷ ys) s = go (eqs (name x) (name y)) (before (name x) (name y)) refl refl (insert-sorted x ys (s .1))
+    where
+      over : before (name x) (name y) ≡ true → (u : A) → List·Memᴰ u (y ∷ ys) → before (name x) (name u) ≡ true
+      over h u (List·Memᴰ·head e) = subst (λ (z : A). before (name x) (name z) ≡ true) (sym e) h
+      over h u (List·Memᴰ·tail m) = before-trans (name x) (name y) (name u) h (s .0 u m)
 
-    rest : Option TypeLayout
-    rest = find q xs
+      under : before (name y) (name x) ≡ true → (u : A) → (u ≡ x) ⊎ List·Memᴰ u ys → before (name y) (name u) ≡ true
+      under h u (inl e) = subst (λ (z : A). before (name y) (name z) ≡ true) (sym e) h
+      under h u (inr m) = s .0 u m
 
-    same-name : (u : TypeLayout) → some x ≡ some u → eqs (t .name) (x .name) ≡ true → u .name ≡ t .name
-    same-name u k e = let y : x ≡ u = cc in ap (λ (v : TypeLayout). v .name) (sym y) ∙ sym (eqs→eq _ _ e)
+      go : (b c : Bool) → eqs (name x) (name y) ≡ b → before (name x) (name y) ≡ c → Sorted name (insert name x ys)
+          → Sorted name (cond b (x ∷ ys) (cond c (x ∷ y ∷ ys) (y ∷ insert name x ys)))
+      go true c e f r = (λ u m. subst (λ (n : Str). before n (name u) ≡ true) (sym (eqs→eq _ _ e)) (s .0 u m), s .1)
+      go false true e f r = (over f, s)
+      go false false e f r = (λ u m. under (before-total (name x) (name y) e f) u (insert-mem name x ys m), r)
 
-    later : (u : TypeLayout) → before (t .name) (x .name) ≡ true → List·Memᴰ u (x ∷ xs) → before (t .name) (u .name) ≡ true
-    later u f (List·Memᴰ·head y) = subst (λ (v : TypeLayout). before (t .name) (v .name) ≡ true) (sym y) f
-    later u f (List·Memᴰ·tail m) = before-trans (t .name) (x .name) (u .name) f (s .0 u m)
+  insertAll-sorted : (xs acc : List A) → Sorted name acc → Sorted name (insertAll name xs acc)
+  unfolding insertAll
+  insertAll-sorted [] acc s = s
+  insertAll-sorted (x ∷ xs) acc s = insertAll-sorted xs (insert name x acc) (insert-sorted x acc s)
 
-    keeps : p (t .name) ≡ true → before (x .name) (t .name) ≡ true → better p (some x) t ≡ some x
-    keeps g b = rw (g, b)
+  pub sorted-sorted : (xs : List A) → Sorted name (sorted name xs)
+  unfolding sorted
+  sorted-sorted xs = insertAll-sorted xs [] tt
 
-    go : (b c : Bool) → eqs (t .name) (x .name) ≡ b → before (t .name) (x .name) ≡ c → (i j : Bool) → p (t .name) ≡ i → p (x .name) ≡ j
-        → find q (insert t xs) ≡ better p rest t
-        → find q (cond b (t ∷ xs) (cond c (t ∷ x ∷ xs) (x ∷ insert t xs))) ≡ better p (cond (p (x .name)) (some x) rest) t
-    go true c e f true true g h r =
-        rw (g, h) (sym (better-first p (some x) t g (λ u k. not-self (u .name) (t .name) (same-name u k e))))
-    go true c e f true false g h r = absurd (false≢true (sym h ∙ ap p (sym (eqs→eq _ _ e)) ∙ g))
-    go true c e f false true g h r = absurd (false≢true (sym g ∙ ap p (eqs→eq _ _ e) ∙ h))
-    go true c e f false false g h r = rw (g, h) (sym (better-not p rest t g))
-    go false true e f true j g h r =
-        sym (better-first p (cond (p (x .name)) (some x) rest) t g (λ u k. not-after (t .name) (u .name) (later u f (find-some q (x ∷ xs) k .0)))
-        ∙ sym (ap (λ (b : Bool). cond b (some t) (cond (p (x .name)) (some x) rest)) g))
-    go false true e f false j g h r =
-        ap (λ (b : Bool). cond b (some t) (cond (p (x .name)) (some x) rest)) g ∙ sym (better-not p (cond (p (x .name)) (some x) rest) t g)
-    go false false e f true true g h r = rw h (sym (keeps g (before-total (t .name) (x .name) e f)))
-    go false false e f false true g h r = rw h (sym (better-not p (some x) t g))
-    go false false e f i false g h r = rw h r
+  better-not : (p : Str → Bool) (o : Option A) (x : A) → p (name x) ≡ false → better name p o x ≡ o
+  unfolding better
+  better-not p none x e = rw e
+  better-not p (some y) x e = rw e
 
-find-insertAll : (p : Str → Bool) (ts acc : List TypeLayout) → Sorted acc
-    → find (λ (u : TypeLayout). p (u .name)) (insertAll ts acc) ≡ scan p (find (λ (u : TypeLayout). p (u .name)) acc) ts
-unfolding insertAll scan
-find-insertAll p [] acc s = refl
-find-insertAll p (t ∷ ts) acc s =
-    find-insertAll p ts (insert t acc) (insert-sorted t acc s) ∙ ap (λ (o : Option TypeLayout). scan p o ts) (find-insert p t acc s)
+  better-first : (p : Str → Bool) (o : Option A) (x : A) → p (name x) ≡ true
+      → ((u : A) → o ≡ some u → before (name u) (name x) ≡ false) → better name p o x ≡ some x
+  unfolding better
+  better-first p none x e f = rw e
+  better-first p (some u) x e f = rw (e, f u refl)
 
--- THE NEXT NAME: the first layout in byte order that passes a test of names is found by one scan in the order of the record
-pub next-by-scan : (p : Str → Bool) (s : Schema) → find (λ (u : TypeLayout). p (u .name)) (types s) ≡ scan p none (listed s)
-unfolding types find
-next-by-scan p s = find-insertAll p (listed s) [] tt
+  find-insert : (p : Str → Bool) (t : A) (l : List A) → Sorted name l
+      → find (λ (u : A). p (name u)) (insert name t l) ≡ better name p (find (λ (u : A). p (name u)) l) t
+  unfolding insert find better
+  find-insert p t [] s = refl
+  find-insert p t (x ∷ xs) s =
+      go (eqs (name t) (name x)) (before (name t) (name x)) refl refl (p (name t)) (p (name x)) refl refl (find-insert p t xs (s .1))
+    where
+      q : A → Bool
+      q u = p (name u)
 
-scan-last : (n : Str) (o : Option TypeLayout) (ts : List TypeLayout) → ((u : TypeLayout) → o ≡ some u → u .name ≡ n)
-    → scan (λ (m : Str). eqs m n) o ts ≡ lastOr o (λ (u : TypeLayout). eqs (u .name) n) ts
-unfolding scan lastOr
-scan-last n o [] h = refl
-scan-last n o (t ∷ ts) h = go (λ x k. scan-last n x ts k) (eqs (t .name) n) refl
-  where
-    one : (u : TypeLayout) → some t ≡ some u → t .name ≡ n → u .name ≡ n
-    one u k e = let q : t ≡ u = cc in ap (λ (v : TypeLayout). v .name) (sym q) ∙ e
+      rest : Option A
+      rest = find q xs
 
-    go : ((x : Option TypeLayout) → ((u : TypeLayout) → x ≡ some u → u .name ≡ n)
-        → scan (λ (m : Str). eqs m n) x ts ≡ lastOr x (λ (u : TypeLayout). eqs (u .name) n) ts) → (b : Bool) → eqs (t .name) n ≡ b
-        → scan (λ (m : Str). eqs m n) (better (λ (m : Str). eqs m n) o t) ts ≡ lastOr (cond (eqs (t .name) n) (some t) o) (λ (u : TypeLayout). eqs (u .name) n) ts
-    go rec true e =
-        let q = eqs→eq (t .name) n e in
-        ap (λ (x : Option TypeLayout). scan (λ (m : Str). eqs m n) x ts)
-        (better-first (λ (m : Str). eqs m n) o t e (λ u k. not-self (u .name) (t .name) (h u k ∙ sym q)))
-        ∙ rec (some t) (λ u k. one u k q)
-        ∙ ap (λ (b : Bool). lastOr (cond b (some t) o) (λ (u : TypeLayout). eqs (u .name) n) ts) (sym e)
-    go rec false e =
-        ap (λ (x : Option TypeLayout). scan (λ (m : Str). eqs m n) x ts) (better-not (λ (m : Str). eqs m n) o t e)
-        ∙ rec o h
-        ∙ ap (λ (b : Bool). lastOr (cond b (some t) o) (λ (u : TypeLayout). eqs (u .name) n) ts) (sym e)
+      same-name : (u : A) → some x ≡ some u → eqs (name t) (name x) ≡ true → name u ≡ name t
+      same-name u k e = let y : x ≡ u = cc in ap name (sym y) ∙ sym (eqs→eq _ _ e)
 
--- LOOK-UP: the last of the name in the order of the record
-pub lookup-last : (n : Str) (s : Schema) → lookup n (types s) ≡ findLast (λ (u : TypeLayout). eqs (u .name) n) (listed s)
-unfolding lookup findLast
-lookup-last n s = next-by-scan (λ (m : Str). eqs m n) s ∙ scan-last n none (listed s) (λ u k. absurd (let z : _≡_ {A = ℕ} 0 1 = cc in omega arith))
+      later : (u : A) → before (name t) (name x) ≡ true → List·Memᴰ u (x ∷ xs) → before (name t) (name u) ≡ true
+      later u f (List·Memᴰ·head y) = subst (λ (v : A). before (name t) (name v) ≡ true) (sym y) f
+      later u f (List·Memᴰ·tail m) = before-trans (name t) (name x) (name u) f (s .0 u m)
+
+      keeps : p (name t) ≡ true → before (name x) (name t) ≡ true → better name p (some x) t ≡ some x
+      keeps g b = rw (g, b)
+
+      go : (b c : Bool) → eqs (name t) (name x) ≡ b → before (name t) (name x) ≡ c → (i j : Bool) → p (name t) ≡ i → p (name x) ≡ j
+          → find q (insert name t xs) ≡ better name p rest t
+          → find q (cond b (t ∷ xs) (cond c (t ∷ x ∷ xs) (x ∷ insert name t xs))) ≡ better name p (cond (p (name x)) (some x) rest) t
+      go true c e f true true g h r =
+          rw (g, h) (sym (better-first p (some x) t g (λ u k. not-self (name u) (name t) (same-name u k e))))
+      go true c e f true false g h r = absurd (false≢true (sym h ∙ ap p (sym (eqs→eq _ _ e)) ∙ g))
+      go true c e f false true g h r = absurd (false≢true (sym g ∙ ap p (eqs→eq _ _ e) ∙ h))
+      go true c e f false false g h r = rw (g, h) (sym (better-not p rest t g))
+      go false true e f true j g h r =
+          sym (better-first p (cond (p (name x)) (some x) rest) t g (λ u k. not-after (name t) (name u) (later u f (find-some q (x ∷ xs) k .0)))
+          ∙ sym (ap (λ (b : Bool). cond b (some t) (cond (p (name x)) (some x) rest)) g))
+      go false true e f false j g h r =
+          ap (λ (b : Bool). cond b (some t) (cond (p (name x)) (some x) rest)) g ∙ sym (better-not p (cond (p (name x)) (some x) rest) t g)
+      go false false e f true true g h r = rw h (sym (keeps g (before-total (name t) (name x) e f)))
+      go false false e f false true g h r = rw h (sym (better-not p (some x) t g))
+      go false false e f i false g h r = rw h r
+
+  find-insertAll : (p : Str → Bool) (xs acc : List A) → Sorted name acc
+      → find (λ (u : A). p (name u)) (insertAll name xs acc) ≡ scan name p (find (λ (u : A). p (name u)) acc) xs
+  unfolding insertAll scan
+  find-insertAll p [] acc s = refl
+  find-insertAll p (x ∷ xs) acc s =
+      find-insertAll p xs (insert name x acc) (insert-sorted x acc s) ∙ ap (λ (o : Option A). scan name p o xs) (find-insert p x acc s)
+
+  -- the first in byte order that passes a test of names is found by one scan of what was put in
+  pub next-by-scan : (p : Str → Bool) (xs : List A) → find (λ (u : A). p (name u)) (sorted name xs) ≡ scan name p none xs
+  unfolding sorted find
+  next-by-scan p xs = find-insertAll p xs [] tt
+
+  scan-last : (n : Str) (o : Option A) (xs : List A) → ((u : A) → o ≡ some u → name u ≡ n)
+      → scan name (λ (m : Str). eqs m n) o xs ≡ lastOr o (λ (u : A). eqs (name u) n) xs
+  unfolding scan lastOr
+  scan-last n o [] h = refl
+  scan-last n o (t ∷ ts) h = go (λ x k. scan-last n x ts k) (eqs (name t) n) refl
+    where
+      one : (u : A) → some t ≡ some u → name t ≡ n → name u ≡ n
+      one u k e = let q : t ≡ u = cc in ap name (sym q) ∙ e
+
+      go : ((x : Option A) → ((u : A) → x ≡ some u → name u ≡ n)
+          → scan name (λ (m : Str). eqs m n) x ts ≡ lastOr x (λ (u : A). eqs (name u) n) ts) → (b : Bool) → eqs (name t) n ≡ b
+          → scan name (λ (m : Str). eqs m n) (better name (λ (m : Str). eqs m n) o t) ts ≡ lastOr (cond (eqs (name t) n) (some t) o) (λ (u : A). eqs (name u) n) ts
+      go rec true e =
+          let q = eqs→eq (name t) n e in
+          ap (λ (x : Option A). scan name (λ (m : Str). eqs m n) x ts)
+          (better-first (λ (m : Str). eqs m n) o t e (λ u k. not-self (name u) (name t) (h u k ∙ sym q)))
+          ∙ rec (some t) (λ u k. one u k q)
+          ∙ ap (λ (b : Bool). lastOr (cond b (some t) o) (λ (u : A). eqs (name u) n) ts) (sym e)
+      go rec false e =
+          ap (λ (x : Option A). scan name (λ (m : Str). eqs m n) x ts) (better-not (λ (m : Str). eqs m n) o t e)
+          ∙ rec o h
+          ∙ ap (λ (b : Bool). lastOr (cond b (some t) o) (λ (u : A). eqs (name u) n) ts) (sym e)
+
+  -- a look-up by name finds the last of what was put in
+  pub sorted-last : (n : Str) (xs : List A) → find (λ (u : A). eqs (name u) n) (sorted name xs) ≡ findLast (λ (u : A). eqs (name u) n) xs
+  unfolding findLast
+  sorted-last n xs = next-by-scan (λ (m : Str). eqs m n) xs ∙ scan-last n none xs (λ u k. absurd (let z : _≡_ {A = ℕ} 0 1 = cc in omega arith))
+
+-- the layouts of a record stand in byte order, and the one of a name is the last in flattening order
+pub types-sorted : (s : Schema) → Sorted (λ (t : TypeLayout). t .name) (types s)
+unfolding types
+types-sorted s = sorted-sorted (λ (t : TypeLayout). t .name) (flattened s)
+
+pub type-last : (n : Str) (s : Schema) → typeIn n (types s) ≡ findLast (λ (t : TypeLayout). eqs (t .name) n) (flattened s)
+unfolding typeIn types
+type-last n s = sorted-last (λ (t : TypeLayout). t .name) n (flattened s)

@@ -1,310 +1,176 @@
--- Where a reading accepts a record, its schema is what stands in the record without judgement. Assumes nothing.
-use mathlib.Core.Path.{_≡_, refl, sym, ap, ap₂, subst, _∙_}
+-- Where a reading accepts a record, the commands that it judged are those that the unjudged cursor finds, so what it reads is the record's
+-- schema. Assumes nothing.
+use mathlib.Core.Path.{_≡_, refl, sym, _∙_, ap, subst}
 use mathlib.Core.List.{List, [], _∷_}
 use mathlib.Core.Option.{Option, none, some}
-use mathlib.Core.Bool.{Bool, true, false, cond, _&&_, not}
-use Prim.Native.Nat.{ℕ, zero, suc, _+_, _*_, _-_, _≤_, _<_}
+use mathlib.Core.Bool.{Bool, true, false, cond, _&&_}
+use Prim.Native.Nat.{ℕ, zero, suc, _+_, _-_, _≤_, _<_}
 use native.Mathlib.Omega.{arith}
-use lib.ListN.{length, getD, take, drop}
-use lib.Seq.{getD-drop}
 use lib.Dec.{eqb, ltb, leb}
-use borrow.Author.Tests.{eqb-true, ltb-true, leb-true, lt-ltb, le-ltb, ne-eqb, eq-eqb}
+use lib.ListN.{length, getD, drop}
+use borrow.Author.Tests.{eqb-true, eqb-false, ne-eqb, ltb-true, ltb-false, lt-ltb, le-ltb}
 use Rattle.record.specs.Base.{Str, find}
-use Rattle.record.specs.Le.{u16At, u32At, u64At}
-use Rattle.record.specs.Refusals.{Refusal}
-use Rattle.record.specs.Schema.{Schema, Value, integer, words, Const, Alias, Enum, EnumValue, BitField, Member, Key, Field, Struct, Family, Version}
-use Rattle.record.specs.Reader as R
-use Rattle.record.specs.Reader.{Rec, Side, At, Op, Cmd, head, constant, alias, enum, value, bits, member, structure, family, variant, field, key, unstored, version, Placed, Parsed, ok, bad, Next, ended, refused, width-of, numberAt, byteAt, widths, width, operands, cmdAt, keyAt, judge, guard, nextAt, onto, closing, after, parse, moveOn, absentAt}
-use Rattle.record.specs.Build.{Part, build, Reading, read, refuse, vastOr, vast, conclude, parsed, reading, strange}
-use Rattle.record.specs.Stretch.{textOf}
-use Rattle.record.specs.Operands as O
-use Rattle.record.specs.Operands.{pick, optText}
-use Rattle.record.specs.Steps as S
-use Rattle.record.specs.Steps.{widthOf, commandOf, stepAt}
-use Rattle.record.specs.Lists.{rec, optOf, numberOf, wordsOf, meant, commandsAt, partAt, schemaOf}
-use Rattle.record.proofs.Stream.{commands-stop, commands-next}
-use Rattle.record.specs.declared.text.Text.{Text}
-use Rattle.record.specs.declared.operands.OptText.the-variants.{Absent, Given}
-use Rattle.record.specs.declared.operands.OptNumber.the-variants.{Missing, Number}
+use Rattle.record.specs.Schema.{Schema}
+use Rattle.record.specs.Letters.{oddLetter}
+use Rattle.record.specs.Commands.{operands, widths, widthWith, widthOf, commandOf, stepAt, place, start, commandsAt}
+use Rattle.record.specs.Judge.{mayStand, moved, faultsFrom, ready, faulted, judgedWith, judgedAs, judgedAt}
+use Rattle.record.specs.Reading.{Rec, schemaFrom, schemaOf, Opened, opened, vast, Reading, read, refuse, Parsed, ok, bad, onto, continued, parse, parsed, vastOr, sizesOf, streamLimit, poolLimit, concluded, reading}
 use Rattle.record.specs.declared.command.Cursor.{Cursor}
 use Rattle.record.specs.declared.command.Command.{Command}
-use Rattle.record.specs.declared.command.Step.the-variants as T
+use Rattle.record.specs.declared.command.Step.the-variants as S
+use Rattle.record.specs.declared.refusal.Side.{Side}
+use Rattle.record.specs.declared.refusal.Refusal.{Refusal}
+use Rattle.record.specs.declared.refusal.Refusal.the-variants as R
+use Rattle.record.specs.declared.judge.Fault.{Fault}
+use Rattle.record.specs.declared.judge.Fault.the-variants.{Fine, Outside, Missing, Flag}
+use Rattle.record.specs.declared.judge.Judged.{Judged}
+use Rattle.record.specs.declared.judge.Judged.the-variants.{Next, Done, Refused}
+use Rattle.record.specs.declared.letters.Letters.{Letters}
+use Rattle.record.specs.declared.letters.Letters.the-variants.{Good, Odd}
+use Rattle.record.proofs.Stream.{commands-stop, commands-next}
 
--- numbers: the definition's are the code's, and from a part as from the whole
-module _ (s : Str) where
-  two : (p : ℕ) → u16At s p ≡ numberAt 2 s p
-  unfolding u16At numberAt byteAt
-  two p = omega arith
+-- what a judgement has passed that does not refuse
+abbrev pub Lets : Judged → Type 0
+Lets (Next c k) = Unit {0}
+Lets Done = Unit {0}
+Lets (Refused n p) = ⊥
 
-  four : (p : ℕ) → u32At s p ≡ numberAt 4 s p
-  unfolding u32At u16At numberAt byteAt
-  four p =
-      let e : p + 1 + 1 ≡ p + 2 = omega arith in
-      rw e (omega arith)
+-- a command whose row is known, that may stand here, whole and without fault
+pub record Passed (side : Side) (s : Str) (n : ℕ) (c : Cursor) (j : Judged) : Type 0 where
+  pub row : Str
+  pub inside : c .at < length s
+  pub has-row : operands (getD s (c .at) 0) ≡ some row
+  pub whole : 1 + widths row ≤ length s - c .at
+  pub stands : mayStand c (getD s (c .at) 0) ≡ true
+  pub fine : faultsFrom side n (drop (c .at) s) 1 row ≡ Fine
+  pub is-ready : ready s c (getD s (c .at) 0) (1 + widths row) ≡ j
 
-  pair : (n p : ℕ) → numberAt (suc (suc n)) s p ≡ u16At s p + 65536 * numberAt n s (p + 2)
-  unfolding u16At numberAt byteAt
-  pair n p =
-      let e : p + 1 + 1 ≡ p + 2 = omega arith in
-      rw e (omega arith)
-
-  eight : (p : ℕ) → u64At s p ≡ numberAt 8 s p
-  unfolding u64At u32At
-  eight p =
-      let e : p + 2 + 2 ≡ p + 4 = omega arith in
-      let a : numberAt 8 s p ≡ u16At s p + 65536 * numberAt 6 s (p + 2) = pair 6 p in
-      let b : numberAt 6 s (p + 2) ≡ u16At s (p + 2) + 65536 * numberAt 4 s (p + 4) = pair 4 (p + 2) ∙ ap (λ (k : ℕ). u16At s (p + 2) + 65536 * numberAt 4 s k) e in
-      let c : u16At s (p + 4) + 65536 * u16At s (p + 4 + 2) ≡ numberAt 4 s (p + 4) = four (p + 4) in
-      omega (arith, a, b, c)
-
-  module _ (p : ℕ) where
-    one-in : (i : ℕ) → getD (drop p s) i 0 ≡ getD s (p + i) 0
-    one-in i = getD-drop p s i 0
-
-    two-in : (i : ℕ) → u16At (drop p s) i ≡ u16At s (p + i)
-    unfolding u16At
-    two-in i =
-        let e : p + (i + 1) ≡ p + i + 1 = omega arith in
-        ap₂ (λ (a b : ℕ). a + 256 * b) (one-in i) (one-in (i + 1) ∙ ap (λ (k : ℕ). getD s k 0) e)
-
-    four-in : (i : ℕ) → u32At (drop p s) i ≡ u32At s (p + i)
-    unfolding u32At
-    four-in i =
-        let e : p + (i + 2) ≡ p + i + 2 = omega arith in
-        ap₂ (λ (a b : ℕ). a + 65536 * b) (two-in i) (two-in (i + 2) ∙ ap (u16At s) e)
-
-    eight-in : (i : ℕ) → u64At (drop p s) i ≡ u64At s (p + i)
-    unfolding u64At
-    eight-in i =
-        let e : p + (i + 4) ≡ p + i + 4 = omega arith in
-        ap₂ (λ (a b : ℕ). a + 4294967296 * b) (four-in i) (four-in (i + 4) ∙ ap (u32At s) e)
-
--- operands
-opt-shape : (a b : Bool) (q : Str) (t : Text) → optOf q (pick a (pick b Absent (Given t)) (Given t)) ≡ cond (a && b) none (some (textOf q t))
-opt-shape true true q t = refl
-opt-shape true false q t = refl
-opt-shape false b q t = refl
-
-words-shape : (a b : Bool) (q : Str) (t : Text) → eqb (t .len) 0 ≡ b → wordsOf q (pick a (pick b Absent (Given t)) (Given t)) ≡ textOf q t
-unfolding textOf
-words-shape true true q t e = sym (rw (eqb-true (t .len) 0 e))
-words-shape true false q t e = refl
-words-shape false b q t e = refl
-
-count-shape : (b : Bool) (n : ℕ) → numberOf (pick b Missing (Number n)) ≡ cond b none (some n)
-count-shape true n = refl
-count-shape false n = refl
-
-module _ (r : Rec) (p : ℕ) (i : ℕ) where
-  len-in : getD (drop p (r .stream)) (i + 2) 0 ≡ byteAt (r .stream) (p + i + 2)
-  unfolding byteAt
-  len-in =
-      let e : p + (i + 2) ≡ p + i + 2 = omega arith in
-      one-in (r .stream) p (i + 2) ∙ ap (λ (k : ℕ). getD (r .stream) k 0) e
-
-  start-in : u16At (drop p (r .stream)) i ≡ numberAt 2 (r .stream) (p + i)
-  start-in = two-in (r .stream) p i ∙ two (r .stream) (p + i)
-
-  text-is : textOf (r .pool) (O.textAt (drop p (r .stream)) i) ≡ R.textAt r (p + i)
-  unfolding textOf O.textAt R.textAt
-  text-is = ap₂ (λ (a b : ℕ). take a (drop b (r .pool))) len-in start-in
-
-  option-is : optOf (r .pool) (O.optTextAt (drop p (r .stream)) i) ≡ R.optionAt r (p + i)
-  unfolding O.optTextAt optText R.optionAt absentAt O.textAt
-  option-is =
-      opt-shape (eqb (u16At (drop p (r .stream)) i) 65535) (eqb (getD (drop p (r .stream)) (i + 2) 0) 0) (r .pool) (O.textAt (drop p (r .stream)) i)
-      ∙ ap₂ (λ (c : Bool) (t : Str). cond c none (some t)) (ap₂ (λ (a b : ℕ). eqb a 65535 && eqb b 0) start-in len-in) text-is
-
-  words-is : wordsOf (r .pool) (O.optTextAt (drop p (r .stream)) i) ≡ R.textAt r (p + i)
-  unfolding O.optTextAt optText
-  words-is = words-shape (eqb (O.textAt (drop p (r .stream)) i .start) 65535) (eqb (O.textAt (drop p (r .stream)) i .len) 0) (r .pool) (O.textAt (drop p (r .stream)) i) refl ∙ text-is
-
-  flag-is : O.flagAt (drop p (r .stream)) i ≡ R.flagAt r (p + i)
-  unfolding O.flagAt R.flagAt byteAt
-  flag-is = ap (λ (b : ℕ). eqb b 1) (one-in (r .stream) p i)
-
-  w-is : u32At (drop p (r .stream)) i ≡ numberAt 4 (r .stream) (p + i)
-  w-is = four-in (r .stream) p i ∙ four (r .stream) (p + i)
-
-  v-is : u64At (drop p (r .stream)) i ≡ numberAt 8 (r .stream) (p + i)
-  v-is = eight-in (r .stream) p i ∙ eight (r .stream) (p + i)
-
-  count-is : numberOf (O.optNumberAt (drop p (r .stream)) i) ≡ R.countAt r (p + i)
-  unfolding O.optNumberAt R.countAt byteAt
-  count-is =
-      let e : p + (i + 1) ≡ p + i + 1 = omega arith in
-      count-shape (eqb (getD (drop p (r .stream)) i 0) 0) (u32At (drop p (r .stream)) (i + 1))
-      ∙ ap₂ (λ (a b : ℕ). cond (eqb a 0) none (some b)) (one-in (r .stream) p i)
-      (four-in (r .stream) p (i + 1) ∙ ap (u32At (r .stream)) e ∙ four (r .stream) (p + i + 1))
-
--- commands
-cmd-or : (t : Bool) (q : Str) (x y : Command) (u v : Cmd) → meant q x ≡ u → meant q y ≡ v → meant q (pick t x y) ≡ cond t u v
-cmd-or true q x y u v e f = e
-cmd-or false q x y u v e f = f
-
-command-is : (r : Rec) (b p : ℕ) → meant (r .pool) (commandOf b (drop p (r .stream))) ≡ cmdAt r b p
-unfolding commandOf cmdAt keyAt
-command-is r b p =
-    cmd-or (eqb b 1) _ _ _ _ _ (rw (option-is r p 1, flag-is r p 4))
-    (cmd-or (eqb b 2) _ _ _ _ _ (rw (text-is r p 1, flag-is r p 4, words-is r p 13, v-is r p 5, flag-is r p 16, option-is r p 17))
-    (cmd-or (eqb b 3) _ _ _ _ _ (rw (text-is r p 1, text-is r p 4))
-    (cmd-or (eqb b 4) _ _ _ _ _ (rw (text-is r p 1, w-is r p 4, flag-is r p 8, option-is r p 9))
-    (cmd-or (eqb b 5) _ _ _ _ _ (rw (text-is r p 1, v-is r p 4, option-is r p 12))
-    (cmd-or (eqb b 6) _ _ _ _ _ (rw (text-is r p 1, w-is r p 4, option-is r p 8))
-    (cmd-or (eqb b 7) _ _ _ _ _ (rw (text-is r p 1, w-is r p 4, count-is r p 8, option-is r p 13))
-    (cmd-or (eqb b 8) _ _ _ _ _ (rw (text-is r p 1, option-is r p 4, option-is r p 7))
-    (cmd-or (eqb b 9) _ _ _ _ _ (rw (text-is r p 1, text-is r p 4, text-is r p 7, text-is r p 10, option-is r p 13, flag-is r p 16))
-    (cmd-or (eqb b 10) _ _ _ _ _ (rw (text-is r p 1))
-    (cmd-or (eqb b 11) _ _ _ _ _ (rw (text-is r p 1, text-is r p 4, option-is r p 7, option-is r p 10, count-is r p 13, count-is r p 18, count-is r p 23, count-is r p 28))
-    (cmd-or (eqb b 12) _ _ _ _ _ (rw (text-is r p 1, option-is r p 4))
-    (cmd-or (eqb b 13) _ _ _ _ _ (rw (text-is r p 1, option-is r p 4))
-    (rw (text-is r p 1, w-is r p 4))))))))))))))
-
--- widths
-wide : Option (List Op) → ℕ
-wide none = 0
-wide (some os) = 1 + widths os
-
-wide-or : (t : Bool) (x y : Option (List Op)) (a b : ℕ) → wide x ≡ a → wide y ≡ b → wide (cond t x y) ≡ pick t a b
-wide-or true x y a b e f = e
-wide-or false x y a b e f = f
-
-width-is : (b : ℕ) → eqb b 15 ≡ false → wide (operands b) ≡ widthOf b
-unfolding operands widthOf wide widths width
-width-is b e =
-    wide-or (eqb b 1) _ _ _ _ refl
-    (wide-or (eqb b 2) _ _ _ _ refl
-    (wide-or (eqb b 3) _ _ _ _ refl
-    (wide-or (eqb b 4) _ _ _ _ refl
-    (wide-or (eqb b 5) _ _ _ _ refl
-    (wide-or (eqb b 6) _ _ _ _ refl
-    (wide-or (eqb b 7) _ _ _ _ refl
-    (wide-or (eqb b 8) _ _ _ _ refl
-    (wide-or (eqb b 9) _ _ _ _ refl
-    (wide-or (eqb b 10) _ _ _ _ refl
-    (wide-or (eqb b 11) _ _ _ _ refl
-    (wide-or (eqb b 12) _ _ _ _ refl
-    (wide-or (eqb b 13) _ _ _ _ refl
-    (wide-or (eqb b 14) _ _ _ _ refl
-    (rw e))))))))))))))
-
--- a judgement that lets a command pass
-module _ (b : Bool) (n : Refusal) (x : Next) where
-  guard-width : (w : ℕ) → guard b n x ≡ width-of w → (b ≡ true) × (x ≡ width-of w)
-  unfolding guard
-  guard-width w h = go b refl h
+module _ (side : Side) (s : Str) (n : ℕ) (c : Cursor) (j : Judged) (l : Lets j) where
+  pub passed : judgedAt side s n c ≡ j → Passed side s n c j
+  unfolding judgedAt judgedWith
+  passed e = past (ltb (c .at) (length s)) refl e
     where
-      go : (c : Bool) → b ≡ c → guard c n x ≡ width-of w → (b ≡ true) × (x ≡ width-of w)
-      go true e h = (e, h)
-      go false e h = absurd (let z : _≡_ {A = ℕ} 0 1 = cc in omega arith)
+      past : (b : Bool) → ltb (c .at) (length s) ≡ b → cond b (judgedAs side s n c (getD s (c .at) 0) (operands (getD s (c .at) 0))) (Refused R.Cut (c .at)) ≡ j → Passed side s n c j
+      past false q h = absurd (subst Lets (sym h) l)
+      past true q h = row (operands (getD s (c .at) 0)) refl h
+        where
+          row : (o : Option Str) → operands (getD s (c .at) 0) ≡ o → judgedAs side s n c (getD s (c .at) 0) o ≡ j → Passed side s n c j
+          row none q2 h = absurd (subst Lets (sym h) l)
+          row (some os) q2 h = cut (ltb (length s - c .at) (1 + widths os)) refl (mayStand c (getD s (c .at) 0)) refl (faultsFrom side n (drop (c .at) s) 1 os) refl h
+            where
+              cut : (b : Bool) → ltb (length s - c .at) (1 + widths os) ≡ b → (t : Bool) → mayStand c (getD s (c .at) 0) ≡ t → (f : Fault) → faultsFrom side n (drop (c .at) s) 1 os ≡ f
+                  → cond b (Refused R.Cut (c .at)) (cond t (faulted (c .at) (ready s c (getD s (c .at) 0) (1 + widths os)) f) (Refused R.Misplaced (c .at))) ≡ j → Passed side s n c j
+              cut true q3 t q4 f q5 h = absurd (subst Lets (sym h) l)
+              cut false q3 false q4 f q5 h = absurd (subst Lets (sym h) l)
+              cut false q3 true q4 Outside q5 h = absurd (subst Lets (sym h) l)
+              cut false q3 true q4 Missing q5 h = absurd (subst Lets (sym h) l)
+              cut false q3 true q4 Flag q5 h = absurd (subst Lets (sym h) l)
+              cut false q3 true q4 Fine q5 h = record {
+                row = os;
+                inside = ltb-true (c .at) (length s) q;
+                has-row = q2;
+                whole = ltb-false (length s - c .at) (1 + widths os) q3;
+                stands = q4;
+                fine = q5;
+                is-ready = h;
+              }
 
-  guard-ended : guard b n x ≡ ended → (b ≡ true) × (x ≡ ended)
-  unfolding guard
-  guard-ended h = go b refl h
-    where
-      go : (c : Bool) → b ≡ c → guard c n x ≡ ended → (b ≡ true) × (x ≡ ended)
-      go true e h = (e, h)
-      go false e h = absurd (let z : _≡_ {A = ℕ} 0 1 = cc in omega arith)
+-- the unjudged cursor finds the same command
+record Taken (s : Str) (c : Cursor) (b w : ℕ) (d : Command) (k : Cursor) : Type 0 where
+  going : b ≡ 15 → ⊥
+  that : commandOf b (drop (c .at) s) ≡ d
+  next : moved c b w ≡ k
 
-record Moves (b p w n : ℕ) : Type 0 where
-  known : widthOf b ≡ w
-  some-bytes : w ≡ 0 → ⊥
-  inside : p + w ≤ n
-
-last-width : (t : Bool) (v w : ℕ) → cond t ended (width-of v) ≡ width-of w → (t ≡ false) × (v ≡ w)
-last-width true v w h = absurd (let z : _≡_ {A = ℕ} 0 1 = cc in omega arith)
-last-width false v w h = (refl, cc)
-
-last-ended : (t : Bool) (v : ℕ) → cond t ended (width-of v) ≡ ended → t ≡ true
-last-ended true v h = refl
-last-ended false v h = absurd (let z : _≡_ {A = ℕ} 0 1 = cc in omega arith)
-
-module _ (side : Side) (r : Rec) (a : At) (b p : ℕ) where
-  judged : (o : Option (List Op)) (w : ℕ) → operands b ≡ o → judge side r a b p o ≡ width-of w → Moves b p w (length (r .stream))
-  unfolding judge wide
-  judged none w e h = absurd (let z : _≡_ {A = ℕ} 0 1 = cc in omega arith)
-  judged (some os) w e h =
-      let h1 = guard-width _ _ _ w h in
-      let h2 = guard-width _ _ _ w (h1 .1) in
-      let h3 = guard-width _ _ _ w (h2 .1) in
-      let h4 = guard-width _ _ _ w (h3 .1) in
-      let h5 = guard-width _ _ _ w (h4 .1) in
-      let l = last-width (eqb b 15) (1 + widths os) w (h5 .1) in
-      let q : p + 1 + widths os ≤ length (r .stream) = leb-true _ _ (h1 .0) in
-      let v : 1 + widths os ≡ w = l .1 in
-      let k : wide (some os) ≡ widthOf b = sym (ap wide e) ∙ width-is b (l .0) in
-      record { known = sym k ∙ v; some-bytes = λ z. omega arith; inside = omega arith }
-
-  judged-end : (o : Option (List Op)) → judge side r a b p o ≡ ended → b ≡ 15
-  unfolding judge
-  judged-end none h = absurd (let z : _≡_ {A = ℕ} 0 1 = cc in omega arith)
-  judged-end (some os) h =
-      let h1 = guard-ended _ _ _ h in
-      let h2 = guard-ended _ _ _ (h1 .1) in
-      let h3 = guard-ended _ _ _ (h2 .1) in
-      let h4 = guard-ended _ _ _ (h3 .1) in
-      let h5 = guard-ended _ _ _ (h4 .1) in
-      eqb-true b 15 (last-ended (eqb b 15) (1 + widths os) (h5 .1))
-
-module _ (side : Side) (r : Rec) (a : At) (p : ℕ) where
-  step-is : (w : ℕ) → nextAt side r a p ≡ width-of w → stepAt (r .stream) p ≡ T.Next (commandOf (byteAt (r .stream) p) (drop p (r .stream))) (record { at = p + w })
-  unfolding nextAt stepAt byteAt
-  step-is w h =
-      let g = guard-width _ _ _ w h in
-      let m = judged side r a (byteAt (r .stream) p) p (operands (byteAt (r .stream) p)) w refl (g .1) in
-      let i = m .inside in
-      rw (g .0, m .known, ne-eqb w 0 (m .some-bytes), le-ltb (length (r .stream) - p) w (omega arith))
-
-  stop-is : nextAt side r a p ≡ ended → stepAt (r .stream) p ≡ T.Stop
-  unfolding nextAt stepAt byteAt widthOf
-  stop-is h =
-      let g = guard-ended _ _ _ h in
-      let m : getD (r .stream) p 0 ≡ 15 = judged-end side r a (byteAt (r .stream) p) p (operands (byteAt (r .stream) p)) (g .1) in
-      rw (g .0, m)
-
-record Rest (x : Placed) (c : Parsed) (cs : List Placed) : Type 0 where
-  more : List Placed
-  parsed-so : c ≡ ok more
-  whole : cs ≡ x ∷ more
-
-onto-ok : (x : Placed) (c : Parsed) (cs : List Placed) → onto x c ≡ ok cs → Rest x c cs
-unfolding onto
-onto-ok x (ok ds) cs h = record { more = ds; parsed-so = refl; whole = sym cc }
-onto-ok x (bad n q) cs h = absurd (let z : _≡_ {A = ℕ} 0 1 = cc in omega arith)
-
-closing-ok : (b : Bool) (p : ℕ) (cs : List Placed) → closing b p ≡ ok cs → cs ≡ []
-unfolding closing
-closing-ok true p cs h = sym cc
-closing-ok false p cs h = absurd (let z : _≡_ {A = ℕ} 0 1 = cc in omega arith)
-
-pub parse-is : (k : ℕ) (side : Side) (r : Rec) (a : At) (p : ℕ) (cs : List Placed) → parse k side r a p ≡ ok cs → cs ≡ commandsAt r p
-unfolding parse after
-parse-is zero side r a p cs h = absurd (let z : _≡_ {A = ℕ} 0 1 = cc in omega arith)
-parse-is (suc k) side r a p cs h = go (parse-is k side r) (nextAt side r a p) refl h
+taken : (s : Str) (c : Cursor) (b w : ℕ) (d : Command) (k : Cursor) → ready s c b w ≡ Next d k → Taken s c b w d k
+unfolding ready
+taken s c b w d k e = go (eqb b 15) refl (eqb (c .at + w) (length s)) e
   where
-    go : ((a : At) (p : ℕ) (cs : List Placed) → parse k side r a p ≡ ok cs → cs ≡ commandsAt r p)
-        → (n : Next) → nextAt side r a p ≡ n → after r p (λ (w : ℕ). parse k side r (moveOn r a p) (p + w)) n ≡ ok cs → cs ≡ commandsAt r p
-    go ih ended e h = closing-ok _ p cs h ∙ sym (commands-stop r p (stop-is side r a p e))
-    go ih (refused n) e h = absurd (let z : _≡_ {A = ℕ} 0 1 = cc in omega arith)
-    go ih (width-of w) e h =
-        let t = onto-ok _ _ cs h in
-        t .whole
-        ∙ ap₂ (λ (c : Cmd) (l : List Placed). record { place = p; cmd = c } ∷ l) (sym (command-is r (byteAt (r .stream) p) p)) (ih _ (p + w) (t .more) (t .parsed-so))
-        ∙ sym (commands-next r p _ _ (step-is side r a p w e))
+    go : (t : Bool) → eqb b 15 ≡ t → (u : Bool) → cond t (cond u Done (Refused R.Misplaced (c .at + w))) (Next (commandOf b (drop (c .at) s)) (moved c b w)) ≡ Next d k → Taken s c b w d k
+    go true q true h = absurd (let z : _≡_ {A = ℕ} 0 1 = cc in omega arith)
+    go true q false h = absurd (let z : _≡_ {A = ℕ} 0 1 = cc in omega arith)
+    go false q u h = record { going = eqb-false b 15 q; that = cc; next = cc }
 
-vast-ok : {X : Type 0} (o : Option X) (s t : Schema) (f : X → ℕ) (n : Refusal) → elim o [ none ↦ read s | some x ↦ refuse n (f x) ] ≡ read t → s ≡ t
-vast-ok none s t f n h = cc
-vast-ok (some x) s t f n h = absurd (let z : _≡_ {A = ℕ} 0 1 = cc in omega arith)
+ended : (s : Str) (c : Cursor) (b w : ℕ) → ready s c b w ≡ Done → b ≡ 15
+unfolding ready
+ended s c b w e = go (eqb b 15) refl (eqb (c .at + w) (length s)) e
+  where
+    go : (t : Bool) → eqb b 15 ≡ t → (u : Bool) → cond t (cond u Done (Refused R.Misplaced (c .at + w))) (Next (commandOf b (drop (c .at) s)) (moved c b w)) ≡ Done → b ≡ 15
+    go true q u h = eqb-true b 15 q
+    go false q u h = absurd (let z : _≡_ {A = ℕ} 0 1 = cc in omega arith)
 
-concluded : (b : Bool) (o : Option ℕ) (c : Parsed) (ds : List Placed) (s : Schema) → ((cs : List Placed) → c ≡ ok cs → cs ≡ ds) → conclude b o c ≡ read s → build ds .schema ≡ s
-unfolding conclude vastOr
-concluded false o c ds s f h = absurd (let z : _≡_ {A = ℕ} 0 1 = cc in omega arith)
-concluded true (some i) c ds s f h = absurd (let z : _≡_ {A = ℕ} 0 1 = cc in omega arith)
-concluded true none (bad n p) ds s f h = absurd (let z : _≡_ {A = ℕ} 0 1 = cc in omega arith)
-concluded true none (ok cs) ds s f h =
-    ap (λ (l : List Placed). build l .schema) (sym (f cs refl)) ∙ vast-ok (find (vast (build cs .schema)) (build cs .opened)) (build cs .schema) s (λ t. t .place) _ h
+module _ (side : Side) (s : Str) (n : ℕ) (c : Cursor) where
+  pub judged-step : (d : Command) (k : Cursor) → judgedAt side s n c ≡ Next d k → stepAt s (c .at) ≡ S.Next d (place (k .at))
+  unfolding stepAt widthOf widthWith
+  judged-step d k e =
+      let p = passed side s n c (Next d k) tt e in
+      let t = taken s c (getD s (c .at) 0) (1 + widths (p .row)) d k (p .is-ready) in
+      let w = p .whole in
+      let z : 1 + widths (p .row) ≡ 0 → ⊥ = λ q. omega arith in
+      let n : c .at + (1 + widths (p .row)) ≡ k .at = ap (λ (j : Cursor). j .at) (t .next) in
+      rw (lt-ltb (c .at) (length s) (p .inside), ne-eqb (getD s (c .at) 0) 15 (t .going), p .has-row, ne-eqb (1 + widths (p .row)) 0 z, le-ltb (length s - c .at) (1 + widths (p .row)) w, t .that, n)
 
--- THE BRIDGE: what the look-ups and passes speak of is the schema of an accepted record, on either side
-pub accepted : (side : Side) (r : Rec) (s : Schema) → reading side r ≡ read s → schemaOf r ≡ s
-unfolding reading parsed schemaOf partAt
-accepted side r s h = concluded _ _ _ (commandsAt r 0) s (λ cs. parse-is _ side r _ 0 cs) h
+  pub judged-stop : judgedAt side s n c ≡ Done → stepAt s (c .at) ≡ S.Stop
+  unfolding stepAt
+  judged-stop e =
+      let p = passed side s n c Done tt e in
+      let q = ended s c (getD s (c .at) 0) (1 + widths (p .row)) (p .is-ready) in
+      rw (lt-ltb (c .at) (length s) (p .inside), q)
+
+pub record Rest (at : ℕ) (x : Parsed) (ps : List ℕ) : Type 0 where
+  pub more : List ℕ
+  pub parsed-so : x ≡ ok more
+  pub whole : at ∷ more ≡ ps
+
+pub onto-ok : (at : ℕ) (x : Parsed) (ps : List ℕ) → onto at x ≡ ok ps → Rest at x ps
+unfolding onto
+onto-ok at (ok ds) ps h = record { more = ds; parsed-so = refl; whole = cc }
+onto-ok at (bad n q) ps h = absurd (let z : _≡_ {A = ℕ} 0 1 = cc in omega arith)
+
+pub parse-is : (k : ℕ) (side : Side) (s : Str) (n : ℕ) (c : Cursor) (ps : List ℕ) → parse k side s n c ≡ ok ps → ps ≡ commandsAt s (c .at)
+unfolding parse continued
+parse-is zero side s n c ps h = absurd (let z : _≡_ {A = ℕ} 0 1 = cc in omega arith)
+parse-is (suc k) side s n c ps h = go (parse-is k side s n) (judgedAt side s n c) refl h
+  where
+    go : ((d : Cursor) (qs : List ℕ) → parse k side s n d ≡ ok qs → qs ≡ commandsAt s (d .at)) → (j : Judged) → judgedAt side s n c ≡ j → continued (c .at) (parse k side s n) j ≡ ok ps → ps ≡ commandsAt s (c .at)
+    go ih (Next d j) e h =
+        let t = onto-ok (c .at) (parse k side s n j) ps h in
+        sym (t .whole) ∙ ap (λ (l : List ℕ). c .at ∷ l) (ih j (t .more) (t .parsed-so)) ∙ sym (commands-next s (c .at) d (place (j .at)) (judged-step side s n c d j e))
+    go ih Done e h =
+        let z : ps ≡ [] = sym cc in
+        z ∙ sym (commands-stop s (c .at) (judged-stop side s n c e))
+    go ih (Refused r p) e h = absurd (let z : _≡_ {A = ℕ} 0 1 = cc in omega arith)
+
+pub parsed-is : (side : Side) (r : Rec) (ps : List ℕ) → parsed side r ≡ ok ps → ps ≡ commandsAt (r .stream) 0
+unfolding parsed
+parsed-is side r ps e = parse-is (length (r .stream) + 1) side (r .stream) (length (r .pool)) start ps e
+
+-- what an accepted reading has passed
+pub record Accepted (side : Side) (r : Rec) (t : Schema) : Type 0 where
+  pub parsed-all : parsed side r ≡ ok (commandsAt (r .stream) 0)
+  pub none-vast : find (vast t) (opened (r .stream) (r .pool) (commandsAt (r .stream) 0)) ≡ none
+  pub is-schema : schemaOf r ≡ t
+
+pub accepting : (side : Side) (r : Rec) (t : Schema) → reading side r ≡ read t → Accepted side r t
+unfolding reading concluded sizesOf vastOr schemaOf
+accepting side r t h = go (leb (length (r .stream)) streamLimit && leb (length (r .pool)) poolLimit) (oddLetter 0 (r .pool)) (parsed side r) refl h
+  where
+    last : (ps : List ℕ) → parsed side r ≡ ok ps → ps ≡ commandsAt (r .stream) 0 → (o : Option Opened)
+        → find (vast (schemaFrom r ps)) (opened (r .stream) (r .pool) ps) ≡ o → vastOr (schemaFrom r ps) o ≡ read t → Accepted side r t
+    last ps e q none f h =
+        let i : schemaFrom r ps ≡ t = cc in
+        record {
+          parsed-all = e ∙ ap ok q;
+          none-vast = sym (ap (λ (l : List ℕ). find (vast t) (opened (r .stream) (r .pool) l)) q) ∙ sym (ap (λ (x : Schema). find (vast x) (opened (r .stream) (r .pool) ps)) i) ∙ f;
+          is-schema = ap (schemaFrom r) (sym q) ∙ i;
+        }
+    last ps e q (some x) f h = absurd (let z : _≡_ {A = ℕ} 0 1 = cc in omega arith)
+
+    go : (b : Bool) (l : Letters) (x : Parsed) → parsed side r ≡ x → concluded r b l x ≡ read t → Accepted side r t
+    go false l x e h = absurd (let z : _≡_ {A = ℕ} 0 1 = cc in omega arith)
+    go true (Odd i) x e h = absurd (let z : _≡_ {A = ℕ} 0 1 = cc in omega arith)
+    go true Good (bad n p) e h = absurd (let z : _≡_ {A = ℕ} 0 1 = cc in omega arith)
+    go true Good (ok ps) e h = last ps e (parsed-is side r ps e) (find (vast (schemaFrom r ps)) (opened (r .stream) (r .pool) ps)) refl h
+
+-- the judged reading and the unjudged schema: on either side, an accepted record is read as its schema
+pub accepted : (side : Side) (r : Rec) (t : Schema) → reading side r ≡ read t → schemaOf r ≡ t
+accepted side r t h = accepting side r t h .is-schema

@@ -1,6 +1,7 @@
 -- The cases of each definition, as the code's branches need them.
 use Prim.Native.Nat.{ℕ, zero, suc, _+_, _-_, _≤_, _<_}
 use mathlib.Core.List.{List, [], _∷_}
+use mathlib.Core.Option.{none}
 use mathlib.Core.Bool.{Bool, true, false}
 use mathlib.Core.Path.{_≡_, refl, sym, ap, _∙_}
 use native.Mathlib.Omega.{arith}
@@ -15,11 +16,13 @@ use Rattle.record.specs.declared.operands.OptText.the-variants.{Absent, 
 use Rattle.record.specs.declared.operands.OptNumber.{OptNumber}
 use Rattle.record.specs.declared.operands.OptNumber.the-variants.{Missing, Number}
 use Rattle.record.specs.declared.command.Command.{Command}
-use Rattle.record.specs.declared.command.Command.the-variants.{Member}
+use Rattle.record.specs.declared.command.Command.the-variants as C
+use Rattle.record.specs.declared.command.Version.{Version}
 use Rattle.record.specs.declared.command.Step.{Step}
 use Rattle.record.specs.declared.command.Step.the-variants.{Next, Stop}
 use Rattle.record.specs.Operands.{textAt, optText, optTextAt, flagAt, optNumberAt}
-use Rattle.record.specs.Steps.{widthOf, commandOf, stepAt, memberOf, versionOf}
+use Rattle.record.specs.Base.{bytes}
+use Rattle.record.specs.Commands.{operands, widthWith, widthOf, commandOf, stepAt, place, versionAt}
 
 module _ (s : List ℕ) (at : ℕ) where
   pub text-here : (a b : ℕ) → a ≡ u16At s at → b ≡ getD s (at + 2) 0 → _≡_ {A = Text} (record { start = a; len = b }) (textAt s at)
@@ -56,32 +59,39 @@ module _ (s : List ℕ) (at : ℕ) where
 pub ruleset operand-laws = (text-here, text-past, opt-absent, opt-long, opt-given, number-here, number-none, number-past)
 
 -- a number that is none of the commands'
-pub none-width : (b : ℕ) → (b ≡ 1 → ⊥) → (b ≡ 2 → ⊥) → (b ≡ 3 → ⊥) → (b ≡ 4 → ⊥) → (b ≡ 5 → ⊥) → (b ≡ 6 → ⊥) → (b ≡ 7 → ⊥) → (b ≡ 8 → ⊥) → (b ≡ 9 → ⊥) → (b ≡ 10 → ⊥) → (b ≡ 11 → ⊥) → (b ≡ 12 → ⊥) → (b ≡ 13 → ⊥) → (b ≡ 14 → ⊥) → 0 ≡ widthOf b
-unfolding widthOf
-none-width b h1 h2 h3 h4 h5 h6 h7 h8 h9 h10 h11 h12 h13 h14 = rw (ne-eqb b 1 h1, ne-eqb b 2 h2, ne-eqb b 3 h3, ne-eqb b 4 h4, ne-eqb b 5 h5, ne-eqb b 6 h6, ne-eqb b 7 h7, ne-eqb b 8 h8, ne-eqb b 9 h9, ne-eqb b 10 h10, ne-eqb b 11 h11, ne-eqb b 12 h12, ne-eqb b 13 h13, ne-eqb b 14 h14)
+pub none-operands : (b : ℕ) → (b ≡ 1 → ⊥) → (b ≡ 2 → ⊥) → (b ≡ 3 → ⊥) → (b ≡ 4 → ⊥) → (b ≡ 5 → ⊥) → (b ≡ 6 → ⊥) → (b ≡ 7 → ⊥) → (b ≡ 8 → ⊥) → (b ≡ 9 → ⊥) → (b ≡ 10 → ⊥) → (b ≡ 11 → ⊥) → (b ≡ 12 → ⊥) → (b ≡ 13 → ⊥) → (b ≡ 14 → ⊥) → (b ≡ 15 → ⊥) → operands b ≡ none
+unfolding operands
+none-operands b h1 h2 h3 h4 h5 h6 h7 h8 h9 h10 h11 h12 h13 h14 h15 = rw (ne-eqb b 1 h1, ne-eqb b 2 h2, ne-eqb b 3 h3, ne-eqb b 4 h4, ne-eqb b 5 h5, ne-eqb b 6 h6, ne-eqb b 7 h7, ne-eqb b 8 h8, ne-eqb b 9 h9, ne-eqb b 10 h10, ne-eqb b 11 h11, ne-eqb b 12 h12, ne-eqb b 13 h13, ne-eqb b 14 h14, ne-eqb b 15 h15)
 
-pub else-command : (b : ℕ) (s : List ℕ) (r : Command) → (b ≡ 1 → ⊥) → (b ≡ 2 → ⊥) → (b ≡ 3 → ⊥) → (b ≡ 4 → ⊥) → (b ≡ 5 → ⊥) → (b ≡ 6 → ⊥) → (b ≡ 7 → ⊥) → (b ≡ 8 → ⊥) → (b ≡ 9 → ⊥) → (b ≡ 10 → ⊥) → (b ≡ 11 → ⊥) → (b ≡ 12 → ⊥) → (b ≡ 13 → ⊥) → r ≡ versionOf s → r ≡ commandOf b s
+pub none-width : (b : ℕ) → (b ≡ 1 → ⊥) → (b ≡ 2 → ⊥) → (b ≡ 3 → ⊥) → (b ≡ 4 → ⊥) → (b ≡ 5 → ⊥) → (b ≡ 6 → ⊥) → (b ≡ 7 → ⊥) → (b ≡ 8 → ⊥) → (b ≡ 9 → ⊥) → (b ≡ 10 → ⊥) → (b ≡ 11 → ⊥) → (b ≡ 12 → ⊥) → (b ≡ 13 → ⊥) → (b ≡ 14 → ⊥) → (b ≡ 15 → ⊥) → 0 ≡ widthOf b
+unfolding widthOf widthWith
+none-width b h1 h2 h3 h4 h5 h6 h7 h8 h9 h10 h11 h12 h13 h14 h15 = rw (none-operands b h1 h2 h3 h4 h5 h6 h7 h8 h9 h10 h11 h12 h13 h14 h15)
+
+pub else-command : (b : ℕ) (x : List ℕ) (r : Version) → (b ≡ 1 → ⊥) → (b ≡ 2 → ⊥) → (b ≡ 3 → ⊥) → (b ≡ 4 → ⊥) → (b ≡ 5 → ⊥) → (b ≡ 6 → ⊥) → (b ≡ 7 → ⊥) → (b ≡ 8 → ⊥) → (b ≡ 9 → ⊥) → (b ≡ 10 → ⊥) → (b ≡ 11 → ⊥) → (b ≡ 12 → ⊥) → (b ≡ 13 → ⊥) → r ≡ versionAt x → C.Version r ≡ commandOf b x
 unfolding commandOf
-else-command b s r h1 h2 h3 h4 h5 h6 h7 h8 h9 h10 h11 h12 h13 e = rw (ne-eqb b 1 h1, ne-eqb b 2 h2, ne-eqb b 3 h3, ne-eqb b 4 h4, ne-eqb b 5 h5, ne-eqb b 6 h6, ne-eqb b 7 h7, ne-eqb b 8 h8, ne-eqb b 9 h9, ne-eqb b 10 h10, ne-eqb b 11 h11, ne-eqb b 12 h12, ne-eqb b 13 h13) e
+else-command b x r h1 h2 h3 h4 h5 h6 h7 h8 h9 h10 h11 h12 h13 e = rw (ne-eqb b 1 h1, ne-eqb b 2 h2, ne-eqb b 3 h3, ne-eqb b 4 h4, ne-eqb b 5 h5, ne-eqb b 6 h6, ne-eqb b 7 h7, ne-eqb b 8 h8, ne-eqb b 9 h9, ne-eqb b 10 h10, ne-eqb b 11 h11, ne-eqb b 12 h12, ne-eqb b 13 h13, e)
 
 module _ (s : List ℕ) (at : ℕ) where
   pub step-end : length s ≤ at → Stop ≡ stepAt s at
   unfolding stepAt
   step-end h = rw (le-ltb at (length s) h)
 
-  pub step-unknown : (w : ℕ) → at < length s → w ≡ widthOf (getD s at 0) → w ≡ 0 → Stop ≡ stepAt s at
-  unfolding stepAt
-  step-unknown w h e z = rw (lt-ltb at (length s) h, ← e, z)
+  module _ (h : at < length s) where
+    pub step-last : getD s at 0 ≡ 15 → Stop ≡ stepAt s at
+    unfolding stepAt
+    step-last e = rw (lt-ltb at (length s) h, e)
 
-  pub step-cut : (w : ℕ) → at < length s → w ≡ widthOf (getD s at 0) → (w ≡ 0 → ⊥) → length s - at < w → Stop ≡ stepAt s at
-  unfolding stepAt
-  step-cut w h e z k = rw (lt-ltb at (length s) h, ← e, ne-eqb w 0 z, lt-ltb (length s - at) w k)
+    module _ (l : getD s at 0 ≡ 15 → ⊥) (w : ℕ) (e : w ≡ widthOf (getD s at 0)) where
+      pub step-unknown : w ≡ 0 → Stop ≡ stepAt s at
+      unfolding stepAt
+      step-unknown z = rw (lt-ltb at (length s) h, ne-eqb (getD s at 0) 15 l, ← e, z)
 
-  pub step-next : (w : ℕ) (c : Command) → at < length s → w ≡ widthOf (getD s at 0) → (w ≡ 0 → ⊥) → w ≤ length s - at → c ≡ commandOf (getD s at 0) (take (length s - at) (drop at s)) → Next c (record { at = at + w }) ≡ stepAt s at
-  unfolding stepAt
-  step-next w c h e z k f = rw (lt-ltb at (length s) h, ← e, ne-eqb w 0 z, le-ltb (length s - at) w k, f, take-all (length s - at) (drop at s) (rw length-drop (omega arith)))
+      pub step-cut : (w ≡ 0 → ⊥) → length s - at < w → Stop ≡ stepAt s at
+      unfolding stepAt
+      step-cut z k = rw (lt-ltb at (length s) h, ne-eqb (getD s at 0) 15 l, ← e, ne-eqb w 0 z, lt-ltb (length s - at) w k)
 
-pub ruleset step-laws = (step-end, step-unknown, step-cut, step-next)
+      pub step-next : (c : Command) → (w ≡ 0 → ⊥) → w ≤ length s - at → c ≡ commandOf (getD s at 0) (take (length s - at) (drop at s)) → Next c (place (at + w)) ≡ stepAt s at
+      unfolding stepAt
+      step-next c z k f = rw (lt-ltb at (length s) h, ne-eqb (getD s at 0) 15 l, ← e, ne-eqb w 0 z, le-ltb (length s - at) w k, f, take-all (length s - at) (drop at s) (rw length-drop (omega arith)))
 
-pub field-here : (s : List ℕ) (a b : Text) (c d : OptText) (e f g h : OptNumber) → a ≡ textAt s 1 → b ≡ textAt s 4 → c ≡ optTextAt s 7 → d ≡ optTextAt s 10 → e ≡ optNumberAt s 13 → f ≡ optNumberAt s 18 → g ≡ optNumberAt s 23 → h ≡ optNumberAt s 28 → Member (record { name = a; kind = b; «type_name» = c; element = d; count = e; rows = f; cols = g; size = h }) ≡ memberOf s
-field-here s a b c d e f g h p q r t u v w x = cc
+pub ruleset step-laws = (step-end, step-last, step-unknown, step-cut, step-next)

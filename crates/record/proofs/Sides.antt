@@ -1,82 +1,98 @@
 -- A record that can be read as current reads the same as released. Assumes nothing.
-use mathlib.Core.Path.{_≡_, refl, sym, _∙_, ap, subst}
+use mathlib.Core.Path.{_≡_, refl, sym, _∙_, ap}
 use mathlib.Core.List.{List, [], _∷_}
-use mathlib.Core.Option.{Option, none, some}
-use mathlib.Core.Bool.{Bool, true, false, _&&_, cond, false≢true}
-use Prim.Native.Nat.{ℕ, zero, suc, _+_}
+use mathlib.Core.Bool.{Bool, true, false, cond}
+use Prim.Native.Nat.{ℕ, zero, suc, _+_, _-_}
 use native.Mathlib.Omega.{arith}
-use lib.Dec.{eqb, leb, ltb}
-use lib.ListN.{length}
-use Rattle.record.specs.Refusals.{Refusal, r·cut, r·misplaced, r·outside, r·missing}
+use lib.Dec.{eqb}
+use lib.ListN.{length, getD, drop}
+use borrow.Author.Tests.{lt-ltb, le-ltb}
 use Rattle.record.specs.Base.{Str}
 use Rattle.record.specs.Schema.{Schema}
-use Rattle.record.specs.Reader.{Rec, Side, current, released, Op, T, O, R, F, W, V₈, N, width, widths, operands, byteAt, textOk, presentOk, flagOk, allOk, textGiven, At, mayStand, Next, ended, refused, width-of, guard, judge, nextAt, Placed, Parsed, ok, bad, onto, closing, after, moveOn, parse}
-use Rattle.record.specs.Build.{Reading, read, refuse, conclude, parsed, reading, build, vastOr, strange}
-use Rattle.record.proofs.Basics.{both}
+use Rattle.record.specs.Operands.{flagAt, optTextAt}
+use Rattle.record.specs.Commands.{wide, widths, start, commandsAt}
+use Rattle.record.specs.Judge.{worseOf, missingIn, ifAbsent, textFault, flagFault, operandFault, faultsFrom, ready, judgedWith, judgedAt}
+use Rattle.record.specs.Reading.{Rec, Reading, read, Parsed, ok, bad, continued, onto, parse, parsed, concluded, reading}
+use Rattle.record.specs.declared.operands.OptText.{OptText}
+use Rattle.record.specs.declared.operands.OptText.the-variants.{Absent, Given}
+use Rattle.record.specs.declared.command.Cursor.{Cursor}
+use Rattle.record.specs.declared.refusal.Side.the-variants.{Current, Released}
+use Rattle.record.specs.declared.judge.Fault.{Fault}
+use Rattle.record.specs.declared.judge.Fault.the-variants.{Fine, Outside, Missing, Flag}
+use Rattle.record.specs.declared.judge.Judged.{Judged}
+use Rattle.record.specs.declared.judge.Judged.the-variants.{Next, Done, Refused}
+use Rattle.record.proofs.Accepted.{Lets, passed, onto-ok, accepting}
 
-present-released : (r : Rec) (p : ℕ) (os : List Op) → allOk (presentOk released r) p os ≡ true
-unfolding allOk presentOk
-present-released r p [] = refl
-present-released r p (o ∷ os) = present-released r (p + width o) os
+worse-both : (a b : Fault) → worseOf a b ≡ Fine → (a ≡ Fine) × (b ≡ Fine)
+worse-both Fine b e = (refl, e)
+worse-both Outside b e = absurd (let z : _≡_ {A = ℕ} 0 1 = cc in omega arith)
+worse-both Missing Fine e = absurd (let z : _≡_ {A = ℕ} 0 1 = cc in omega arith)
+worse-both Missing Outside e = absurd (let z : _≡_ {A = ℕ} 0 1 = cc in omega arith)
+worse-both Missing Missing e = absurd (let z : _≡_ {A = ℕ} 0 1 = cc in omega arith)
+worse-both Missing Flag e = absurd (let z : _≡_ {A = ℕ} 0 1 = cc in omega arith)
+worse-both Flag Fine e = absurd (let z : _≡_ {A = ℕ} 0 1 = cc in omega arith)
+worse-both Flag Outside e = absurd (let z : _≡_ {A = ℕ} 0 1 = cc in omega arith)
+worse-both Flag Missing e = absurd (let z : _≡_ {A = ℕ} 0 1 = cc in omega arith)
+worse-both Flag Flag e = absurd (let z : _≡_ {A = ℕ} 0 1 = cc in omega arith)
 
-abbrev Fine : Next → Type 0
-Fine ended = Unit {0}
-Fine (refused n) = ⊥
-Fine (width-of w) = Unit {0}
-
-guard-go : (b c : Bool) (n : Refusal) (x y z : Next) → Fine z → (b ≡ true → c ≡ true) → (x ≡ z → y ≡ z) → guard b n x ≡ z → guard c n y ≡ z
-unfolding guard
-guard-go true c n x y z f g h e = rw (g refl) (h e)
-guard-go false c n x y z f g h e = absurd (subst Fine (sym e) f)
-
-judge-side : (r : Rec) (a : At) (b p : ℕ) (o : Option (List Op)) (z : Next) → Fine z → judge current r a b p o ≡ z → judge released r a b p o ≡ z
-unfolding judge
-judge-side r a b p none z f e = e
-judge-side r a b p (some os) z f e =
-    guard-go _ _ r·cut _ _ z f (λ t. t)
-    (guard-go _ _ r·misplaced _ _ z f (λ t. t)
-    (guard-go _ _ r·outside _ _ z f (λ t. t)
-    (guard-go _ _ r·missing _ _ z f (λ t. rw (present-released r (p + 1) os) (both (allOk (presentOk current r) (p + 1) os) (textGiven r b p) t .1))
-    (λ t. t)))) e
-
-next-side : (r : Rec) (a : At) (p : ℕ) (z : Next) → Fine z → nextAt current r a p ≡ z → nextAt released r a p ≡ z
-unfolding nextAt
-next-side r a p z f e = guard-go _ _ r·cut _ _ z f (λ t. t) (judge-side r a _ p _ z f) e
-
-bad-ok : {n : Refusal} {p : ℕ} {cs : List Placed} → bad n p ≡ ok cs → ⊥
-bad-ok e = let z : _≡_ {A = ℕ} 0 1 = cc in omega arith
-
-onto-ok : (c : Placed) (x : Parsed) (cs : List Placed) → onto c x ≡ ok cs → (ds : List Placed) × (x ≡ ok ds) × (c ∷ ds ≡ cs)
-unfolding onto
-onto-ok c (ok ds) cs h = (ds, refl, cc)
-onto-ok c (bad n p) cs h = absurd (let z : _≡_ {A = ℕ} 0 1 = cc in omega arith)
-
-parse-side : (k : ℕ) (r : Rec) (a : At) (p : ℕ) (cs : List Placed) → parse k current r a p ≡ ok cs → parse k released r a p ≡ ok cs
-unfolding parse after onto
-parse-side zero r a p cs h = h
-parse-side (suc k) r a p cs h =
-    go (nextAt current r a p) refl (λ w ds e. parse-side k r (moveOn r a p) (p + w) ds e) h
+-- only the "!" of an absent text tells the sides apart
+absent-side : (x : Str) (o : ℕ) → ifAbsent Current x o ≡ Fine → ifAbsent Released x o ≡ Fine
+unfolding ifAbsent
+absent-side x o e = go (eqb o 79) (eqb o 33) e
   where
-    go : (x : Next) → nextAt current r a p ≡ x
-        → ((w : ℕ) (ds : List Placed) → parse k current r (moveOn r a p) (p + w) ≡ ok ds → parse k released r (moveOn r a p) (p + w) ≡ ok ds)
-        → after r p (λ (w : ℕ). parse k current r (moveOn r a p) (p + w)) x ≡ ok cs
-        → after r p (λ (w : ℕ). parse k released r (moveOn r a p) (p + w)) (nextAt released r a p) ≡ ok cs
-    go ended e rec t = rw (next-side r a p ended tt e) t
-    go (refused n) e rec t = absurd (bad-ok t)
-    go (width-of w) e rec t =
-        let i = onto-ok _ (parse k current r (moveOn r a p) (p + w)) cs t in
-        rw (next-side r a p (width-of w) tt e) (rw (rec w (i .0) (i .1)) (ap ok (i .2)))
+    go : (a b : Bool) → cond a Fine (cond b (missingIn Current) (cond (eqb o 63) (cond (flagAt x 4) Missing Fine) Outside)) ≡ Fine
+        → cond a Fine (cond b (missingIn Released) (cond (eqb o 63) (cond (flagAt x 4) Missing Fine) Outside)) ≡ Fine
+    go true b e = refl
+    go false true e = refl
+    go false false e = e
 
-concluded : (b : Bool) (o : Option ℕ) (c : Parsed) (s : Schema) → conclude b o c ≡ read s → (cs : List Placed) × (c ≡ ok cs)
-unfolding conclude
-concluded false o c s h = absurd (let z : _≡_ {A = ℕ} 0 1 = cc in omega arith)
-concluded true (some i) c s h = absurd (let z : _≡_ {A = ℕ} 0 1 = cc in omega arith)
-concluded true none (bad n p) s h = absurd (let z : _≡_ {A = ℕ} 0 1 = cc in omega arith)
-concluded true none (ok cs) s h = (cs, refl)
+text-side : (n : ℕ) (a b : Fault) (t : OptText) → (a ≡ Fine → b ≡ Fine) → textFault n a t ≡ Fine → textFault n b t ≡ Fine
+text-side n a b Absent f e = f e
+text-side n a b (Given t) f e = e
 
-pub one-reading : (r : Rec) (s : Schema) → reading current r ≡ read s → reading released r ≡ read s
+module _ (n : ℕ) (x : Str) where
+  operand-side : (i o : ℕ) → operandFault Current n x i o ≡ Fine → operandFault Released n x i o ≡ Fine
+  unfolding operandFault
+  operand-side i o e = go (eqb o 70) (eqb o 78) (eqb o 87) (eqb o 86) e
+    where
+      go : (a b c d : Bool) → cond a (flagFault (getD x i 0)) (cond b (flagFault (getD x i 0)) (cond c Fine (cond d Fine (textFault n (ifAbsent Current x o) (optTextAt x i))))) ≡ Fine
+          → cond a (flagFault (getD x i 0)) (cond b (flagFault (getD x i 0)) (cond c Fine (cond d Fine (textFault n (ifAbsent Released x o) (optTextAt x i))))) ≡ Fine
+      go true b c d e = e
+      go false true c d e = e
+      go false false true d e = e
+      go false false false true e = e
+      go false false false false e = text-side n (ifAbsent Current x o) (ifAbsent Released x o) (optTextAt x i) (absent-side x o) e
+
+  faults-side : (i : ℕ) (os : Str) → faultsFrom Current n x i os ≡ Fine → faultsFrom Released n x i os ≡ Fine
+  unfolding faultsFrom
+  faults-side i [] e = e
+  faults-side i (o ∷ os) e =
+      let h = worse-both (operandFault Current n x i o) (faultsFrom Current n x (i + wide o) os) e in
+      rw (operand-side i o (h .0), faults-side (i + wide o) os (h .1))
+
+judged-side : (s : Str) (n : ℕ) (c : Cursor) (j : Judged) → Lets j → judgedAt Current s n c ≡ j → judgedAt Released s n c ≡ j
+unfolding judgedAt judgedWith
+judged-side s n c j l e =
+    let p = passed Current s n c j l e in
+    let w = p .whole in
+    rw (lt-ltb (c .at) (length s) (p .inside), p .has-row, le-ltb (length s - c .at) (1 + widths (p .row)) w, p .stands, faults-side n (drop (c .at) s) 1 (p .row) (p .fine)) (p .is-ready)
+
+parse-side : (k : ℕ) (s : Str) (n : ℕ) (c : Cursor) (ps : List ℕ) → parse k Current s n c ≡ ok ps → parse k Released s n c ≡ ok ps
+unfolding parse continued onto
+parse-side zero s n c ps h = h
+parse-side (suc k) s n c ps h = go (judgedAt Current s n c) refl (λ d qs e. parse-side k s n d qs e) h
+  where
+    go : (j : Judged) → judgedAt Current s n c ≡ j → ((d : Cursor) (qs : List ℕ) → parse k Current s n d ≡ ok qs → parse k Released s n d ≡ ok qs)
+        → continued (c .at) (parse k Current s n) j ≡ ok ps → continued (c .at) (parse k Released s n) (judgedAt Released s n c) ≡ ok ps
+    go (Next d k2) e ih t =
+        let i = onto-ok (c .at) (parse k Current s n k2) ps t in
+        rw (judged-side s n c (Next d k2) tt e) (rw (ih k2 (i .more) (i .parsed-so)) (ap ok (i .whole)))
+    go Done e ih t = rw (judged-side s n c Done tt e) t
+    go (Refused m p) e ih t = absurd (let z : _≡_ {A = ℕ} 0 1 = cc in omega arith)
+
+pub one-reading : (r : Rec) (t : Schema) → reading Current r ≡ read t → reading Released r ≡ read t
 unfolding reading parsed
-one-reading r s h =
-    let c = concluded _ (strange 0 (r .pool)) (parsed current r) s h in
-    let e : parsed released r ≡ parsed current r = parse-side _ r _ 0 (c .0) (c .1) ∙ sym (c .1) in
-    ap (conclude _ (strange 0 (r .pool))) e ∙ h
+one-reading r t h =
+    let a = accepting Current r t h in
+    let e : parsed Released r ≡ parsed Current r = parse-side _ (r .stream) (length (r .pool)) start _ (a .parsed-all) ∙ sym (a .parsed-all) in
+    ap (concluded r _ _) e ∙ h

@@ -1,79 +1,271 @@
--- The cases of the sizes. Assumes nothing.
-use mathlib.Core.Path.{_≡_, refl, sym, ap, _∙_}
+-- The cases of the sizes, as the code's branches need them. Assumes nothing.
+use mathlib.Core.Path.{_≡_, refl, sym, ap, ap₂, _∙_}
 use mathlib.Core.List.{List, [], _∷_}
 use mathlib.Core.Option.{Option, none, some}
-use mathlib.Core.Bool.{Bool, true, false}
-use Prim.Native.Nat.{ℕ}
-use Rattle.record.specs.Base.{Str, eqs, bytes}
-use Rattle.record.specs.Schema.{Enum, Alias, BitField}
-use Rattle.record.specs.Shapes.{primSize, enumSize, aliasSize, bitfieldSize, mapOption}
+use mathlib.Core.Bool.{Bool, true, false, cond}
+use Prim.Native.Nat.{ℕ, zero, suc, _+_, _-_, _*_, _/_, _≤_, _<_}
+use native.Mathlib.Nat.{le-mul-of-pos-right, le-div-iff-mul-le, div-lt-iff-lt-mul}
+use native.Mathlib.Omega.{arith}
+use lib.Dec.{leb}
+use borrow.Author.Tests.{le-leb, lt-leb, leb-true, leb-false}
+use Rattle.record.specs.Base.{Str, bytes, eqs, orElse, mapOption}
+use Rattle.record.specs.Scalars.{Scalar, primSize}
+use Rattle.record.specs.Schema.{Schema, Key, Enum, Alias, BitField}
 use Rattle.record.specs.Stretch.{textOf}
-use Rattle.record.specs.Lists.{rec, schemaOf, enumsAt, aliasesAt, bitfieldsAt, numberOf}
-use Rattle.record.specs.Items.{enumIn, enumFound, aliasIn, aliasFound, bitsIn, bitsFound}
+use Rattle.record.specs.Commands.{start}
+use Rattle.record.specs.Lists.{optOf, numberOf, fieldOf}
+use Rattle.record.specs.Steps.{enumIn, enumFound, enumsAt, aliasIn, aliasFound, aliasesAt, bitfieldIn, bitfieldFound, bitfieldsAt}
+use Rattle.record.specs.Kind.{kindOf}
+use Rattle.record.specs.Shapes.{enumSize, aliasSize, bitfieldSize, sized, scalarSize, sizeAs, shapeSize, limit, capped}
+use Rattle.record.specs.Reading.{rec, schemaFrom, schemaOf}
+use Rattle.record.specs.declared.text.Text.{Text}
+use Rattle.record.specs.declared.operands.OptText.{OptText}
+use Rattle.record.specs.declared.operands.OptText.the-variants.{Absent, Given}
+use Rattle.record.specs.declared.operands.OptNumber.{OptNumber}
+use Rattle.record.specs.declared.operands.OptNumber.the-variants.{Missing, Number}
+use Rattle.record.specs.declared.command as D
 use Rattle.record.specs.declared.command.Cursor.{Cursor}
-use Rattle.record.specs.declared.lists.EnumHead.{EnumHead}
+use Rattle.record.specs.declared.kind.Kind.{Kind}
+use Rattle.record.specs.declared.kind.Kind.the-variants as K
 use Rattle.record.specs.declared.lists.EnumStep.{EnumStep}
 use Rattle.record.specs.declared.lists.EnumStep.the-variants.{NoEnum, AnEnum}
-use Rattle.record.specs.declared.lists.AliasItem.{AliasItem}
 use Rattle.record.specs.declared.lists.AliasStep.{AliasStep}
 use Rattle.record.specs.declared.lists.AliasStep.the-variants.{NoAlias, AnAlias}
-use Rattle.record.specs.declared.lists.BitsHead.{BitsHead}
-use Rattle.record.specs.declared.lists.BitsStep.{BitsStep}
-use Rattle.record.specs.declared.lists.BitsStep.the-variants.{NoBits, SomeBits}
+use Rattle.record.specs.declared.lists.BitfieldStep.{BitfieldStep}
+use Rattle.record.specs.declared.lists.BitfieldStep.the-variants.{NoBitfield, ABitfield}
 
--- "u8", "char", "u16", "u32"
-module _ (t : Str) (a : Bool) (p : a ≡ eqs t (117 ∷ 56 ∷ [])) where
-  pub prim-1 : a ≡ true → 1 ≡ primSize t
-  unfolding primSize bytes
-  prim-1 h = rw (← p, h)
+-- sizes as far as the limit ----------------------------------------------------------------------------------------------
 
-  module _ (b : Bool) (q : b ≡ eqs t (99 ∷ 104 ∷ 97 ∷ 114 ∷ [])) (x : a ≡ false) where
-    pub prim-c : b ≡ true → 1 ≡ primSize t
-    unfolding primSize bytes
-    prim-c h = rw (← p, x, ← q, h)
+pub cap-low : (n : ℕ) → n ≤ limit → n ≡ capped n
+unfolding capped
+cap-low n h = rw (le-leb n limit h)
 
-    module _ (c : Bool) (u : c ≡ eqs t (117 ∷ 49 ∷ 54 ∷ [])) (y : b ≡ false) where
-      pub prim-2 : c ≡ true → 2 ≡ primSize t
-      unfolding primSize bytes
-      prim-2 h = rw (← p, x, ← q, y, ← u, h)
+pub cap-high : (n : ℕ) → limit < n → (limit + 1) ≡ capped n
+unfolding capped
+cap-high n h = rw (lt-leb n limit h)
 
-      module _ (d : Bool) (v : d ≡ eqs t (117 ∷ 51 ∷ 50 ∷ [])) (z : c ≡ false) where
-        pub prim-4 : d ≡ true → 4 ≡ primSize t
-        unfolding primSize bytes
-        prim-4 h = rw (← p, x, ← q, y, ← u, z, ← v, h)
+pub ruleset cap-laws = (cap-low, cap-high)
 
-        pub prim-0 : d ≡ false → 0 ≡ primSize t
-        unfolding primSize bytes
-        prim-0 h = rw (← p, x, ← q, y, ← u, z, ← v, h)
+-- a capped size is the size, or both are past the limit
+pub record Capped (n : ℕ) : Type 0 where
+  pub low : n ≤ limit → capped n ≡ n
+  pub high : limit < n → capped n ≡ (limit + 1)
 
-pub ruleset prim-laws = (prim-1, prim-c, prim-2, prim-4, prim-0)
+pub capping : (n : ℕ) → Capped n
+capping n = record { low = λ h. sym (cap-low n h); high = λ h. sym (cap-high n h) }
+
+module _ (a b : ℕ) where
+  pub sum-first : limit < a → (limit + 1) ≡ capped (a + b)
+  sum-first h = cap-high (a + b) (omega arith)
+
+  pub sum-second : a ≤ limit → limit - a < b → (limit + 1) ≡ capped (a + b)
+  sum-second g h = cap-high (a + b) (omega arith)
+
+  pub sum-fits : a ≤ limit → b ≤ limit - a → a + b ≡ capped (a + b)
+  sum-fits g h = cap-low (a + b) (omega arith)
+
+pub ruleset sum-laws = (sum-first, sum-second, sum-fits)
+
+module _ (a b : ℕ) where
+  pub product-none : b ≡ 0 → 0 ≡ capped (a * b)
+  product-none e =
+      let z : a * b ≡ 0 = rw e (omega arith) in
+      rw z (cap-low 0 (omega arith))
+
+  module _ (p : b ≡ 0 → ⊥) where
+    pub product-high : limit / b < a → (limit + 1) ≡ capped (a * b)
+    product-high h = cap-high (a * b) (div-lt-iff-lt-mul {k = b} {x = limit} {y = a} (omega arith) .0 h)
+
+    product-bound : a ≤ limit / b → a * b ≤ limit
+    product-bound h = le-div-iff-mul-le {k = b} {x = a} {y = limit} (omega arith) .0 h
+
+    pub product-fits : a ≤ limit / b → a * b < 18446744073709551616
+    product-fits h = let l = product-bound h in omega arith
+
+    pub product-low : a ≤ limit / b → a * b ≡ capped (a * b)
+    product-low h = cap-low (a * b) (product-bound h)
+
+pub ruleset product-laws = (product-none, product-high, product-low)
+
+-- a factor as far as the limit serves as well as the factor
+pub product-capped : (x b : ℕ) → capped (capped x * b) ≡ capped (x * b)
+product-capped x zero =
+    let a : capped x * 0 ≡ 0 = omega arith in
+    let b : x * 0 ≡ 0 = omega arith in
+    rw (a, b)
+product-capped x (suc b) = go (leb x limit) refl
+  where
+    go : (t : Bool) → leb x limit ≡ t → capped (capped x * suc b) ≡ capped (x * suc b)
+    go true e = rw (← cap-low x (leb-true x limit e))
+    go false e =
+        let h : limit < x = leb-false x limit e in
+        let u : limit < x * suc b = past x h in
+        let v : limit < (limit + 1) * suc b = past (limit + 1) (omega arith) in
+        rw (← cap-high x h) (sym (cap-high ((limit + 1) * suc b) v) ∙ cap-high (x * suc b) u)
+      where
+        past : (y : ℕ) → limit < y → limit < y * suc b
+        past y h = let m : y ≤ y * suc b = le-mul-of-pos-right {m = suc b} y (omega arith) in omega arith
+
+-- named sizes ------------------------------------------------------------------------------------------------------------
 
 module _ (s p n : Str) where
-  module _ (r : EnumStep) (h : enumIn n (enumsAt (rec s p) 0) ≡ enumFound s p r) where
-    pub enum-size-none : r ≡ NoEnum → none ≡ enumSize (schemaOf (rec s p)) n
-    unfolding enumSize schemaOf enumsAt enumIn mapOption
-    enum-size-none m = sym (ap (mapOption (λ (e : Enum). e .size)) (h ∙ ap (enumFound s p) m))
+  module _ (r : EnumStep) (f : Cursor) (i : f ≡ start) (h : enumIn n (enumsAt s p (f .at)) ≡ enumFound s p r) where
+    pub enum-size-none : r ≡ NoEnum → none ≡ enumSize (enumsAt s p 0) n
+    unfolding enumSize mapOption
+    enum-size-none m = sym (ap (mapOption (λ (e : Enum). e .size)) ((rw i at h) ∙ ap (enumFound s p) m))
 
-    pub enum-size-some : (e : EnumHead) (k : Cursor) → r ≡ AnEnum e k → some (e .size) ≡ enumSize (schemaOf (rec s p)) n
-    unfolding enumSize schemaOf enumsAt enumIn mapOption
-    enum-size-some e k m = sym (ap (mapOption (λ (e : Enum). e .size)) (h ∙ ap (enumFound s p) m))
+    pub enum-size-some : (e : D.Enum.Enum) (k : Cursor) → r ≡ AnEnum e k → some (e .size) ≡ enumSize (enumsAt s p 0) n
+    unfolding enumSize mapOption
+    enum-size-some e k m = sym (ap (mapOption (λ (e : Enum). e .size)) ((rw i at h) ∙ ap (enumFound s p) m))
 
-  module _ (r : AliasStep) (h : aliasIn n (aliasesAt (rec s p) 0) ≡ aliasFound s p r) where
-    pub alias-size-none : r ≡ NoAlias → none ≡ aliasSize (schemaOf (rec s p)) n
-    unfolding aliasSize schemaOf aliasesAt aliasIn mapOption
-    alias-size-none m = sym (ap (mapOption (λ (e : Alias). primSize (e .underlying))) (h ∙ ap (aliasFound s p) m))
+  module _ (w : List Scalar) (r : AliasStep) (f : Cursor) (i : f ≡ start) (h : aliasIn n (aliasesAt s p (f .at)) ≡ aliasFound s p r) where
+    pub alias-size-none : r ≡ NoAlias → none ≡ aliasSize w (aliasesAt s p 0) n
+    unfolding aliasSize mapOption
+    alias-size-none m = sym (ap (mapOption (λ (e : Alias). primSize w (e .underlying))) ((rw i at h) ∙ ap (aliasFound s p) m))
 
-    pub alias-size-some : (e : AliasItem) (k : Cursor) (x : Str) (z : ℕ) → r ≡ AnAlias e k → x ≡ textOf p (e .underlying) → z ≡ primSize x → some z ≡ aliasSize (schemaOf (rec s p)) n
-    unfolding aliasSize schemaOf aliasesAt aliasIn mapOption
-    alias-size-some e k x z m f g = ap some (g ∙ ap primSize f) ∙ sym (ap (mapOption (λ (e : Alias). primSize (e .underlying))) (h ∙ ap (aliasFound s p) m))
+    pub alias-size-some : (e : D.TypeAlias.TypeAlias) (k : Cursor) (x : Str) (z : ℕ) → r ≡ AnAlias e k → x ≡ textOf p (e .underlying) → z ≡ primSize w x → some z ≡ aliasSize w (aliasesAt s p 0) n
+    unfolding aliasSize mapOption
+    alias-size-some e k x z m j g = ap some (g ∙ ap (primSize w) j) ∙ sym (ap (mapOption (λ (e : Alias). primSize w (e .underlying))) ((rw i at h) ∙ ap (aliasFound s p) m))
 
-  module _ (r : BitsStep) (h : bitsIn n (bitfieldsAt (rec s p) 0) ≡ bitsFound s p r) where
-    pub bits-size-none : r ≡ NoBits → none ≡ bitfieldSize (schemaOf (rec s p)) n
-    unfolding bitfieldSize schemaOf bitfieldsAt bitsIn mapOption
-    bits-size-none m = sym (ap (mapOption (λ (e : BitField). e .size)) (h ∙ ap (bitsFound s p) m))
+  module _ (r : BitfieldStep) (f : Cursor) (i : f ≡ start) (h : bitfieldIn n (bitfieldsAt s p (f .at)) ≡ bitfieldFound s p r) where
+    pub bitfield-size-none : r ≡ NoBitfield → none ≡ bitfieldSize (bitfieldsAt s p 0) n
+    unfolding bitfieldSize mapOption
+    bitfield-size-none m = sym (ap (mapOption (λ (e : BitField). e .size)) ((rw i at h) ∙ ap (bitfieldFound s p) m))
 
-    pub bits-size-some : (e : BitsHead) (k : Cursor) → r ≡ SomeBits e k → some (e .size) ≡ bitfieldSize (schemaOf (rec s p)) n
-    unfolding bitfieldSize schemaOf bitfieldsAt bitsIn mapOption
-    bits-size-some e k m = sym (ap (mapOption (λ (e : BitField). e .size)) (h ∙ ap (bitsFound s p) m))
+    pub bitfield-size-some : (e : D.Bitfield.Bitfield) (k : Cursor) → r ≡ ABitfield e k → some (e .size) ≡ bitfieldSize (bitfieldsAt s p 0) n
+    unfolding bitfieldSize mapOption
+    bitfield-size-some e k m = sym (ap (mapOption (λ (e : BitField). e .size)) ((rw i at h) ∙ ap (bitfieldFound s p) m))
 
-pub ruleset size-laws = (enum-size-none, enum-size-some, alias-size-none, alias-size-some, bits-size-none, bits-size-some)
+pub ruleset named-size-laws = (enum-size-none, enum-size-some, alias-size-none, alias-size-some, bitfield-size-none, bitfield-size-some)
+
+module _ (n : OptNumber) (d : ℕ) where
+  pub or-missing : n ≡ Missing → d ≡ orElse (numberOf n) d
+  unfolding orElse
+  or-missing e = rw e
+
+  pub or-number : (x : ℕ) → n ≡ Number x → x ≡ orElse (numberOf n) d
+  unfolding orElse
+  or-number x e = rw e
+
+pub ruleset or-laws = (or-missing, or-number)
+
+module _ (p : Str) (t : OptText) (f : Str → Option ℕ) (d : ℕ) where
+  pub sized-absent : t ≡ Absent → d ≡ sized (optOf p t) f d
+  unfolding sized
+  sized-absent e = rw e
+
+  pub sized-given : (x : Text) (y : Str) (n : OptNumber) (r : ℕ) → t ≡ Given x → y ≡ textOf p x → numberOf n ≡ f y → r ≡ orElse (numberOf n) d → r ≡ sized (optOf p t) f d
+  unfolding sized
+  sized-given x y n r e g h q = rw (e, ← g, ← h) q
+
+pub ruleset sized-laws = (sized-absent, sized-given)
+
+module _ (w : List Scalar) (p : Str) (t : OptText) where
+  pub scalar-absent : (r : ℕ) → t ≡ Absent → r ≡ primSize w (bytes "u8") → r ≡ primSize w (orElse (optOf p t) (bytes "u8"))
+  unfolding orElse
+  scalar-absent r e h = rw e h
+
+  pub scalar-given : (x : Text) (y : Str) (r : ℕ) → t ≡ Given x → y ≡ textOf p x → r ≡ primSize w y → r ≡ primSize w (orElse (optOf p t) (bytes "u8"))
+  unfolding orElse
+  scalar-given x y r e g h = rw (e, ← g) h
+
+pub ruleset scalar-laws = (scalar-absent, scalar-given)
+
+-- a field by its kind ----------------------------------------------------------------------------------------------------
+
+module _ (s p : Str) (w : List Scalar) (f : D.Field.Field) (x : Str) (k : Kind) (e : x ≡ textOf p (f .kind)) (q : k ≡ kindOf x) where
+  shape-is : (m : Kind) → k ≡ m → shapeSize (schemaOf (rec s p w)) (fieldOf p f none) ≡ sizeAs m (schemaOf (rec s p w)) (fieldOf p f none)
+  unfolding shapeSize
+  shape-is m h = rw (← e, ← q, h)
+
+  pub shape-scalar : (z y r : ℕ) → k ≡ K.Scalar → z ≡ primSize w (orElse (optOf p (f .«type_name»)) (bytes "u8")) → y ≡ z → r ≡ capped y → r ≡ capped (shapeSize (schemaOf (rec s p w)) (fieldOf p f none))
+  unfolding sizeAs scalarSize schemaOf schemaFrom
+  shape-scalar z y r h a b c = rw (shape-is K.Scalar h, ← a, ← b) c
+
+  pub shape-enum : (z y r : ℕ) → k ≡ K.Enum → z ≡ sized (optOf p (f .«type_name»)) (enumSize (enumsAt s p 0)) 1 → y ≡ z → r ≡ capped y → r ≡ capped (shapeSize (schemaOf (rec s p w)) (fieldOf p f none))
+  unfolding sizeAs schemaOf schemaFrom enumsAt
+  shape-enum z y r h a b c = rw (shape-is K.Enum h, ← a, ← b) c
+
+  pub shape-alias : (z y r : ℕ) → k ≡ K.TypeAlias → z ≡ sized (optOf p (f .«type_name»)) (aliasSize w (aliasesAt s p 0)) 2 → y ≡ z → r ≡ capped y → r ≡ capped (shapeSize (schemaOf (rec s p w)) (fieldOf p f none))
+  unfolding sizeAs schemaOf schemaFrom aliasesAt
+  shape-alias z y r h a b c = rw (shape-is K.TypeAlias h, ← a, ← b) c
+
+  pub shape-bitfield : (z y r : ℕ) → k ≡ K.Bitfield → z ≡ sized (optOf p (f .«type_name»)) (bitfieldSize (bitfieldsAt s p 0)) 0 → y ≡ z → r ≡ capped y → r ≡ capped (shapeSize (schemaOf (rec s p w)) (fieldOf p f none))
+  unfolding sizeAs schemaOf schemaFrom bitfieldsAt
+  shape-bitfield z y r h a b c = rw (shape-is K.Bitfield h, ← a, ← b) c
+
+  pub shape-array : (z y c d r : ℕ) → k ≡ K.InlineArray → z ≡ primSize w (orElse (optOf p (f .element)) (bytes "u8")) → y ≡ z → c ≡ orElse (numberOf (f .count)) 0 → d ≡ c → r ≡ capped (y * d) → r ≡ capped (shapeSize (schemaOf (rec s p w)) (fieldOf p f none))
+  unfolding sizeAs scalarSize schemaOf schemaFrom
+  shape-array z y c d r h a b g i j = rw (shape-is K.InlineArray h, ← a, ← b, ← g, ← i) j
+
+  pub shape-array2d : (r : ℕ) → k ≡ K.InlineArray2d → r ≡ capped (primSize w (orElse (optOf p (f .element)) (bytes "u8")) * orElse (numberOf (f .rows)) 0 * orElse (numberOf (f .cols)) 0) → r ≡ capped (shapeSize (schemaOf (rec s p w)) (fieldOf p f none))
+  unfolding sizeAs scalarSize schemaOf schemaFrom
+  shape-array2d r h j = rw (shape-is K.InlineArray2d h) j
+
+  pub shape-padding : (z y r : ℕ) → k ≡ K.Padding → z ≡ orElse (numberOf (f .size)) 0 → y ≡ z → r ≡ capped y → r ≡ capped (shapeSize (schemaOf (rec s p w)) (fieldOf p f none))
+  unfolding sizeAs
+  shape-padding z y r h a b c = rw (shape-is K.Padding h, ← a, ← b) c
+
+  pub shape-CstrPtr : k ≡ K.CstrPtr → 4 ≡ capped (shapeSize (schemaOf (rec s p w)) (fieldOf p f none))
+  unfolding sizeAs
+  shape-CstrPtr h = rw (shape-is K.CstrPtr h) (cap-low 4 (omega arith))
+
+  pub shape-StructPtr : k ≡ K.StructPtr → 4 ≡ capped (shapeSize (schemaOf (rec s p w)) (fieldOf p f none))
+  unfolding sizeAs
+  shape-StructPtr h = rw (shape-is K.StructPtr h) (cap-low 4 (omega arith))
+
+  pub shape-StructArrayPtr : k ≡ K.StructArrayPtr → 4 ≡ capped (shapeSize (schemaOf (rec s p w)) (fieldOf p f none))
+  unfolding sizeAs
+  shape-StructArrayPtr h = rw (shape-is K.StructArrayPtr h) (cap-low 4 (omega arith))
+
+  pub shape-StructPtrArrayPtr : k ≡ K.StructPtrArrayPtr → 4 ≡ capped (shapeSize (schemaOf (rec s p w)) (fieldOf p f none))
+  unfolding sizeAs
+  shape-StructPtrArrayPtr h = rw (shape-is K.StructPtrArrayPtr h) (cap-low 4 (omega arith))
+
+  pub shape-TaggedFamPtr : k ≡ K.TaggedFamPtr → 4 ≡ capped (shapeSize (schemaOf (rec s p w)) (fieldOf p f none))
+  unfolding sizeAs
+  shape-TaggedFamPtr h = rw (shape-is K.TaggedFamPtr h) (cap-low 4 (omega arith))
+
+  pub shape-SimpleFamPtr : k ≡ K.SimpleFamPtr → 4 ≡ capped (shapeSize (schemaOf (rec s p w)) (fieldOf p f none))
+  unfolding sizeAs
+  shape-SimpleFamPtr h = rw (shape-is K.SimpleFamPtr h) (cap-low 4 (omega arith))
+
+  pub shape-OpaquePtr : k ≡ K.OpaquePtr → 4 ≡ capped (shapeSize (schemaOf (rec s p w)) (fieldOf p f none))
+  unfolding sizeAs
+  shape-OpaquePtr h = rw (shape-is K.OpaquePtr h) (cap-low 4 (omega arith))
+
+  pub shape-FnPtr : k ≡ K.FnPtr → 4 ≡ capped (shapeSize (schemaOf (rec s p w)) (fieldOf p f none))
+  unfolding sizeAs
+  shape-FnPtr h = rw (shape-is K.FnPtr h) (cap-low 4 (omega arith))
+
+  pub shape-Text : k ≡ K.Text → 0 ≡ capped (shapeSize (schemaOf (rec s p w)) (fieldOf p f none))
+  unfolding sizeAs
+  shape-Text h = rw (shape-is K.Text h) (cap-low 0 (omega arith))
+
+  pub shape-Other : k ≡ K.Other → 0 ≡ capped (shapeSize (schemaOf (rec s p w)) (fieldOf p f none))
+  unfolding sizeAs
+  shape-Other h = rw (shape-is K.Other h) (cap-low 0 (omega arith))
+
+pub array2d-is : (z z0 y a a0 b l c c0 d r : ℕ) → z0 ≡ z → y ≡ z0 → a0 ≡ a → b ≡ a0 → l ≡ capped (y * b) → c0 ≡ c → d ≡ c0 → r ≡ capped (l * d) → r ≡ capped (z * a * c)
+array2d-is z z0 y a a0 b l c c0 d r z1 y1 a1 b1 l1 c1 d1 r1 = r1 ∙ rw (l1, y1, z1, b1, a1, d1, c1) (product-capped (z * a) c)
+
+-- the plugin key plays no part
+pub keyless : (m : Kind) (t : Schema) (p : Str) (f : D.Field.Field) (k : Option Key) → sizeAs m t (fieldOf p f k) ≡ sizeAs m t (fieldOf p f none)
+unfolding sizeAs
+keyless K.Scalar t p f k = refl
+keyless K.Enum t p f k = refl
+keyless K.TypeAlias t p f k = refl
+keyless K.Bitfield t p f k = refl
+keyless K.InlineArray t p f k = refl
+keyless K.InlineArray2d t p f k = refl
+keyless K.CstrPtr t p f k = refl
+keyless K.StructPtr t p f k = refl
+keyless K.StructArrayPtr t p f k = refl
+keyless K.StructPtrArrayPtr t p f k = refl
+keyless K.TaggedFamPtr t p f k = refl
+keyless K.SimpleFamPtr t p f k = refl
+keyless K.OpaquePtr t p f k = refl
+keyless K.FnPtr t p f k = refl
+keyless K.Padding t p f k = refl
+keyless K.Text t p f k = refl
+keyless K.Other t p f k = refl

@@ -8,8 +8,9 @@ use Prim.Native.Nat.{ℕ, zero, suc, _+_, _≤_}
 use native.Mathlib.Omega.{arith}
 use lib.ListN.{length}
 use Rattle.record.specs.Base.{Str, eqs, find}
-use Rattle.record.specs.Schema.{Schema, Field, Struct, Family}
-use Rattle.record.specs.Owner.{Owned, ownedIn, structNamed, familyNamed, hasSlot, referenced, fieldsOf, typeFields, unless, enter, visit, visitAll, claim, declared, claimRoots, roots, rootOf, ownerOf, Edge, Leads, here, along, First, now, later}
+use Rattle.record.specs.Schema.{Field, Struct, Family}
+use Rattle.record.specs.Steps.{structIn, familyIn}
+use Rattle.record.specs.Owner.{Types, Owned, ownedIn, hasSlot, referenced, fieldsIn, typeFields, unless, enter, visit, visitAll, claim, declared, claimRoots, roots, rootOf, ownerOf, Edge, Leads, here, along, First, now, later}
 use Rattle.record.proofs.Basics.{eqs→eq, eqs-refl, find-some, find-any}
 
 -- the name stands in the list
@@ -107,11 +108,11 @@ missing-length os (x ∷ xs) = go (ownedIn os x) (missing-length os xs)
     go (some o) h = omega arith
 
 -- a name that nothing declares has no fields
-declared-or-empty : (s : Schema) (n : Str) → List·Memᴰ n (declared s) ⊎ (typeFields s n ≡ [])
-unfolding declared typeFields fieldsOf structNamed familyNamed
-declared-or-empty s n = go (structNamed s n) (familyNamed s n) refl refl
+declared-or-empty : (s : Types) (n : Str) → List·Memᴰ n (declared s) ⊎ (typeFields s n ≡ [])
+unfolding declared typeFields fieldsIn structIn familyIn
+declared-or-empty s n = go (structIn n (s .structs)) (familyIn n (s .families)) refl refl
   where
-    go : (t : Option Struct) (m : Option Family) → structNamed s n ≡ t → familyNamed s n ≡ m → List·Memᴰ n (declared s) ⊎ (fieldsOf t m ≡ [])
+    go : (t : Option Struct) (m : Option Family) → structIn n (s .structs) ≡ t → familyIn n (s .families) ≡ m → List·Memᴰ n (declared s) ⊎ (fieldsIn t m ≡ [])
     go (some t) m e f =
         let i = find-some (λ (x : Struct). eqs (x .name) n) (s .structs) e in
         inl (Memᴰ·append-left (map (λ (x : Family). x .name) (s .families)) (Memᴰ·cast (sym (eqs→eq _ _ (i .1))) (Memᴰ·map (λ (x : Struct). x .name) (i .0))))
@@ -121,14 +122,14 @@ declared-or-empty s n = go (structNamed s n) (familyNamed s n) refl refl
     go none none e f = inr refl
 
 -- what a walk does to the list: older entries stay, and what is new has its references in
-record Walked (s : Schema) (os after : List Owned) : Type 0 where
+record Walked (s : Types) (os after : List Owned) : Type 0 where
   keep : Sub os after
   closed : (m : Str) → Has after m → Has os m ⊎ ((n : Str) → Edge s m n → Has after n)
 
-walked-refl : (s : Schema) (os : List Owned) → Walked s os os
+walked-refl : (s : Types) (os : List Owned) → Walked s os os
 walked-refl s os = record { keep = λ n o e. e; closed = λ m h. inl h }
 
-walked-trans : (s : Schema) {a b c : List Owned} → Walked s a b → Walked s b c → Walked s a c
+walked-trans : (s : Types) {a b c : List Owned} → Walked s a b → Walked s b c → Walked s a c
 walked-trans s {a} {b} {c} p q = record { keep = λ n o e. q .keep n o (p .keep n o e); closed = λ m h. outer m (q .closed m h) }
   where
     inner : (m : Str) → Has a m ⊎ ((n : Str) → Edge s m n → Has b n) → Has a m ⊎ ((n : Str) → Edge s m n → Has c n)
@@ -140,26 +141,26 @@ walked-trans s {a} {b} {c} p q = record { keep = λ n o e. q .keep n o (p .keep 
     outer m (inr f) = inr f
 
 -- a walk from a name that does its work wherever at most d declared names are missing
-abbrev Works : Schema → (Str → List Owned → List Owned) → ℕ → Type 0
+abbrev Works : Types → (Str → List Owned → List Owned) → ℕ → Type 0
 Works s go d = (n : Str) (os : List Owned) → missing os (declared s) ≤ d → Walked s os (go n os) × Has (go n os) n
 
-visit-works : (s : Schema) (go : Str → List Owned → List Owned) (d : ℕ) → Works s go d → (o : Option Str) (os : List Owned) → missing os (declared s) ≤ d
-    → Walked s os (visit go s o os) × ((n : Str) → o ≡ some n → hasSlot (structNamed s n) ≡ false → Has (visit go s o os) n)
+visit-works : (s : Types) (go : Str → List Owned → List Owned) (d : ℕ) → Works s go d → (o : Option Str) (os : List Owned) → missing os (declared s) ≤ d
+    → Walked s os (visit go s o os) × ((n : Str) → o ≡ some n → hasSlot s n ≡ false → Has (visit go s o os) n)
 unfolding visit unless
 visit-works s go d w none os h = (walked-refl s os, λ n e f. absurd (none≢some e))
-visit-works s go d w (some x) os h = slot (hasSlot (structNamed s x)) refl
+visit-works s go d w (some x) os h = slot (hasSlot s x) refl
   where
-    slot : (b : Bool) → hasSlot (structNamed s x) ≡ b
-        → Walked s os (unless b (go x) os) × ((n : Str) → some x ≡ some n → hasSlot (structNamed s n) ≡ false → Has (unless b (go x) os) n)
+    slot : (b : Bool) → hasSlot s x ≡ b
+        → Walked s os (unless b (go x) os) × ((n : Str) → some x ≡ some n → hasSlot s n ≡ false → Has (unless b (go x) os) n)
     slot true e = (
       walked-refl s os,
-      λ n q f. absurd (false≢true (sym f ∙ subst (λ (y : Str). hasSlot (structNamed s y) ≡ true) (let p : x ≡ n = cc in p) e)),
+      λ n q f. absurd (false≢true (sym f ∙ subst (λ (y : Str). hasSlot s y ≡ true) (let p : x ≡ n = cc in p) e)),
     )
     slot false e = (w x os h .0, λ n q f. let p : x ≡ n = cc in subst (Has (go x os)) p (w x os h .1))
 
-visitAll-works : (s : Schema) (go : Str → List Owned → List Owned) (d : ℕ) → Works s go d → (fs : List Field) (os : List Owned) → missing os (declared s) ≤ d
+visitAll-works : (s : Types) (go : Str → List Owned → List Owned) (d : ℕ) → Works s go d → (fs : List Field) (os : List Owned) → missing os (declared s) ≤ d
     → Walked s os (visitAll go s fs os)
-    × ((f : Field) → List·Memᴰ f fs → (n : Str) → referenced f ≡ some n → hasSlot (structNamed s n) ≡ false → Has (visitAll go s fs os) n)
+    × ((f : Field) → List·Memᴰ f fs → (n : Str) → referenced f ≡ some n → hasSlot s n ≡ false → Has (visitAll go s fs os) n)
 unfolding visitAll
 visitAll-works s go d w [] os h = (walked-refl s os, λ f m n e q. absurd (List·Memᴰ·not-nil m))
 visitAll-works s go d w (x ∷ xs) os h =
@@ -168,16 +169,16 @@ visitAll-works s go d w (x ∷ xs) os h =
     let rest = visitAll-works s go d w xs (visit go s (referenced x) os) (omega (arith, less, h)) in
     (walked-trans s (one .0) (rest .0), reach one rest)
   where
-    reach : Walked s os (visit go s (referenced x) os) × ((n : Str) → referenced x ≡ some n → hasSlot (structNamed s n) ≡ false → Has (visit go s (referenced x) os) n)
+    reach : Walked s os (visit go s (referenced x) os) × ((n : Str) → referenced x ≡ some n → hasSlot s n ≡ false → Has (visit go s (referenced x) os) n)
         → Walked s (visit go s (referenced x) os) (visitAll go s xs (visit go s (referenced x) os))
-        × ((f : Field) → List·Memᴰ f xs → (n : Str) → referenced f ≡ some n → hasSlot (structNamed s n) ≡ false → Has (visitAll go s xs (visit go s (referenced x) os)) n)
-        → (f : Field) → List·Memᴰ f (x ∷ xs) → (n : Str) → referenced f ≡ some n → hasSlot (structNamed s n) ≡ false
+        × ((f : Field) → List·Memᴰ f xs → (n : Str) → referenced f ≡ some n → hasSlot s n ≡ false → Has (visitAll go s xs (visit go s (referenced x) os)) n)
+        → (f : Field) → List·Memᴰ f (x ∷ xs) → (n : Str) → referenced f ≡ some n → hasSlot s n ≡ false
         → Has (visitAll go s xs (visit go s (referenced x) os)) n
     reach one rest f (List·Memᴰ·head e) n r q =
         let k = one .1 n (ap referenced (sym e) ∙ r) q in (k .0, rest .0 .keep n (k .0) (k .1))
     reach one rest f (List·Memᴰ·tail m) n r q = rest .1 f m n r q
 
-claim-works : (s : Schema) (root : Str) (k d : ℕ) → d + 1 ≤ k → Works s (claim k s root) d
+claim-works : (s : Types) (root : Str) (k d : ℕ) → d + 1 ≤ k → Works s (claim k s root) d
 unfolding claim enter visitAll
 claim-works s root zero d h n os m = absurd (omega arith)
 claim-works s root (suc k) d h n os m = start (λ e t. claim-works s root k e t) (ownedIn os n) refl
@@ -186,7 +187,7 @@ claim-works s root (suc k) d h n os m = start (λ e t. claim-works s root k e t)
     entry = record { name = n; root = root }
 
     open-one : (after : List Owned) → ownedIn os n ≡ none → Walked s (entry ∷ os) after
-        → ((f : Field) → List·Memᴰ f (typeFields s n) → (x : Str) → referenced f ≡ some x → hasSlot (structNamed s x) ≡ false → Has after x)
+        → ((f : Field) → List·Memᴰ f (typeFields s n) → (x : Str) → referenced f ≡ some x → hasSlot s x ≡ false → Has after x)
         → Walked s os after × Has after n
     open-one after e w t = (
       record {
@@ -223,26 +224,26 @@ claim-works s root (suc k) d h n os m = start (λ e t. claim-works s root k e t)
     start rec none e = fresh rec e (declared-or-empty s n)
 
 -- what is new belongs to the root, and the root leads to it
-abbrev Tracks : Schema → Str → (Str → List Owned → List Owned) → Type 0
+abbrev Tracks : Types → Str → (Str → List Owned → List Owned) → Type 0
 Tracks s root go = (n : Str) (os : List Owned) → Leads s root n → (m : Str) (o : Owned) → ownedIn (go n os) m ≡ some o
     → (ownedIn os m ≡ some o) ⊎ ((o .root ≡ root) × Leads s root m)
 
-visit-tracks : (s : Schema) (root b : Str) (go : Str → List Owned → List Owned) → Tracks s root go → Leads s root b
+visit-tracks : (s : Types) (root b : Str) (go : Str → List Owned → List Owned) → Tracks s root go → Leads s root b
     → (f : Field) → List·Memᴰ f (typeFields s b) → (os : List Owned) (m : Str) (o : Owned) → ownedIn (visit go s (referenced f) os) m ≡ some o
     → (ownedIn os m ≡ some o) ⊎ ((o .root ≡ root) × Leads s root m)
 unfolding visit unless
 visit-tracks s root b go t l f i os m o h = named (referenced f) refl h
   where
-    slot : (x : Str) → referenced f ≡ some x → (c : Bool) → hasSlot (structNamed s x) ≡ c → ownedIn (unless c (go x) os) m ≡ some o
+    slot : (x : Str) → referenced f ≡ some x → (c : Bool) → hasSlot s x ≡ c → ownedIn (unless c (go x) os) m ≡ some o
         → (ownedIn os m ≡ some o) ⊎ ((o .root ≡ root) × Leads s root m)
     slot x e true q k = inl k
     slot x e false q k = t x os (along l (record { field = f; is-field = i; names = e; free = q })) m o k
 
     named : (r : Option Str) → referenced f ≡ r → ownedIn (visit go s r os) m ≡ some o → (ownedIn os m ≡ some o) ⊎ ((o .root ≡ root) × Leads s root m)
     named none e k = inl k
-    named (some x) e k = slot x e (hasSlot (structNamed s x)) refl k
+    named (some x) e k = slot x e (hasSlot s x) refl k
 
-visitAll-tracks : (s : Schema) (root b : Str) (go : Str → List Owned → List Owned) → Tracks s root go → Leads s root b
+visitAll-tracks : (s : Types) (root b : Str) (go : Str → List Owned → List Owned) → Tracks s root go → Leads s root b
     → (fs : List Field) → ((f : Field) → List·Memᴰ f fs → List·Memᴰ f (typeFields s b))
     → (os : List Owned) (m : Str) (o : Owned) → ownedIn (visitAll go s fs os) m ≡ some o
     → (ownedIn os m ≡ some o) ⊎ ((o .root ≡ root) × Leads s root m)
@@ -255,7 +256,7 @@ visitAll-tracks s root b go t l (f ∷ fs) inc os m o h =
     or (inl k) = visit-tracks s root b go t l f (inc f (List·Memᴰ·head refl)) os m o k
     or (inr k) = inr k
 
-claim-tracks : (s : Schema) (root : Str) (k : ℕ) → Tracks s root (claim k s root)
+claim-tracks : (s : Types) (root : Str) (k : ℕ) → Tracks s root (claim k s root)
 unfolding claim enter
 claim-tracks s root zero n os l m o h = inl h
 claim-tracks s root (suc k) n os l m o h = start (claim-tracks s root k) (ownedIn os n) h
@@ -281,14 +282,14 @@ claim-tracks s root (suc k) n os l m o h = start (claim-tracks s root k) (ownedI
     start t none q = or (visitAll-tracks s root n (claim k s root) t l (typeFields s n) (λ f i. i) (entry ∷ os) m o q)
 
 -- lists from which no reference leads out
-abbrev Closed : Schema → List Owned → Type 0
+abbrev Closed : Types → List Owned → Type 0
 Closed s os = (m : Str) → Has os m → (n : Str) → Edge s m n → Has os n
 
-closed-leads : (s : Schema) (os : List Owned) → Closed s os → {a b : Str} → Has os a → Leads s a b → Has os b
+closed-leads : (s : Types) (os : List Owned) → Closed s os → {a b : Str} → Has os a → Leads s a b → Has os b
 closed-leads s os c h (here e) = subst (Has os) e h
 closed-leads s os c h (along l e) = c _ (closed-leads s os c h l) _ e
 
-module _ (s : Schema) where
+module _ (s : Types) where
   size : ℕ
   size = length (declared s) + 1
 

@@ -1,18 +1,20 @@
 -- Laws on digits, on a store, and on what a writer has put so far. Assumes nothing.
-use mathlib.Core.Path.{_≡_, refl, sym, ap, _∙_, subst}
+use mathlib.Core.Path.{_≡_, refl, sym, ap, _∙_}
 use mathlib.Core.List.{List, [], _∷_, _++_, append-assoc, append-nil}
-use Prim.Native.Nat.{ℕ, zero, suc, _+_, _-_, _*_, _/_, _%_, _^_, _≤_, _<_}
+use Prim.Native.Nat.{ℕ, zero, suc, _+_, _-_, _/_, _%_, _^_, _≤_, _<_}
 use native.Mathlib.Nat.{pow-suc, div-lt-iff-lt-mul}
 use native.Mathlib.Numerals.{add-one, sub-one}
 use native.Mathlib.Omega.{arith}
 use mathlib.Core.Bool.{true, false}
 use lib.Dec.{leb}
 use borrow.Author.Tests.{le-ltb, lt-ltb, le-leb, lt-leb}
-use lib.ListN.{length, getD, take, drop, set, length-append, length-drop, length-take, drop-of-length-le, List·getD-eq-default, take-append-drop}
-use lib.Seq.{set-split, drop-at, length-take-le, take-suc, paste, paste-zero, paste-suc, take-all, take-length, take-append-seam, drop-append-seam, drop-append-add, drop-drop, take-at, drop-append-le}
+use lib.ListN.{length, getD, take, drop, set, length-append, length-drop, length-take, List·getD-eq-default, take-append-drop}
+use lib.Seq.{set-split, drop-at, length-take-le, take-suc, paste, paste-zero, paste-suc, take-all, take-length, take-append-seam, drop-append-add, drop-drop}
 use Rattle.record.specs.Base.{digits, decimal, signed}
 use Rattle.record.specs.Fill.{placed, argOf, pickOf, filled, fronted}
 use Rattle.record.specs.Write.{Writes}
+use Rattle.record.specs.Stretch.{textOf}
+use Rattle.record.specs.declared.text.Text.{Text}
 use Rattle.record.specs.declared.writer.Written.the-variants.{Whole, NoRoom}
 use Rattle.record.specs.declared.writer.Arg.{Arg}
 use Rattle.record.specs.declared.writer.Arg.the-variants.{Nothing, Byte}
@@ -50,20 +52,6 @@ places (suc (suc k)) r h b = omega arith
 pub places-less : (k r : ℕ) → 10 ≤ r → r < 10 ^ k → r / 10 < 10 ^ (k - 1)
 places-less zero r h b = absurd (omega arith)
 places-less (suc k) r h b = simp sub-one (div-lt-iff-lt-mul {k = 10} {x = r} {y = 10 ^ k} (omega arith) .1 (rw pow-suc at b))
-
--- a part that reaches the end or lies past it
-pub stretch-rest : (l : List ℕ) (s n k : ℕ) → n ≡ length l → n - s ≤ k → take (n - s) (drop s l) ≡ take k (drop s l)
-stretch-rest l s n k e h =
-    let q : length (drop s l) ≡ n - s = simp length-drop (omega arith) in
-    take-all (n - s) (drop s l) (omega arith) ∙ sym (take-all k (drop s l) (omega arith))
-
-pub stretch-past : (l : List ℕ) (s n k : ℕ) → n ≡ length l → n ≤ s → take (n - n) (drop n l) ≡ take k (drop s l)
-stretch-past l s n k e h =
-    let q : drop s l ≡ [] = drop-of-length-le l {i = s} (omega arith) in
-    let p : drop n l ≡ [] = drop-of-length-le l {i = n} (omega arith) in
-    let a : length (drop n l) ≤ n - n = simp length-drop (omega arith) in
-    let b : length (drop s l) ≤ k = simp length-drop (omega arith) in
-    take-all (n - n) (drop n l) a ∙ p ∙ sym q ∙ sym (take-all k (drop s l) b)
 
 -- one element of a copy
 pub stored : (d s e : List ℕ) (at o j : ℕ) → o ≡ at + j → e ≡ paste d at s j → o < length d → j < length s → set e o (getD s j 0) ≡ paste d at s (j + 1)
@@ -109,9 +97,10 @@ module _ (args : List Arg) (b : ℕ) where
   unfolding pickOf
   pick-none h l = simp (lt-ltb b 32 h, List·getD-eq-default args Nothing {n = b} l)
 
--- a stretch is short, and a number's text has the length that its start says
-pub stretch-short : (xs l : List ℕ) (s n : ℕ) → n < 256 → xs ≡ take n (drop s l) → length xs ≤ 255
-stretch-short xs l s n h e = rw e (simp length-take (omega arith))
+-- a text is short, and a number's text has the length that its start says
+pub text-short : (xs pool : List ℕ) (t : Text) → t .len < 256 → xs ≡ textOf pool t → length xs ≤ 255
+unfolding textOf
+text-short xs pool t h e = rw e (simp length-take (omega arith))
 
 pub text-length : (s : ℕ) (bs xs : List ℕ) → drop s bs ≡ xs → length bs ≡ 21 → 21 - s ≡ length xs
 text-length s bs xs e h = sym (rest-length s bs h) ∙ ap length e

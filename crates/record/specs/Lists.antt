@@ -1,115 +1,162 @@
--- A record without judgement: the commands that stand from a place on, what they give, and what the code's own types mean.
--- Where a reading accepts the record, this is its schema (proofs/Accepted). Assumes nothing.
+-- The lists of a record, read off the places of its commands; what the operands mean over the pool. Assumes nothing.
 use mathlib.Core.List.{List, [], _∷_}
 use mathlib.Core.Option.{Option, none, some}
-use mathlib.Core.Bool.{Bool, true, false, cond}
-use Prim.Native.Nat.{ℕ, zero, suc, _+_, _-_}
-use lib.ListN.{length}
-use Rattle.record.specs.Base.{Str}
-use Rattle.record.specs.Schema.{Schema, Value, integer, words, Const, Alias, Enum, EnumValue, BitField, Member, Key, Field, Struct, Variant, Family, Version}
-use Rattle.record.specs.Reader.{Rec, Cmd, head, constant, alias, enum, value, bits, member, structure, family, variant, field, key, unstored, version, Placed}
-use Rattle.record.specs.Build.{Part, build}
+use mathlib.Core.Bool.{Bool, true, false, _||_, cond}
+use Prim.Native.Nat.{ℕ}
+use lib.ListN.{getD, drop}
+use lib.Dec.{eqb}
+use Rattle.record.specs.Base.{Str, first}
 use Rattle.record.specs.Stretch.{textOf}
-use Rattle.record.specs.Steps.{stepAt}
-use Rattle.record.specs.declared.text.Text.{Text}
+use Rattle.record.specs.Schema.{Heading, Value, integer, words, Const, Alias, Enum, EnumValue, BitField, Member, Key, Field, Struct, Variant, Family, Version}
+use Rattle.record.specs.Commands.{headAt, constantAt, aliasAt, enumAt, valueAt, bitfieldAt, memberAt, structAt, familyAt, variantAt, fieldAt, keyAt, versionAt, commandsAt}
 use Rattle.record.specs.declared.operands.OptText.{OptText}
 use Rattle.record.specs.declared.operands.OptText.the-variants.{Absent, Given}
 use Rattle.record.specs.declared.operands.OptNumber.{OptNumber}
 use Rattle.record.specs.declared.operands.OptNumber.the-variants.{Missing, Number}
-use Rattle.record.specs.declared.command.Cursor.{Cursor}
-use Rattle.record.specs.declared.command.Field as declared
-use Rattle.record.specs.declared.command.Command.{Command}
-use Rattle.record.specs.declared.command.Command.the-variants.{Head, Constant, Alias as AliasC, Enumeration, Value as ValueC, Bits, Bit, Structure, Family as FamilyC, Variant as VariantC, Member as MemberC, PluginKey, Unstored, Version as VersionC}
-use Rattle.record.specs.declared.command.Step.{Step}
-use Rattle.record.specs.declared.command.Step.the-variants.{Next, Stop}
+use Rattle.record.specs.declared.command as D
 
-abbrev pub rec : Str → Str → Rec
-rec s p = record { stream = s; pool = p }
+-- operands ---------------------------------------------------------------------------------------------------------------
 
--- what an operand means over a pool
 abbrev pub optOf : Str → OptText → Option Str
-optOf pool Absent = none
-optOf pool (Given t) = some (textOf pool t)
+optOf p Absent = none
+optOf p (Given t) = some (textOf p t)
 
 abbrev pub numberOf : OptNumber → Option ℕ
 numberOf Missing = none
 numberOf (Number n) = some n
 
+-- a text that the record must have
 abbrev pub wordsOf : Str → OptText → Str
-wordsOf pool Absent = []
-wordsOf pool (Given t) = textOf pool t
+wordsOf p Absent = []
+wordsOf p (Given t) = textOf p t
 
-abbrev pub fieldOf : Str → declared.Field → Option Key → Field
-fieldOf pool f k = record {
-  name = textOf pool (f .name);
-  kind = textOf pool (f .kind);
-  typ = optOf pool (f .«type_name»);
-  element = optOf pool (f .element);
-  count = numberOf (f .count);
-  rows = numberOf (f .rows);
-  cols = numberOf (f .cols);
-  size = numberOf (f .size);
+-- elements ---------------------------------------------------------------------------------------------------------------
+
+abbrev pub headOf : Str → D.Head.Head → Heading
+headOf p c = record { release = optOf p (c .release); unreleased = c .unreleased }
+
+abbrev pub constantOf : Str → D.Constant.Constant → Const
+constantOf p c = record {
+  name = textOf p (c .name);
+  value = cond (c .«is_text») (words (wordsOf p (c .text))) (integer (c .integer));
+  api = c .«ora_api»;
+  since = optOf p (c .«first_release»);
+}
+
+abbrev pub aliasOf : Str → D.TypeAlias.TypeAlias → Alias
+aliasOf p c = record { name = textOf p (c .name); underlying = textOf p (c .underlying) }
+
+abbrev pub enumOf : Str → D.Enum.Enum → List EnumValue → Enum
+enumOf p c l = record { name = textOf p (c .name); size = c .size; api = c .«ora_api»; since = optOf p (c .«first_release»); values = l }
+
+abbrev pub valueOf : Str → D.Value.Value → EnumValue
+valueOf p c = record { name = textOf p (c .name); number = c .value; since = optOf p (c .«first_release») }
+
+abbrev pub bitfieldOf : Str → D.Bitfield.Bitfield → List Member → BitField
+bitfieldOf p c l = record { name = textOf p (c .name); size = c .size; since = optOf p (c .«first_release»); members = l }
+
+abbrev pub memberOf : Str → D.Member.Member → Member
+memberOf p c = record { name = textOf p (c .name); bit = c .bit; width = numberOf (c .width); since = optOf p (c .«first_release») }
+
+abbrev pub structOf : Str → D.Struct.Struct → List Field → Struct
+structOf p c l = record { name = textOf p (c .name); slot = optOf p (c .«generation_slot»); version = optOf p (c .«version_constant»); fields = l }
+
+abbrev pub familyOf : Str → D.Family.Family → List Field → List Variant → Family
+familyOf p c l vs = record {
+  name = textOf p (c .name);
+  discField = textOf p (c .«discriminant_field»);
+  discType = textOf p (c .«discriminant_type»);
+  lenField = textOf p (c .«param_len_field»);
+  lenType = optOf p (c .«param_len_type»);
+  standalone = c .standalone;
+  common = l;
+  variants = vs;
+}
+
+abbrev pub variantOf : Str → D.Variant.Variant → List Field → Variant
+variantOf p c l = record { disc = textOf p (c .discriminant); fields = l }
+
+abbrev pub fieldOf : Str → D.Field.Field → Option Key → Field
+fieldOf p c k = record {
+  name = textOf p (c .name);
+  kind = textOf p (c .kind);
+  typ = optOf p (c .«type_name»);
+  element = optOf p (c .element);
+  count = numberOf (c .count);
+  rows = numberOf (c .rows);
+  cols = numberOf (c .cols);
+  size = numberOf (c .size);
   key = k;
 }
 
--- what a command means over a pool
-abbrev pub meant : Str → Command → Cmd
-meant p (Head r u) = head (optOf p r) u
-meant p (Constant n t v w a f) =
-    constant (record { name = textOf p n; value = cond t (words (wordsOf p w)) (integer v); api = a; since = optOf p f })
-meant p (AliasC n u) = alias (record { name = textOf p n; underlying = textOf p u })
-meant p (Enumeration n z a f) = enum (record { name = textOf p n; size = z; api = a; since = optOf p f; values = [] })
-meant p (ValueC n v f) = value (record { name = textOf p n; number = v; since = optOf p f })
-meant p (Bits n z f) = bits (record { name = textOf p n; size = z; since = optOf p f; members = [] })
-meant p (Bit n b w f) = member (record { name = textOf p n; bit = b; width = numberOf w; since = optOf p f })
-meant p (Structure n s v) = structure (record { name = textOf p n; slot = optOf p s; version = optOf p v; fields = [] })
-meant p (FamilyC n d t l m a) =
-    family (record {
-      name = textOf p n;
-      discField = textOf p d;
-      discType = textOf p t;
-      lenField = textOf p l;
-      lenType = optOf p m;
-      standalone = a;
-      common = [];
-      variants = [];
-    })
-meant p (VariantC d) = variant (textOf p d)
-meant p (MemberC f) = field (fieldOf p f none)
-meant p (PluginKey n f) = key (record { name = textOf p n; since = optOf p f })
-meant p (Unstored n f) = unstored (record { name = textOf p n; since = optOf p f })
-meant p (VersionC s v) = version (record { struct = textOf p s; version = v })
+abbrev pub keyOf : Str → D.PluginKey.PluginKey → Key
+keyOf p c = record { name = textOf p (c .name); since = optOf p (c .«first_release») }
 
--- the commands that stand from a place on
-unfoldable pub commandsFrom : ℕ → Rec → ℕ → List Placed
-commandsFrom zero r at = []
-commandsFrom (suc n) r at =
-    elim (stepAt (r .stream) at)
-    [ Next c k ↦ record { place = at; cmd = meant (r .pool) c } ∷ commandsFrom n r (k .at) | Stop ↦ [] ]
+abbrev pub versionOf : Str → D.Version.Version → Version
+versionOf p c = record { struct = textOf p (c .«struct_name»); version = c .version }
 
-unfoldable pub commandsAt : Rec → ℕ → List Placed
-commandsAt r at = commandsFrom (length (r .stream) - at) r at
+-- lists ------------------------------------------------------------------------------------------------------------------
 
--- what they give: whole sections, and the children that wait for a parent
-unfoldable pub partAt : Rec → ℕ → Part
-partAt r at = build (commandsAt r at)
+-- the elements that the commands at these places give: each command of number b gives one, from its place and the places after it;
+-- a command that may stand between is passed over, and any other ends the list
+unfoldable pub listed : {A : Type 0} → Str → (ℕ → Bool) → ℕ → (ℕ → List ℕ → A) → List ℕ → List A
+listed s over b f [] = []
+listed s over b f (at ∷ ps) =
+    cond (eqb (getD s at 0) b) (f at ps ∷ listed s over b f ps)
+    (cond (over (getD s at 0)) (listed s over b f ps) [])
 
--- the record's schema, whether it is refused or not
-unfoldable pub schemaOf : Rec → Schema
-schemaOf r = partAt r 0 .schema
+-- what may stand between the elements of a list: all commands, none, plugin keys, fields with their keys
+abbrev pub anything : ℕ → Bool
+anything b = true
 
--- the lists that begin at a place
-unfoldable pub enumsAt : Rec → ℕ → List Enum
-enumsAt r at = partAt r at .schema .enums
+abbrev pub nothing : ℕ → Bool
+nothing b = false
 
-unfoldable pub valuesAt : Rec → ℕ → List EnumValue
-valuesAt r at = partAt r at .values
+abbrev pub aKey : ℕ → Bool
+aKey b = eqb b 12
 
-unfoldable pub aliasesAt : Rec → ℕ → List Alias
-aliasesAt r at = partAt r at .schema .aliases
+abbrev pub aField : ℕ → Bool
+aField b = eqb b 11 || eqb b 12
 
-unfoldable pub bitfieldsAt : Rec → ℕ → List BitField
-bitfieldsAt r at = partAt r at .schema .bitfields
+module _ (s p : Str) where
+  unfoldable pub heads : List ℕ → List Heading
+  heads = listed s anything 1 (λ at rest. headOf p (headAt (drop at s)))
 
-unfoldable pub membersAt : Rec → ℕ → List Member
-membersAt r at = partAt r at .members
+  unfoldable pub constants : List ℕ → List Const
+  constants = listed s anything 2 (λ at rest. constantOf p (constantAt (drop at s)))
+
+  unfoldable pub aliases : List ℕ → List Alias
+  aliases = listed s anything 3 (λ at rest. aliasOf p (aliasAt (drop at s)))
+
+  unfoldable pub values : List ℕ → List EnumValue
+  values = listed s nothing 5 (λ at rest. valueOf p (valueAt (drop at s)))
+
+  unfoldable pub enums : List ℕ → List Enum
+  enums = listed s anything 4 (λ at rest. enumOf p (enumAt (drop at s)) (values rest))
+
+  unfoldable pub members : List ℕ → List Member
+  members = listed s nothing 7 (λ at rest. memberOf p (memberAt (drop at s)))
+
+  unfoldable pub bitfields : List ℕ → List BitField
+  bitfields = listed s anything 6 (λ at rest. bitfieldOf p (bitfieldAt (drop at s)) (members rest))
+
+  unfoldable pub keys : List ℕ → List Key
+  keys = listed s nothing 12 (λ at rest. keyOf p (keyAt (drop at s)))
+
+  unfoldable pub fields : List ℕ → List Field
+  fields = listed s aKey 11 (λ at rest. fieldOf p (fieldAt (drop at s)) (first (keys rest)))
+
+  unfoldable pub structs : List ℕ → List Struct
+  structs = listed s anything 8 (λ at rest. structOf p (structAt (drop at s)) (fields rest))
+
+  unfoldable pub variants : List ℕ → List Variant
+  variants = listed s aField 10 (λ at rest. variantOf p (variantAt (drop at s)) (fields rest))
+
+  unfoldable pub families : List ℕ → List Family
+  families = listed s anything 9 (λ at rest. familyOf p (familyAt (drop at s)) (fields rest) (variants rest))
+
+  unfoldable pub unstored : List ℕ → List Key
+  unstored = listed s anything 13 (λ at rest. keyOf p (keyAt (drop at s)))
+
+  unfoldable pub versions : List ℕ → List Version
+  versions = listed s anything 14 (λ at rest. versionOf p (versionAt (drop at s)))

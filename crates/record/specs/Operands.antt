@@ -1,7 +1,7 @@
 -- The operands of a command, at a place of the bytes from the command on. A byte past the end counts as 0.
 use Prim.Native.Nat.{ℕ, _+_}
 use mathlib.Core.List.{List}
-use mathlib.Core.Bool.{Bool, true, false, not}
+use mathlib.Core.Bool.{Bool, cond}
 use lib.ListN.{getD}
 use lib.Dec.{eqb}
 use Rattle.record.specs.Le.{u16At, u32At}
@@ -15,13 +15,9 @@ use Rattle.record.specs.declared.operands.OptNumber.the-variants.{Missin
 unfoldable pub textAt : List ℕ → ℕ → Text
 textAt s at = record { start = u16At s at; len = getD s (at + 2) 0 }
 
-abbrev pub pick : {A : Type 0} → Bool → A → A → A
-pick true a b = a
-pick false a b = b
-
 -- O: FFFF hex with the length 0 is an absent text
 unfoldable pub optText : Text → OptText
-optText t = pick (eqb (t .start) 65535) (pick (eqb (t .len) 0) Absent (Given t)) (Given t)
+optText t = cond (eqb (t .start) 65535) (cond (eqb (t .len) 0) Absent (Given t)) (Given t)
 
 unfoldable pub optTextAt : List ℕ → ℕ → OptText
 optTextAt s at = optText (textAt s at)
@@ -32,4 +28,4 @@ flagAt s at = eqb (getD s at 0) 1
 
 -- N: a flag, and four bytes
 unfoldable pub optNumberAt : List ℕ → ℕ → OptNumber
-optNumberAt s at = pick (eqb (getD s at 0) 0) Missing (Number (u32At s (at + 1)))
+optNumberAt s at = cond (eqb (getD s at 0) 0) Missing (Number (u32At s (at + 1)))

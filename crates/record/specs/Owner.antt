@@ -1,54 +1,74 @@
--- Ownership. Assumes nothing.
+-- Ownership: referenced_type, slot_of, struct_in_slot, type_fields, claim and ownership of schema.rs, and 01's sentence. Assumes nothing.
 use mathlib.Core.Path.{_≡_}
 use mathlib.Core.List.{List, [], _∷_, _++_, map, List·Memᴰ}
 use mathlib.Core.Option.{Option, none, some}
-use mathlib.Core.Bool.{Bool, true, false, _&&_, _||_, not, cond}
+use mathlib.Core.Bool.{Bool, true, false, cond}
 use Prim.Native.Nat.{ℕ, zero, suc, _+_}
 use lib.ListN.{length}
-use Rattle.record.specs.Base.{Str, bytes, eqs, isText, orElse, find, any}
+use Rattle.record.specs.Base.{Str, bytes, eqs, isText, isSome, find}
 use Rattle.record.specs.Schema.{Schema, Field, Struct, Family, Variant}
+use Rattle.record.specs.Steps.{structIn, familyIn}
+use Rattle.record.specs.Kind.{kindOf}
+use Rattle.record.specs.declared.kind.Kind.{Kind}
+use Rattle.record.specs.declared.kind.Kind.the-variants as K
 
-unfoldable pub structNamed : Schema → Str → Option Struct
-structNamed s n = find (λ (t : Struct). eqs (t .name) n) (s .structs)
+-- the types that references lead through
+pub record Types : Type 0 where
+  pub structs : List Struct
+  pub families : List Family
 
-unfoldable pub familyNamed : Schema → Str → Option Family
-familyNamed s n = find (λ (m : Family). eqs (m .name) n) (s .families)
+abbrev pub typesIn : Schema → Types
+typesIn s = record { structs = s .structs; families = s .families }
 
-unfoldable pub structIn : Schema → Str → Option Struct
-structIn s slot = find (λ (t : Struct). isText (t .slot) slot) (s .structs)
+-- the first structure with this slot text
+unfoldable pub structInSlot : Str → List Struct → Option Struct
+structInSlot slot l = find (λ (t : Struct). isText (t .slot) slot) l
 
-unfoldable pub hasSlot : Option Struct → Bool
-hasSlot none = false
-hasSlot (some t) = present (t .slot)
-  where
-    present : Option Str → Bool
-    present none = false
-    present (some x) = true
+unfoldable pub slotted : Option Struct → Bool
+slotted none = false
+slotted (some t) = isSome (t .slot)
 
-unfoldable pub namesType : List Str
-namesType = bytes "struct_ptr" ∷ bytes "tagged_fam_ptr" ∷ bytes "simple_fam_ptr" ∷ []
+-- whether the first structure of this name has slot text, whatever it says
+unfoldable pub hasSlot : Types → Str → Bool
+hasSlot t n = slotted (structIn n (t .structs))
 
-unfoldable pub namesElement : List Str
-namesElement = bytes "struct_array_ptr" ∷ bytes "struct_ptr_array_ptr" ∷ []
+unfoldable pub referencedAs : Kind → Field → Option Str
+referencedAs K.StructPtr f = f .typ
+referencedAs K.TaggedFamPtr f = f .typ
+referencedAs K.SimpleFamPtr f = f .typ
+referencedAs K.StructArrayPtr f = f .element
+referencedAs K.StructPtrArrayPtr f = f .element
+referencedAs K.Scalar f = none
+referencedAs K.Enum f = none
+referencedAs K.TypeAlias f = none
+referencedAs K.Bitfield f = none
+referencedAs K.InlineArray f = none
+referencedAs K.InlineArray2d f = none
+referencedAs K.CstrPtr f = none
+referencedAs K.OpaquePtr f = none
+referencedAs K.FnPtr f = none
+referencedAs K.Padding f = none
+referencedAs K.Text f = none
+referencedAs K.Other f = none
 
+-- the name that a field refers to
 unfoldable pub referenced : Field → Option Str
-referenced f =
-    cond (any (eqs (f .kind)) namesType) (f .typ)
-    (cond (any (eqs (f .kind)) namesElement) (f .element) none)
+referenced f = referencedAs (kindOf (f .kind)) f
 
 unfoldable pub variantFields : List Variant → List Field
 variantFields [] = []
 variantFields (v ∷ vs) = v .fields ++ variantFields vs
 
-unfoldable pub fieldsOf : Option Struct → Option Family → List Field
-fieldsOf (some t) m = t .fields
-fieldsOf none (some m) = m .common ++ variantFields (m .variants)
-fieldsOf none none = []
+unfoldable pub fieldsIn : Option Struct → Option Family → List Field
+fieldsIn (some t) m = t .fields
+fieldsIn none (some m) = m .common ++ variantFields (m .variants)
+fieldsIn none none = []
 
-unfoldable pub typeFields : Schema → Str → List Field
-typeFields s n = fieldsOf (structNamed s n) (familyNamed s n)
+-- the fields of the first structure of this name, else of the first family
+unfoldable pub typeFields : Types → Str → List Field
+typeFields t n = fieldsIn (structIn n (t .structs)) (familyIn n (t .families))
 
--- the map of owners: name and root, the first entry of a name counts
+-- the map of owners: a name and its root, the first entry of a name counts
 pub record Owned : Type 0 where
   pub name : Str
   pub root : Str
@@ -68,60 +88,66 @@ enter (some o) g os = os
 enter none g os = g os
 
 -- a field's walk visits the type it names
-unfoldable pub visit : (Str → List Owned → List Owned) → Schema → Option Str → List Owned → List Owned
-visit go s none os = os
-visit go s (some n) os = unless (hasSlot (structNamed s n)) (go n) os
+unfoldable pub visit : (Str → List Owned → List Owned) → Types → Option Str → List Owned → List Owned
+visit go t none os = os
+visit go t (some n) os = unless (hasSlot t n) (go n) os
 
 -- a type's walk visits its fields
-unfoldable pub visitAll : (Str → List Owned → List Owned) → Schema → List Field → List Owned → List Owned
-visitAll go s [] os = os
-visitAll go s (f ∷ fs) os = visitAll go s fs (visit go s (referenced f) os)
+unfoldable pub visitAll : (Str → List Owned → List Owned) → Types → List Field → List Owned → List Owned
+visitAll go t [] os = os
+visitAll go t (f ∷ fs) os = visitAll go t fs (visit go t (referenced f) os)
 
-unfoldable pub claim : ℕ → Schema → Str → Str → List Owned → List Owned
-claim zero s root n os = os
-claim (suc k) s root n os =
-    enter (ownedIn os n) (λ (x : List Owned). visitAll (claim k s root) s (typeFields s n) (record { name = n; root = root } ∷ x)) os
+unfoldable pub claim : ℕ → Types → Str → Str → List Owned → List Owned
+claim zero t root n os = os
+claim (suc k) t root n os =
+    enter (ownedIn os n) (λ (x : List Owned). visitAll (claim k t root) t (typeFields t n) (record { name = n; root = root } ∷ x)) os
 
-unfoldable pub declared : Schema → List Str
-declared s = map (λ (t : Struct). t .name) (s .structs) ++ map (λ (m : Family). m .name) (s .families)
+unfoldable pub declared : Types → List Str
+declared t = map (λ (s : Struct). s .name) (t .structs) ++ map (λ (m : Family). m .name) (t .families)
 
-unfoldable pub claimRoots : Schema → List Str → List Owned → List Owned
-claimRoots s [] os = os
-claimRoots s (r ∷ rs) os = claimRoots s rs (claim (length (declared s) + 1) s r r os)
+unfoldable pub claimRoots : Types → List Str → List Owned → List Owned
+claimRoots t [] os = os
+claimRoots t (r ∷ rs) os = claimRoots t rs (claim (length (declared t) + 1) t r r os)
 
-unfoldable pub withRoot : Option Struct → List Str → List Str
-withRoot none l = l
-withRoot (some t) l = t .name ∷ l
+unfoldable pub withName : Option Struct → List Str → List Str
+withName none l = l
+withName (some s) l = s .name ∷ l
 
-unfoldable pub rootsIn : Schema → List Str → List Str
-rootsIn s [] = []
-rootsIn s (x ∷ xs) = withRoot (structIn s x) (rootsIn s xs)
+-- the names of the structures that fill these slots
+unfoldable pub rootsIn : List Struct → List Str → List Str
+rootsIn ss [] = []
+rootsIn ss (x ∷ xs) = withName (structInSlot x ss) (rootsIn ss xs)
 
-unfoldable pub roots : Schema → List Str
-roots s = rootsIn s (bytes "metadata" ∷ bytes "runtime" ∷ bytes "info" ∷ [])
+-- the order in which ownership resolves
+unfoldable pub ownershipOrder : List Str
+ownershipOrder = bytes "metadata" ∷ bytes "runtime" ∷ bytes "info" ∷ []
+
+unfoldable pub roots : Types → List Str
+roots t = rootsIn (t .structs) ownershipOrder
 
 unfoldable pub rootOf : Option Owned → Option Str
 rootOf none = none
 rootOf (some o) = some (o .root)
 
-unfoldable pub ownerOf : Schema → Str → Option Str
-ownerOf s n = rootOf (ownedIn (claimRoots s (roots s) []) n)
+unfoldable pub ownerOf : Types → Str → Option Str
+ownerOf t n = rootOf (ownedIn (claimRoots t (roots t) []) n)
 
--- the paper's words ------------------------------------------------------------------------------------------------------
+-- 01's sentence: the first root, in slot order metadata, runtime, info, from which references lead to the name without entering a structure
+-- with any slot text ------------------------------------------------------------------------------------------------------
 
 -- a field of m names n, and n is no structure with slot text
-pub record Edge (s : Schema) (m n : Str) : Type 0 where
+pub record Edge (t : Types) (m n : Str) : Type 0 where
   pub field : Field
-  pub is-field : List·Memᴰ field (typeFields s m)
+  pub is-field : List·Memᴰ field (typeFields t m)
   pub names : referenced field ≡ some n
-  pub free : hasSlot (structNamed s n) ≡ false
+  pub free : hasSlot t n ≡ false
 
 -- references lead from a to b
-pub data Leads (s : Schema) (a : Str) : Str → Type 0 where
-  here : {b : Str} → a ≡ b → Leads s a b
-  along : {m b : Str} → Leads s a m → Edge s m b → Leads s a b
+pub data Leads (t : Types) (a : Str) : Str → Type 0 where
+  here : {b : Str} → a ≡ b → Leads t a b
+  along : {m b : Str} → Leads t a m → Edge t m b → Leads t a b
 
 -- r is the first of these roots that leads to n
-pub data First (s : Schema) (n : Str) : List Str → Str → Type 0 where
-  now : {r q : Str} {rs : List Str} → q ≡ r → Leads s q n → First s n (q ∷ rs) r
-  later : {r q : Str} {rs : List Str} → (Leads s q n → ⊥) → First s n rs r → First s n (q ∷ rs) r
+pub data First (t : Types) (n : Str) : List Str → Str → Type 0 where
+  now : {r q : Str} {rs : List Str} → q ≡ r → Leads t q n → First t n (q ∷ rs) r
+  later : {r q : Str} {rs : List Str} → (Leads t q n → ⊥) → First t n rs r → First t n (q ∷ rs) r

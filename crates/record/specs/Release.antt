@@ -1,10 +1,15 @@
--- Releases as three numbers. Assumes nothing.
-use mathlib.Core.List.{List, [], _∷_, _++_, map}
-use mathlib.Core.Option.{Option, none, some}
-use mathlib.Core.Bool.{Bool, true, false, _&&_, _||_, not, cond}
-use Prim.Native.Nat.{ℕ, zero, suc, _+_, _-_, _*_, _^_}
+-- Releases as three numbers.
+use Prim.Native.Nat.{ℕ, _+_, _-_, _*_, _^_}
+use mathlib.Core.List.{List, [], _∷_}
+use mathlib.Core.Bool.{Bool, true, _&&_, _||_, not, cond}
+use lib.ListN.{length, getD}
 use lib.Dec.{eqb, ltb, leb}
 use Rattle.record.specs.Base.{Str, bytes, eqs}
+use Rattle.record.specs.declared.release.Release.{Release}
+use Rattle.record.specs.declared.release.ReleaseParts.{ReleaseParts}
+use Rattle.record.specs.declared.release.ReleaseParts.the-variants.{NotARelease, Parts}
+use Rattle.record.specs.declared.release.Parsed.{Parsed}
+use Rattle.record.specs.declared.release.Parsed.the-variants.{Vast, Number}
 
 unfoldable pub ontoHead : ℕ → List Str → List Str
 ontoHead a [] = (a ∷ []) ∷ []
@@ -22,45 +27,45 @@ unfoldable pub allDigits : Str → Bool
 allDigits [] = true
 allDigits (a ∷ s) = digit a && allDigits s
 
-unfoldable pub startsZero : Str → Bool
-startsZero [] = false
-startsZero (a ∷ s) = eqb a 48
-
-unfoldable pub isEmpty : Str → Bool
-isEmpty [] = true
-isEmpty (a ∷ s) = false
-
+-- a part written the one way there is: no empty one, digits only, and no 0 in front of others
 unfoldable pub isDecimal : Str → Bool
-isDecimal s = not (isEmpty s) && allDigits s && (eqs s (bytes "0") || not (startsZero s))
+isDecimal s = not (eqb (length s) 0) && allDigits s && (eqs s (bytes "0") || not (eqb (getD s 0 0) 48))
 
+unfoldable pub allDecimal : List Str → Bool
+allDecimal [] = true
+allDecimal (p ∷ ps) = isDecimal p && allDecimal ps
+
+unfoldable pub isRelease : Str → Bool
+isRelease s = eqb (length (parts s)) 3 && allDecimal (parts s)
+
+-- the number that digits write, after others that wrote acc
 unfoldable pub number : ℕ → Str → ℕ
 number acc [] = acc
 number acc (a ∷ s) = number (acc * 10 + (a - 48)) s
 
-pub record Release : Type 0 where
-  pub major : ℕ
-  pub minor : ℕ
-  pub patch : ℕ
+-- a number of 32 bits
+unfoldable pub parsed : ℕ → Parsed
+parsed n = cond (ltb n (2 ^ 32)) (Number n) Vast
 
-unfoldable pub fits : ℕ → Bool
-fits n = ltb n (2 ^ 32)
+unfoldable pub parsedPart : Str → ℕ → Parsed
+parsedPart s i = parsed (number 0 (getD (parts s) i []))
 
-unfoldable pub threeParts : List Str → Option Release
-threeParts [] = none
-threeParts (a ∷ []) = none
-threeParts (a ∷ b ∷ []) = none
-threeParts (a ∷ b ∷ c ∷ []) =
-    cond (isDecimal a && isDecimal b && isDecimal c && fits (number 0 a) && fits (number 0 b) && fits (number 0 c))
-    (some (record { major = number 0 a; minor = number 0 b; patch = number 0 c })) none
-threeParts (a ∷ b ∷ c ∷ d ∷ s) = none
+abbrev pub ofNumbers : Parsed → Parsed → Parsed → ReleaseParts
+ofNumbers Vast b c = NotARelease
+ofNumbers (Number a) Vast c = NotARelease
+ofNumbers (Number a) (Number b) Vast = NotARelease
+ofNumbers (Number a) (Number b) (Number c) = Parts (record { major = a; minor = b; patch = c })
 
-unfoldable pub releaseParts : Str → Option Release
-releaseParts s = threeParts (parts s)
+-- a release whose numbers are of 32 bits
+unfoldable pub releaseParts : Str → ReleaseParts
+releaseParts s = cond (isRelease s) (ofNumbers (parsedPart s 0) (parsedPart s 1) (parsedPart s 2)) NotARelease
 
 unfoldable pub earlier : Release → Release → Bool
 earlier a b =
-    ltb (a .major) (b .major)
-    || (eqb (a .major) (b .major) && (ltb (a .minor) (b .minor) || (eqb (a .minor) (b .minor) && ltb (a .patch) (b .patch))))
+    cond (eqb (a .major) (b .major))
+    (cond (eqb (a .minor) (b .minor)) (ltb (a .patch) (b .patch)) (ltb (a .minor) (b .minor)))
+    (ltb (a .major) (b .major))
 
+-- the release in which a schema first names its own: a copy without one is older
 unfoldable pub firstNaming : Release
 firstNaming = record { major = 0; minor = 8; patch = 0 }

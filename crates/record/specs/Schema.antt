@@ -4,6 +4,11 @@ use mathlib.Core.Option.{Option, none, some}
 use mathlib.Core.Bool.{Bool, true, false}
 use Prim.Native.Nat.{ℕ}
 use Rattle.record.specs.Base.{Str}
+use Rattle.record.specs.Scalars.{Scalar}
+
+pub record Heading : Type 0 where
+  pub release : Option Str
+  pub unreleased : Bool
 
 pub data Value : Type 0 where
   integer : ℕ → Value
@@ -83,6 +88,8 @@ pub record Version : Type 0 where
   pub version : ℕ
 
 pub record Schema : Type 0 where
+  -- the table of scalar words under which the record is read
+  pub scalars : List Scalar
   pub release : Option Str
   pub unreleased : Bool
   pub constants : List Const

@@ -1,101 +1,94 @@
--- Kinds, sizes, descriptions and places of fields. Assumes nothing.
-use mathlib.Core.List.{List, [], _∷_, _++_, map}
+-- Sizes, descriptions and places of fields: shape_size and shape_type of schema.rs, add_type and fam_prefix of layout.rs. Assumes nothing.
+use mathlib.Core.List.{List, [], _∷_, _++_}
 use mathlib.Core.Option.{Option, none, some}
-use mathlib.Core.Bool.{Bool, true, false, _&&_, _||_, not, cond}
+use mathlib.Core.Bool.{Bool, cond}
 use Prim.Native.Nat.{ℕ, _+_, _*_}
-use lib.Dec.{eqb}
-use Rattle.record.specs.Base.{Str, bytes, eqs, before, decimal, orElse, find, any}
-use Rattle.record.specs.Schema.{Schema, Field, Struct, Family, Variant, Enum, Alias, BitField}
+use lib.Dec.{leb}
+use Rattle.record.specs.Base.{Str, bytes, decimal, orElse, orOption, mapOption}
+use Rattle.record.specs.Scalars.{Scalar, primSize}
+use Rattle.record.specs.Schema.{Schema, Field, Family, Enum, Alias, BitField}
+use Rattle.record.specs.Steps.{enumIn, aliasIn, bitfieldIn}
+use Rattle.record.specs.Kind.{kindOf, isPadding}
+use Rattle.record.specs.declared.kind.Kind.{Kind}
+use Rattle.record.specs.declared.kind.Kind.the-variants as K
 
-pub data Kind : Type 0 where
-  scalar enum alias bitfield array array2d pointer padding text other : Kind
+-- sizes ------------------------------------------------------------------------------------------------------------------
 
-unfoldable pub pointers : List Str
-pointers =
-    bytes "cstr_ptr" ∷ bytes "struct_ptr" ∷ bytes "struct_array_ptr" ∷ bytes "struct_ptr_array_ptr"
-    ∷ bytes "tagged_fam_ptr" ∷ bytes "simple_fam_ptr" ∷ bytes "opaque_ptr" ∷ bytes "fn_ptr" ∷ []
+unfoldable pub enumSize : List Enum → Str → Option ℕ
+enumSize es n = mapOption (λ (e : Enum). e .size) (enumIn n es)
 
--- the sixteen words
-unfoldable pub kinds : List Str
-kinds =
-    bytes "scalar" ∷ bytes "enum" ∷ bytes "type_alias" ∷ bytes "bitfield" ∷ bytes "inline_array" ∷ bytes "inline_array2d"
-    ∷ bytes "padding" ∷ bytes "string" ∷ pointers
+unfoldable pub aliasSize : List Scalar → List Alias → Str → Option ℕ
+aliasSize w as₀ n = mapOption (λ (a : Alias). primSize w (a .underlying)) (aliasIn n as₀)
 
-unfoldable pub kindOf : Str → Kind
-kindOf k =
-    cond (eqs k (bytes "scalar")) scalar
-    (cond (eqs k (bytes "enum")) enum
-    (cond (eqs k (bytes "type_alias")) alias
-    (cond (eqs k (bytes "bitfield")) bitfield
-    (cond (eqs k (bytes "inline_array")) array
-    (cond (eqs k (bytes "inline_array2d")) array2d
-    (cond (eqs k (bytes "padding")) padding
-    (cond (eqs k (bytes "string")) text
-    (cond (any (eqs k) pointers) pointer other))))))))
+unfoldable pub bitfieldSize : List BitField → Str → Option ℕ
+bitfieldSize bs n = mapOption (λ (b : BitField). b .size) (bitfieldIn n bs)
 
-unfoldable pub primSize : Str → ℕ
-primSize t =
-    cond (eqs t (bytes "u8") || eqs t (bytes "char")) 1
-    (cond (eqs t (bytes "u16")) 2
-    (cond (eqs t (bytes "u32")) 4 0))
-
-unfoldable pub sized {ℓ} : {A : Type ℓ} → Option A → (A → Option ℕ) → ℕ → ℕ
+-- the size of the type that a field names, or this one where it names none or none is declared
+unfoldable pub sized : Option Str → (Str → Option ℕ) → ℕ → ℕ
 sized none f d = d
-sized (some a) f d = orElse (f a) d
+sized (some n) f d = orElse (f n) d
 
-unfoldable pub mapOption {ℓ} : {A B : Type ℓ} → (A → B) → Option A → Option B
-mapOption f none = none
-mapOption f (some a) = some (f a)
-
-unfoldable pub enumSize : Schema → Str → Option ℕ
-enumSize s n = mapOption (λ (e : Enum). e .size) (find (λ (e : Enum). eqs (e .name) n) (s .enums))
-
-unfoldable pub aliasSize : Schema → Str → Option ℕ
-aliasSize s n = mapOption (λ (a : Alias). primSize (a .underlying)) (find (λ (a : Alias). eqs (a .name) n) (s .aliases))
-
-unfoldable pub bitfieldSize : Schema → Str → Option ℕ
-bitfieldSize s n = mapOption (λ (b : BitField). b .size) (find (λ (b : BitField). eqs (b .name) n) (s .bitfields))
+-- the size of a scalar that is a byte where no word is given
+unfoldable pub scalarSize : Schema → Option Str → ℕ
+scalarSize s t = primSize (s .scalars) (orElse t (bytes "u8"))
 
 unfoldable pub sizeAs : Kind → Schema → Field → ℕ
-sizeAs scalar s f = primSize (orElse (f .typ) (bytes "u8"))
-sizeAs enum s f = sized (f .typ) (enumSize s) 1
-sizeAs alias s f = sized (f .typ) (aliasSize s) 2
-sizeAs bitfield s f = sized (f .typ) (bitfieldSize s) 0
-sizeAs array s f = primSize (orElse (f .element) (bytes "u8")) * orElse (f .count) 0
-sizeAs array2d s f = primSize (orElse (f .element) (bytes "u8")) * orElse (f .rows) 0 * orElse (f .cols) 0
-sizeAs pointer s f = 4
-sizeAs padding s f = orElse (f .size) 0
-sizeAs text s f = 0
-sizeAs other s f = 0
+sizeAs K.Scalar s f = scalarSize s (f .typ)
+sizeAs K.Enum s f = sized (f .typ) (enumSize (s .enums)) 1
+sizeAs K.TypeAlias s f = sized (f .typ) (aliasSize (s .scalars) (s .aliases)) 2
+sizeAs K.Bitfield s f = sized (f .typ) (bitfieldSize (s .bitfields)) 0
+sizeAs K.InlineArray s f = scalarSize s (f .element) * orElse (f .count) 0
+sizeAs K.InlineArray2d s f = scalarSize s (f .element) * orElse (f .rows) 0 * orElse (f .cols) 0
+sizeAs K.CstrPtr s f = 4
+sizeAs K.StructPtr s f = 4
+sizeAs K.StructArrayPtr s f = 4
+sizeAs K.StructPtrArrayPtr s f = 4
+sizeAs K.TaggedFamPtr s f = 4
+sizeAs K.SimpleFamPtr s f = 4
+sizeAs K.OpaquePtr s f = 4
+sizeAs K.FnPtr s f = 4
+sizeAs K.Padding s f = orElse (f .size) 0
+sizeAs K.Text s f = 0
+sizeAs K.Other s f = 0
 
 unfoldable pub shapeSize : Schema → Field → ℕ
 shapeSize s f = sizeAs (kindOf (f .kind)) s f
 
-unfoldable pub orOption {ℓ} : {A : Type ℓ} → Option A → Option A → Option A
-orOption none b = b
-orOption (some a) b = some a
+-- descriptions -----------------------------------------------------------------------------------------------------------
 
--- the description after the kind: nothing, or a space and more
+-- what stands after the kind: nothing, or a space and more
 unfoldable pub spaced : Option Str → Str
 spaced none = []
 spaced (some n) = 32 ∷ n
 
+unfoldable pub named : Field → Str
+named f = spaced (orOption (f .typ) (f .element))
+
 unfoldable pub restAs : Kind → Field → Str
-restAs array f = 32 ∷ orElse (f .element) (bytes "u8") ++ bytes " x " ++ decimal (orElse (f .count) 0)
-restAs array2d f =
+restAs K.InlineArray f = 32 ∷ orElse (f .element) (bytes "u8") ++ bytes " x " ++ decimal (orElse (f .count) 0)
+restAs K.InlineArray2d f =
     32 ∷ orElse (f .element) (bytes "u8") ++ bytes " x " ++ decimal (orElse (f .rows) 0)
     ++ bytes " x " ++ decimal (orElse (f .cols) 0)
-restAs scalar f = spaced (orOption (f .typ) (f .element))
-restAs enum f = spaced (orOption (f .typ) (f .element))
-restAs alias f = spaced (orOption (f .typ) (f .element))
-restAs bitfield f = spaced (orOption (f .typ) (f .element))
-restAs pointer f = spaced (orOption (f .typ) (f .element))
-restAs padding f = spaced (orOption (f .typ) (f .element))
-restAs text f = spaced (orOption (f .typ) (f .element))
-restAs other f = spaced (orOption (f .typ) (f .element))
+restAs K.Scalar f = named f
+restAs K.Enum f = named f
+restAs K.TypeAlias f = named f
+restAs K.Bitfield f = named f
+restAs K.CstrPtr f = named f
+restAs K.StructPtr f = named f
+restAs K.StructArrayPtr f = named f
+restAs K.StructPtrArrayPtr f = named f
+restAs K.TaggedFamPtr f = named f
+restAs K.SimpleFamPtr f = named f
+restAs K.OpaquePtr f = named f
+restAs K.FnPtr f = named f
+restAs K.Padding f = named f
+restAs K.Text f = named f
+restAs K.Other f = named f
 
 unfoldable pub shapeType : Field → Str
 shapeType f = f .kind ++ restAs (kindOf (f .kind)) f
+
+-- places -----------------------------------------------------------------------------------------------------------------
 
 pub record Place : Type 0 where
   pub name : Str
@@ -110,9 +103,10 @@ placeOf s at f = record {
   offset = at;
   size = shapeSize s f;
   described = shapeType f;
-  padding = eqs (f .kind) (bytes "padding");
+  padding = isPadding (kindOf (f .kind));
 }
 
+-- fields follow each other without alignment
 unfoldable pub places : Schema → ℕ → List Field → List Place
 places s at [] = []
 places s at (f ∷ fs) = placeOf s at f ∷ places s (at + shapeSize s f) fs
@@ -130,7 +124,18 @@ plain n k t = record {
   key = none;
 }
 
+-- a family begins with its discriminant and its length field
 unfoldable pub prefix : Family → List Field
 prefix m =
     plain (m .discField) (bytes "enum") (m .discType)
     ∷ plain (m .lenField) (bytes "scalar") (orElse (m .lenType) (bytes "u8")) ∷ []
+
+-- the limit --------------------------------------------------------------------------------------------------------------
+
+-- the largest end of a field that number 9 lets pass
+abbrev pub limit : ℕ
+limit = 4294967295
+
+-- a size as far as the limit: one more stands for all that are larger
+unfoldable pub capped : ℕ → ℕ
+capped n = cond (leb n limit) n (limit + 1)

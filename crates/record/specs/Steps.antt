@@ -1,99 +1,369 @@
--- The commands of a stream: what the bytes from a place on are, and the list of all commands.
-use Prim.Native.Nat.{ℕ, zero, suc, _+_, _-_}
+-- The lists of a record from a place on, and what a step along each answers. Written by tools/lists.py. Assumes nothing.
+use mathlib.Core.Path.{_≡_}
 use mathlib.Core.List.{List, [], _∷_}
-use mathlib.Core.Bool.{Bool, true, false}
-use lib.ListN.{getD, length, drop}
-use lib.Dec.{eqb, ltb}
-use Rattle.record.specs.Le.{u32At, u64At}
-use Rattle.record.specs.Operands.{pick, textAt, optTextAt, optNumberAt, flagAt}
-use Rattle.record.specs.declared.command.Cursor.{Cursor}
-use Rattle.record.specs.declared.command.Field.{Field}
-use Rattle.record.specs.declared.command.Command.{Command}
-use Rattle.record.specs.declared.command.Command.the-variants.{Head, Constant, Alias, Enumeration, Value, Bits, Bit, Structure, Family, Variant, Member, PluginKey, Unstored, Version}
-use Rattle.record.specs.declared.command.Step.{Step}
-use Rattle.record.specs.declared.command.Step.the-variants.{Next, Stop}
+use mathlib.Core.Option.{Option, none, some}
+use Prim.Native.Nat.{ℕ, suc, _-_, _≤_}
+use lib.ListN.{length}
+use Rattle.record.specs.Base.{Str, eqs, find, first}
+use Rattle.record.specs.Schema.{Alias, BitField, Const, Enum, EnumValue, Family, Field, Heading, Key, Member, Struct, Variant, Version}
+use Rattle.record.specs.Commands.{commandsAt}
+use Rattle.record.specs.Lists.{aliasOf, aliases, bitfieldOf, bitfields, constantOf, constants, enumOf, enums, families, familyOf, fieldOf, fields, headOf, heads, keyOf, keys, memberOf, members, structOf, structs, unstored, valueOf, values, variantOf, variants, versionOf, versions}
+use Rattle.record.specs.declared.lists.HeadStep.{HeadStep}
+use Rattle.record.specs.declared.lists.HeadStep.the-variants.{NoHead, AHead}
+use Rattle.record.specs.declared.lists.ConstantStep.{ConstantStep}
+use Rattle.record.specs.declared.lists.ConstantStep.the-variants.{NoConstant, AConstant}
+use Rattle.record.specs.declared.lists.AliasStep.{AliasStep}
+use Rattle.record.specs.declared.lists.AliasStep.the-variants.{NoAlias, AnAlias}
+use Rattle.record.specs.declared.lists.ValueStep.{ValueStep}
+use Rattle.record.specs.declared.lists.ValueStep.the-variants.{NoValue, AValue}
+use Rattle.record.specs.declared.lists.EnumStep.{EnumStep}
+use Rattle.record.specs.declared.lists.EnumStep.the-variants.{NoEnum, AnEnum}
+use Rattle.record.specs.declared.lists.MemberStep.{MemberStep}
+use Rattle.record.specs.declared.lists.MemberStep.the-variants.{NoMember, AMember}
+use Rattle.record.specs.declared.lists.BitfieldStep.{BitfieldStep}
+use Rattle.record.specs.declared.lists.BitfieldStep.the-variants.{NoBitfield, ABitfield}
+use Rattle.record.specs.declared.lists.KeyStep.{KeyStep}
+use Rattle.record.specs.declared.lists.KeyStep.the-variants.{NoKey, AKey}
+use Rattle.record.specs.declared.lists.FieldStep.{FieldStep}
+use Rattle.record.specs.declared.lists.FieldStep.the-variants.{NoField, AField}
+use Rattle.record.specs.declared.lists.StructStep.{StructStep}
+use Rattle.record.specs.declared.lists.StructStep.the-variants.{NoStruct, AStruct}
+use Rattle.record.specs.declared.lists.VariantStep.{VariantStep}
+use Rattle.record.specs.declared.lists.VariantStep.the-variants.{NoVariant, AVariant}
+use Rattle.record.specs.declared.lists.FamilyStep.{FamilyStep}
+use Rattle.record.specs.declared.lists.FamilyStep.the-variants.{NoFamily, AFamily}
+use Rattle.record.specs.declared.lists.UnstoredStep.{UnstoredStep}
+use Rattle.record.specs.declared.lists.UnstoredStep.the-variants.{NoUnstored, AnUnstored}
+use Rattle.record.specs.declared.lists.VersionStep.{VersionStep}
+use Rattle.record.specs.declared.lists.VersionStep.the-variants.{NoVersion, AVersion}
 
-abbrev pub headOf : List ℕ → Command
-headOf s = Head (optTextAt s 1) (flagAt s 4)
+-- the lists that begin at a place
+unfoldable pub headsAt : Str → Str → ℕ → List Heading
+headsAt s p at = heads s p (commandsAt s at)
 
-abbrev pub constantOf : List ℕ → Command
-constantOf s = Constant (textAt s 1) (flagAt s 4) (u64At s 5) (optTextAt s 13) (flagAt s 16) (optTextAt s 17)
+unfoldable pub constantsAt : Str → Str → ℕ → List Const
+constantsAt s p at = constants s p (commandsAt s at)
 
-abbrev pub aliasOf : List ℕ → Command
-aliasOf s = Alias (textAt s 1) (textAt s 4)
+unfoldable pub aliasesAt : Str → Str → ℕ → List Alias
+aliasesAt s p at = aliases s p (commandsAt s at)
 
-abbrev pub enumerationOf : List ℕ → Command
-enumerationOf s = Enumeration (textAt s 1) (u32At s 4) (flagAt s 8) (optTextAt s 9)
+unfoldable pub valuesAt : Str → Str → ℕ → List EnumValue
+valuesAt s p at = values s p (commandsAt s at)
 
-abbrev pub valueOf : List ℕ → Command
-valueOf s = Value (textAt s 1) (u64At s 4) (optTextAt s 12)
+unfoldable pub enumsAt : Str → Str → ℕ → List Enum
+enumsAt s p at = enums s p (commandsAt s at)
 
-abbrev pub bitsOf : List ℕ → Command
-bitsOf s = Bits (textAt s 1) (u32At s 4) (optTextAt s 8)
+unfoldable pub membersAt : Str → Str → ℕ → List Member
+membersAt s p at = members s p (commandsAt s at)
 
-abbrev pub bitOf : List ℕ → Command
-bitOf s = Bit (textAt s 1) (u32At s 4) (optNumberAt s 8) (optTextAt s 13)
+unfoldable pub bitfieldsAt : Str → Str → ℕ → List BitField
+bitfieldsAt s p at = bitfields s p (commandsAt s at)
 
-abbrev pub structureOf : List ℕ → Command
-structureOf s = Structure (textAt s 1) (optTextAt s 4) (optTextAt s 7)
+unfoldable pub keysAt : Str → Str → ℕ → List Key
+keysAt s p at = keys s p (commandsAt s at)
 
-abbrev pub familyOf : List ℕ → Command
-familyOf s = Family (textAt s 1) (textAt s 4) (textAt s 7) (textAt s 10) (optTextAt s 13) (flagAt s 16)
+-- the plugin key of the field before a place
+abbrev pub fieldKeyAt : Str → Str → ℕ → Option Key
+fieldKeyAt s p at = first (keysAt s p at)
 
-abbrev pub variantOf : List ℕ → Command
-variantOf s = Variant (textAt s 1)
+unfoldable pub fieldsAt : Str → Str → ℕ → List Field
+fieldsAt s p at = fields s p (commandsAt s at)
 
-abbrev pub memberOf : List ℕ → Command
-memberOf s = Member (record { name = textAt s 1; kind = textAt s 4; «type_name» = optTextAt s 7; element = optTextAt s 10; count = optNumberAt s 13; rows = optNumberAt s 18; cols = optNumberAt s 23; size = optNumberAt s 28 })
+unfoldable pub structsAt : Str → Str → ℕ → List Struct
+structsAt s p at = structs s p (commandsAt s at)
 
-abbrev pub pluginKeyOf : List ℕ → Command
-pluginKeyOf s = PluginKey (textAt s 1) (optTextAt s 4)
+unfoldable pub variantsAt : Str → Str → ℕ → List Variant
+variantsAt s p at = variants s p (commandsAt s at)
 
-abbrev pub unstoredOf : List ℕ → Command
-unstoredOf s = Unstored (textAt s 1) (optTextAt s 4)
+unfoldable pub familiesAt : Str → Str → ℕ → List Family
+familiesAt s p at = families s p (commandsAt s at)
 
-abbrev pub versionOf : List ℕ → Command
-versionOf s = Version (textAt s 1) (u32At s 4)
+unfoldable pub unstoredAt : Str → Str → ℕ → List Key
+unstoredAt s p at = unstored s p (commandsAt s at)
 
--- the bytes of a command of each number, and 0 for a number that is none's
-unfoldable pub widthOf : ℕ → ℕ
-widthOf b =
-    pick (eqb b 1) 5
-    (pick (eqb b 2) 20
-    (pick (eqb b 3) 7
-    (pick (eqb b 4) 12
-    (pick (eqb b 5) 15
-    (pick (eqb b 6) 11
-    (pick (eqb b 7) 16
-    (pick (eqb b 8) 10
-    (pick (eqb b 9) 17
-    (pick (eqb b 10) 4
-    (pick (eqb b 11) 33
-    (pick (eqb b 12) 7
-    (pick (eqb b 13) 7
-    (pick (eqb b 14) 8 0)))))))))))))
+unfoldable pub versionsAt : Str → Str → ℕ → List Version
+versionsAt s p at = versions s p (commandsAt s at)
 
-unfoldable pub commandOf : ℕ → List ℕ → Command
-commandOf b s =
-    pick (eqb b 1) (headOf s)
-    (pick (eqb b 2) (constantOf s)
-    (pick (eqb b 3) (aliasOf s)
-    (pick (eqb b 4) (enumerationOf s)
-    (pick (eqb b 5) (valueOf s)
-    (pick (eqb b 6) (bitsOf s)
-    (pick (eqb b 7) (bitOf s)
-    (pick (eqb b 8) (structureOf s)
-    (pick (eqb b 9) (familyOf s)
-    (pick (eqb b 10) (variantOf s)
-    (pick (eqb b 11) (memberOf s)
-    (pick (eqb b 12) (pluginKeyOf s)
-    (pick (eqb b 13) (unstoredOf s) (versionOf s)))))))))))))
+-- heads: the list at a step, and one more than the bytes after the element
+abbrev pub headsOf : Str → Str → HeadStep → List Heading
+headsOf s p NoHead = []
+headsOf s p (AHead e k) = headOf p e ∷ headsAt s p (k .at)
 
--- the command at a place, with the place after it; none at the end, at a number that is no command's, or where the stream ends inside the command
-unfoldable pub stepAt : List ℕ → ℕ → Step
-stepAt s at =
-    pick (ltb at (length s))
-    (pick (eqb (widthOf (getD s at 0)) 0) Stop
-    (pick (ltb (length s - at) (widthOf (getD s at 0))) Stop
-    (Next (commandOf (getD s at 0) (drop at s)) (record { at = at + widthOf (getD s at 0) }))))
-    Stop
+abbrev pub headsLeft : Str → HeadStep → ℕ
+headsLeft s NoHead = 0
+headsLeft s (AHead e k) = suc (length s - k .at)
+
+pub record HeadsFrom (s : Str) (at : ℕ) (r : HeadStep) : Type 0 where
+  pub list : (p : Str) → headsAt s p at ≡ headsOf s p r
+  pub left : headsLeft s r ≤ length s - at
+
+-- the element alone
+abbrev pub headFound : Str → Str → HeadStep → Option Heading
+headFound s p NoHead = none
+headFound s p (AHead e k) = some (headOf p e)
+
+-- constants: the list at a step, and one more than the bytes after the element
+abbrev pub constantsOf : Str → Str → ConstantStep → List Const
+constantsOf s p NoConstant = []
+constantsOf s p (AConstant e k) = constantOf p e ∷ constantsAt s p (k .at)
+
+abbrev pub constantsLeft : Str → ConstantStep → ℕ
+constantsLeft s NoConstant = 0
+constantsLeft s (AConstant e k) = suc (length s - k .at)
+
+pub record ConstantsFrom (s : Str) (at : ℕ) (r : ConstantStep) : Type 0 where
+  pub list : (p : Str) → constantsAt s p at ≡ constantsOf s p r
+  pub left : constantsLeft s r ≤ length s - at
+
+-- the element alone
+abbrev pub constantFound : Str → Str → ConstantStep → Option Const
+constantFound s p NoConstant = none
+constantFound s p (AConstant e k) = some (constantOf p e)
+
+-- the first of that name
+unfoldable pub constantIn : Str → List Const → Option Const
+constantIn n l = find (λ (e : Const). eqs (e .name) n) l
+
+-- aliases: the list at a step, and one more than the bytes after the element
+abbrev pub aliasesOf : Str → Str → AliasStep → List Alias
+aliasesOf s p NoAlias = []
+aliasesOf s p (AnAlias e k) = aliasOf p e ∷ aliasesAt s p (k .at)
+
+abbrev pub aliasesLeft : Str → AliasStep → ℕ
+aliasesLeft s NoAlias = 0
+aliasesLeft s (AnAlias e k) = suc (length s - k .at)
+
+pub record AliasesFrom (s : Str) (at : ℕ) (r : AliasStep) : Type 0 where
+  pub list : (p : Str) → aliasesAt s p at ≡ aliasesOf s p r
+  pub left : aliasesLeft s r ≤ length s - at
+
+-- the element alone
+abbrev pub aliasFound : Str → Str → AliasStep → Option Alias
+aliasFound s p NoAlias = none
+aliasFound s p (AnAlias e k) = some (aliasOf p e)
+
+-- the first of that name
+unfoldable pub aliasIn : Str → List Alias → Option Alias
+aliasIn n l = find (λ (e : Alias). eqs (e .name) n) l
+
+-- values: the list at a step, and one more than the bytes after the element
+abbrev pub valuesOf : Str → Str → ValueStep → List EnumValue
+valuesOf s p NoValue = []
+valuesOf s p (AValue e k) = valueOf p e ∷ valuesAt s p (k .at)
+
+abbrev pub valuesLeft : Str → ValueStep → ℕ
+valuesLeft s NoValue = 0
+valuesLeft s (AValue e k) = suc (length s - k .at)
+
+pub record ValuesFrom (s : Str) (at : ℕ) (r : ValueStep) : Type 0 where
+  pub list : (p : Str) → valuesAt s p at ≡ valuesOf s p r
+  pub left : valuesLeft s r ≤ length s - at
+
+-- the element alone
+abbrev pub valueFound : Str → Str → ValueStep → Option EnumValue
+valueFound s p NoValue = none
+valueFound s p (AValue e k) = some (valueOf p e)
+
+-- the first of that name
+unfoldable pub valueIn : Str → List EnumValue → Option EnumValue
+valueIn n l = find (λ (e : EnumValue). eqs (e .name) n) l
+
+-- enums: the list at a step, and one more than the bytes after the element
+abbrev pub enumsOf : Str → Str → EnumStep → List Enum
+enumsOf s p NoEnum = []
+enumsOf s p (AnEnum e k) = enumOf p e (valuesAt s p (k .at)) ∷ enumsAt s p (k .at)
+
+abbrev pub enumsLeft : Str → EnumStep → ℕ
+enumsLeft s NoEnum = 0
+enumsLeft s (AnEnum e k) = suc (length s - k .at)
+
+pub record EnumsFrom (s : Str) (at : ℕ) (r : EnumStep) : Type 0 where
+  pub list : (p : Str) → enumsAt s p at ≡ enumsOf s p r
+  pub left : enumsLeft s r ≤ length s - at
+
+-- the element alone
+abbrev pub enumFound : Str → Str → EnumStep → Option Enum
+enumFound s p NoEnum = none
+enumFound s p (AnEnum e k) = some (enumOf p e (valuesAt s p (k .at)))
+
+-- the first of that name
+unfoldable pub enumIn : Str → List Enum → Option Enum
+enumIn n l = find (λ (e : Enum). eqs (e .name) n) l
+
+-- members: the list at a step, and one more than the bytes after the element
+abbrev pub membersOf : Str → Str → MemberStep → List Member
+membersOf s p NoMember = []
+membersOf s p (AMember e k) = memberOf p e ∷ membersAt s p (k .at)
+
+abbrev pub membersLeft : Str → MemberStep → ℕ
+membersLeft s NoMember = 0
+membersLeft s (AMember e k) = suc (length s - k .at)
+
+pub record MembersFrom (s : Str) (at : ℕ) (r : MemberStep) : Type 0 where
+  pub list : (p : Str) → membersAt s p at ≡ membersOf s p r
+  pub left : membersLeft s r ≤ length s - at
+
+-- the element alone
+abbrev pub memberFound : Str → Str → MemberStep → Option Member
+memberFound s p NoMember = none
+memberFound s p (AMember e k) = some (memberOf p e)
+
+-- the first of that name
+unfoldable pub memberIn : Str → List Member → Option Member
+memberIn n l = find (λ (e : Member). eqs (e .name) n) l
+
+-- bitfields: the list at a step, and one more than the bytes after the element
+abbrev pub bitfieldsOf : Str → Str → BitfieldStep → List BitField
+bitfieldsOf s p NoBitfield = []
+bitfieldsOf s p (ABitfield e k) = bitfieldOf p e (membersAt s p (k .at)) ∷ bitfieldsAt s p (k .at)
+
+abbrev pub bitfieldsLeft : Str → BitfieldStep → ℕ
+bitfieldsLeft s NoBitfield = 0
+bitfieldsLeft s (ABitfield e k) = suc (length s - k .at)
+
+pub record BitfieldsFrom (s : Str) (at : ℕ) (r : BitfieldStep) : Type 0 where
+  pub list : (p : Str) → bitfieldsAt s p at ≡ bitfieldsOf s p r
+  pub left : bitfieldsLeft s r ≤ length s - at
+
+-- the element alone
+abbrev pub bitfieldFound : Str → Str → BitfieldStep → Option BitField
+bitfieldFound s p NoBitfield = none
+bitfieldFound s p (ABitfield e k) = some (bitfieldOf p e (membersAt s p (k .at)))
+
+-- the first of that name
+unfoldable pub bitfieldIn : Str → List BitField → Option BitField
+bitfieldIn n l = find (λ (e : BitField). eqs (e .name) n) l
+
+-- keys: the list at a step, and one more than the bytes after the element
+abbrev pub keysOf : Str → Str → KeyStep → List Key
+keysOf s p NoKey = []
+keysOf s p (AKey e k) = keyOf p e ∷ keysAt s p (k .at)
+
+abbrev pub keysLeft : Str → KeyStep → ℕ
+keysLeft s NoKey = 0
+keysLeft s (AKey e k) = suc (length s - k .at)
+
+pub record KeysFrom (s : Str) (at : ℕ) (r : KeyStep) : Type 0 where
+  pub list : (p : Str) → keysAt s p at ≡ keysOf s p r
+  pub left : keysLeft s r ≤ length s - at
+
+-- the element alone
+abbrev pub keyFound : Str → Str → KeyStep → Option Key
+keyFound s p NoKey = none
+keyFound s p (AKey e k) = some (keyOf p e)
+
+-- fields: the list at a step, and one more than the bytes after the element
+abbrev pub fieldsOf : Str → Str → FieldStep → List Field
+fieldsOf s p NoField = []
+fieldsOf s p (AField e k) = fieldOf p e (fieldKeyAt s p (k .at)) ∷ fieldsAt s p (k .at)
+
+abbrev pub fieldsLeft : Str → FieldStep → ℕ
+fieldsLeft s NoField = 0
+fieldsLeft s (AField e k) = suc (length s - k .at)
+
+pub record FieldsFrom (s : Str) (at : ℕ) (r : FieldStep) : Type 0 where
+  pub list : (p : Str) → fieldsAt s p at ≡ fieldsOf s p r
+  pub left : fieldsLeft s r ≤ length s - at
+
+-- the element alone
+abbrev pub fieldFound : Str → Str → FieldStep → Option Field
+fieldFound s p NoField = none
+fieldFound s p (AField e k) = some (fieldOf p e (fieldKeyAt s p (k .at)))
+
+-- structs: the list at a step, and one more than the bytes after the element
+abbrev pub structsOf : Str → Str → StructStep → List Struct
+structsOf s p NoStruct = []
+structsOf s p (AStruct e k) = structOf p e (fieldsAt s p (k .at)) ∷ structsAt s p (k .at)
+
+abbrev pub structsLeft : Str → StructStep → ℕ
+structsLeft s NoStruct = 0
+structsLeft s (AStruct e k) = suc (length s - k .at)
+
+pub record StructsFrom (s : Str) (at : ℕ) (r : StructStep) : Type 0 where
+  pub list : (p : Str) → structsAt s p at ≡ structsOf s p r
+  pub left : structsLeft s r ≤ length s - at
+
+-- the element alone
+abbrev pub structFound : Str → Str → StructStep → Option Struct
+structFound s p NoStruct = none
+structFound s p (AStruct e k) = some (structOf p e (fieldsAt s p (k .at)))
+
+-- the first of that name
+unfoldable pub structIn : Str → List Struct → Option Struct
+structIn n l = find (λ (e : Struct). eqs (e .name) n) l
+
+-- variants: the list at a step, and one more than the bytes after the element
+abbrev pub variantsOf : Str → Str → VariantStep → List Variant
+variantsOf s p NoVariant = []
+variantsOf s p (AVariant e k) = variantOf p e (fieldsAt s p (k .at)) ∷ variantsAt s p (k .at)
+
+abbrev pub variantsLeft : Str → VariantStep → ℕ
+variantsLeft s NoVariant = 0
+variantsLeft s (AVariant e k) = suc (length s - k .at)
+
+pub record VariantsFrom (s : Str) (at : ℕ) (r : VariantStep) : Type 0 where
+  pub list : (p : Str) → variantsAt s p at ≡ variantsOf s p r
+  pub left : variantsLeft s r ≤ length s - at
+
+-- the element alone
+abbrev pub variantFound : Str → Str → VariantStep → Option Variant
+variantFound s p NoVariant = none
+variantFound s p (AVariant e k) = some (variantOf p e (fieldsAt s p (k .at)))
+
+-- families: the list at a step, and one more than the bytes after the element
+abbrev pub familiesOf : Str → Str → FamilyStep → List Family
+familiesOf s p NoFamily = []
+familiesOf s p (AFamily e k) = familyOf p e (fieldsAt s p (k .at)) (variantsAt s p (k .at)) ∷ familiesAt s p (k .at)
+
+abbrev pub familiesLeft : Str → FamilyStep → ℕ
+familiesLeft s NoFamily = 0
+familiesLeft s (AFamily e k) = suc (length s - k .at)
+
+pub record FamiliesFrom (s : Str) (at : ℕ) (r : FamilyStep) : Type 0 where
+  pub list : (p : Str) → familiesAt s p at ≡ familiesOf s p r
+  pub left : familiesLeft s r ≤ length s - at
+
+-- the element alone
+abbrev pub familyFound : Str → Str → FamilyStep → Option Family
+familyFound s p NoFamily = none
+familyFound s p (AFamily e k) = some (familyOf p e (fieldsAt s p (k .at)) (variantsAt s p (k .at)))
+
+-- the first of that name
+unfoldable pub familyIn : Str → List Family → Option Family
+familyIn n l = find (λ (e : Family). eqs (e .name) n) l
+
+-- unstored: the list at a step, and one more than the bytes after the element
+abbrev pub unstoredOf : Str → Str → UnstoredStep → List Key
+unstoredOf s p NoUnstored = []
+unstoredOf s p (AnUnstored e k) = keyOf p e ∷ unstoredAt s p (k .at)
+
+abbrev pub unstoredLeft : Str → UnstoredStep → ℕ
+unstoredLeft s NoUnstored = 0
+unstoredLeft s (AnUnstored e k) = suc (length s - k .at)
+
+pub record UnstoredFrom (s : Str) (at : ℕ) (r : UnstoredStep) : Type 0 where
+  pub list : (p : Str) → unstoredAt s p at ≡ unstoredOf s p r
+  pub left : unstoredLeft s r ≤ length s - at
+
+-- the element alone
+abbrev pub unstoredFound : Str → Str → UnstoredStep → Option Key
+unstoredFound s p NoUnstored = none
+unstoredFound s p (AnUnstored e k) = some (keyOf p e)
+
+-- versions: the list at a step, and one more than the bytes after the element
+abbrev pub versionsOf : Str → Str → VersionStep → List Version
+versionsOf s p NoVersion = []
+versionsOf s p (AVersion e k) = versionOf p e ∷ versionsAt s p (k .at)
+
+abbrev pub versionsLeft : Str → VersionStep → ℕ
+versionsLeft s NoVersion = 0
+versionsLeft s (AVersion e k) = suc (length s - k .at)
+
+pub record VersionsFrom (s : Str) (at : ℕ) (r : VersionStep) : Type 0 where
+  pub list : (p : Str) → versionsAt s p at ≡ versionsOf s p r
+  pub left : versionsLeft s r ≤ length s - at
+
+-- the element alone
+abbrev pub versionFound : Str → Str → VersionStep → Option Version
+versionFound s p NoVersion = none
+versionFound s p (AVersion e k) = some (versionOf p e)

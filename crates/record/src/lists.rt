@@ -1,70 +1,92 @@
-// The lists of a record, one element at a time: each function hands out the next element from a cursor on, with the cursor after it.
+// The lists of a record, an element at a time: each function hands out the next element from a cursor on, with the cursor after it.
+// Written by tools/lists.py.
+use crate::command::Bitfield;
 use crate::command::Command;
+use crate::command::Constant;
 use crate::command::Cursor;
+use crate::command::Enum;
+use crate::command::Family;
+use crate::command::Field;
+use crate::command::Head;
+use crate::command::Member;
+use crate::command::PluginKey;
 use crate::command::Step;
-use crate::operands::OptNumber;
-use crate::operands::OptText;
-use crate::text::Text;
+use crate::command::Struct;
+use crate::command::TypeAlias;
+use crate::command::Value;
+use crate::command::Variant;
+use crate::command::Version;
 use crate::text::bytes_of;
 use crate::text::same;
 ghost use mathlib.Core.Path.{_≡_};
-ghost use Rattle.record.specs.Lists.{rec, enumsAt, valuesAt, aliasesAt, bitfieldsAt, membersAt};
-ghost use Rattle.record.specs.Items.{NumberFrom, EnumsFrom, enumFound, enumIn, ValuesFrom, valueFound, valueIn, AliasesFrom, aliasFound, aliasIn, BitfieldsFrom, bitsFound, bitsIn, MembersFrom, memberFound, memberIn};
+ghost use Rattle.record.specs.Steps.{HeadsFrom, ConstantsFrom, constantsAt, constantIn, constantFound, AliasesFrom, aliasesAt, aliasIn, aliasFound, ValuesFrom, valuesAt, valueIn, valueFound, EnumsFrom, enumsAt, enumIn, enumFound, MembersFrom, membersAt, memberIn, memberFound, BitfieldsFrom, bitfieldsAt, bitfieldIn, bitfieldFound, KeysFrom, FieldsFrom, StructsFrom, structsAt, structIn, structFound, VariantsFrom, FamiliesFrom, familiesAt, familyIn, familyFound, UnstoredFrom, VersionsFrom};
 
-pub struct EnumHead {
-    pub name: Text,
-    pub size: u32,
-    pub ora_api: bool,
-    pub first_release: OptText,
+pub enum HeadStep {
+    NoHead,
+    AHead(Head, Cursor),
 }
 
-pub enum EnumStep {
-    NoEnum,
-    AnEnum(EnumHead, Cursor),
-}
-
-// The next enum of the record from a cursor on.
-pub fn next_enum(stream: &[u8], from: Cursor) -> EnumStep
-    ensures { λ r. ⌜ EnumsFrom (now (stream .entry)) (from .at) r ⌝ }
+// The next head of the record from a cursor on.
+pub fn next_head(stream: &[u8], from: Cursor) -> HeadStep
+    ensures { λ r. ⌜ HeadsFrom (now (stream .entry)) (from .at) r ⌝ }
 {
     let mut cursor = from;
     loop {
-        match cursor.next(stream) {
-            Step::Stop => {
-                return EnumStep::NoEnum;
-            }
-            Step::Next(command, after) => {
-                if let Command::Enumeration {
-                    name,
-                    size,
-                    ora_api,
-                    first_release,
-                } = command {
-                    return EnumStep::AnEnum(
-                        EnumHead {
-                            name,
-                            size,
-                            ora_api,
-                            first_release,
-                        },
-                        after,
-                    );
-                }
-                cursor = after;
-            }
+        let Step::Next(command, after) = cursor.next(stream) else {
+            return HeadStep::NoHead;
+        };
+        if let Command::Head(e) = command {
+            return HeadStep::AHead(e, after);
         }
+        cursor = after;
     }
 }
 
-pub struct EnumItem {
-    pub name: Text,
-    pub value: u64,
-    pub first_release: OptText,
+pub enum ConstantStep {
+    NoConstant,
+    AConstant(Constant, Cursor),
+}
+
+// The next constant of the record from a cursor on.
+pub fn next_constant(stream: &[u8], from: Cursor) -> ConstantStep
+    ensures { λ r. ⌜ ConstantsFrom (now (stream .entry)) (from .at) r ⌝ }
+{
+    let mut cursor = from;
+    loop {
+        let Step::Next(command, after) = cursor.next(stream) else {
+            return ConstantStep::NoConstant;
+        };
+        if let Command::Constant(e) = command {
+            return ConstantStep::AConstant(e, after);
+        }
+        cursor = after;
+    }
+}
+
+pub enum AliasStep {
+    NoAlias,
+    AnAlias(TypeAlias, Cursor),
+}
+
+// The next alias of the record from a cursor on.
+pub fn next_alias(stream: &[u8], from: Cursor) -> AliasStep
+    ensures { λ r. ⌜ AliasesFrom (now (stream .entry)) (from .at) r ⌝ }
+{
+    let mut cursor = from;
+    loop {
+        let Step::Next(command, after) = cursor.next(stream) else {
+            return AliasStep::NoAlias;
+        };
+        if let Command::TypeAlias(e) = command {
+            return AliasStep::AnAlias(e, after);
+        }
+        cursor = after;
+    }
 }
 
 pub enum ValueStep {
     NoValue,
-    AValue(EnumItem, Cursor),
+    AValue(Value, Cursor),
 }
 
 // The next value of the list that goes on at a cursor.
@@ -74,106 +96,36 @@ pub fn next_value(stream: &[u8], from: Cursor) -> ValueStep
     let Step::Next(command, after) = from.next(stream) else {
         return ValueStep::NoValue;
     };
-    let Command::Value {
-        name,
-        value,
-        first_release,
-    } = command
-    else {
+    let Command::Value(e) = command else {
         return ValueStep::NoValue;
     };
-    ValueStep::AValue(
-        EnumItem {
-            name,
-            value,
-            first_release,
-        },
-        after,
-    )
+    ValueStep::AValue(e, after)
 }
 
-pub struct AliasItem {
-    pub name: Text,
-    pub underlying: Text,
+pub enum EnumStep {
+    NoEnum,
+    AnEnum(Enum, Cursor),
 }
 
-pub enum AliasStep {
-    NoAlias,
-    AnAlias(AliasItem, Cursor),
-}
-
-// The next alias of the record from a cursor on.
-pub fn next_alias(stream: &[u8], from: Cursor) -> AliasStep
-    ensures { λ r. ⌜ AliasesFrom (now (stream .entry)) (from .at) r ⌝ }
+// The next enum of the record from a cursor on.
+pub fn next_enum(stream: &[u8], from: Cursor) -> EnumStep
+    ensures { λ r. ⌜ EnumsFrom (now (stream .entry)) (from .at) r ⌝ }
 {
     let mut cursor = from;
     loop {
-        match cursor.next(stream) {
-            Step::Stop => {
-                return AliasStep::NoAlias;
-            }
-            Step::Next(command, after) => {
-                if let Command::Alias { name, underlying } = command {
-                    return AliasStep::AnAlias(AliasItem { name, underlying }, after);
-                }
-                cursor = after;
-            }
+        let Step::Next(command, after) = cursor.next(stream) else {
+            return EnumStep::NoEnum;
+        };
+        if let Command::Enum(e) = command {
+            return EnumStep::AnEnum(e, after);
         }
+        cursor = after;
     }
-}
-
-pub struct BitsHead {
-    pub name: Text,
-    pub size: u32,
-    pub first_release: OptText,
-}
-
-pub enum BitsStep {
-    NoBits,
-    SomeBits(BitsHead, Cursor),
-}
-
-// The next bit field of the record from a cursor on.
-pub fn next_bits(stream: &[u8], from: Cursor) -> BitsStep
-    ensures { λ r. ⌜ BitfieldsFrom (now (stream .entry)) (from .at) r ⌝ }
-{
-    let mut cursor = from;
-    loop {
-        match cursor.next(stream) {
-            Step::Stop => {
-                return BitsStep::NoBits;
-            }
-            Step::Next(command, after) => {
-                if let Command::Bits {
-                    name,
-                    size,
-                    first_release,
-                } = command {
-                    return BitsStep::SomeBits(
-                        BitsHead {
-                            name,
-                            size,
-                            first_release,
-                        },
-                        after,
-                    );
-                }
-                cursor = after;
-            }
-        }
-    }
-}
-
-pub struct MemberItem {
-    pub name: Text,
-    pub bit: u32,
-    pub width: OptNumber,
-    pub first_release: OptText,
 }
 
 pub enum MemberStep {
     NoMember,
-    AMember(MemberItem, Cursor),
+    AMember(Member, Cursor),
 }
 
 // The next member of the list that goes on at a cursor.
@@ -183,53 +135,205 @@ pub fn next_member(stream: &[u8], from: Cursor) -> MemberStep
     let Step::Next(command, after) = from.next(stream) else {
         return MemberStep::NoMember;
     };
-    let Command::Bit {
-        name,
-        bit,
-        width,
-        first_release,
-    } = command
-    else {
+    let Command::Member(e) = command else {
         return MemberStep::NoMember;
     };
-    MemberStep::AMember(
-        MemberItem {
-            name,
-            bit,
-            width,
-            first_release,
-        },
-        after,
-    )
+    MemberStep::AMember(e, after)
 }
 
-// The first enum of that name from a cursor on.
-pub fn find_enum(stream: &[u8], pool: &[u8], from: Cursor, name: &[u8]) -> EnumStep
-    ensures { λ r. ⌜ enumIn (now (name .entry)) (enumsAt (rec (now (stream .entry)) (now (pool .entry))) (from .at)) ≡ enumFound (now (stream .entry)) (now (pool .entry)) r ⌝ }
+pub enum BitfieldStep {
+    NoBitfield,
+    ABitfield(Bitfield, Cursor),
+}
+
+// The next bit field of the record from a cursor on.
+pub fn next_bitfield(stream: &[u8], from: Cursor) -> BitfieldStep
+    ensures { λ r. ⌜ BitfieldsFrom (now (stream .entry)) (from .at) r ⌝ }
 {
     let mut cursor = from;
     loop {
-        let EnumStep::AnEnum(e, after) = next_enum(stream, cursor) else {
-            return EnumStep::NoEnum;
+        let Step::Next(command, after) = cursor.next(stream) else {
+            return BitfieldStep::NoBitfield;
         };
-        if same(bytes_of(pool, e.name), name) {
-            return EnumStep::AnEnum(e, after);
+        if let Command::Bitfield(e) = command {
+            return BitfieldStep::ABitfield(e, after);
         }
         cursor = after;
     }
 }
 
-// The first value of that name from a cursor on.
-pub fn find_value(stream: &[u8], pool: &[u8], from: Cursor, name: &[u8]) -> ValueStep
-    ensures { λ r. ⌜ valueIn (now (name .entry)) (valuesAt (rec (now (stream .entry)) (now (pool .entry))) (from .at)) ≡ valueFound (now (stream .entry)) (now (pool .entry)) r ⌝ }
+pub enum KeyStep {
+    NoKey,
+    AKey(PluginKey, Cursor),
+}
+
+// The next plugin key of the list that goes on at a cursor.
+pub fn next_key(stream: &[u8], from: Cursor) -> KeyStep
+    ensures { λ r. ⌜ KeysFrom (now (stream .entry)) (from .at) r ⌝ }
+{
+    let Step::Next(command, after) = from.next(stream) else {
+        return KeyStep::NoKey;
+    };
+    let Command::PluginKey(e) = command else {
+        return KeyStep::NoKey;
+    };
+    KeyStep::AKey(e, after)
+}
+
+pub enum FieldStep {
+    NoField,
+    AField(Field, Cursor),
+}
+
+// The next field of the list that goes on at a cursor; plugin keys between the fields are passed over.
+pub fn next_field(stream: &[u8], from: Cursor) -> FieldStep
+    ensures { λ r. ⌜ FieldsFrom (now (stream .entry)) (from .at) r ⌝ }
 {
     let mut cursor = from;
     loop {
-        let ValueStep::AValue(e, after) = next_value(stream, cursor) else {
-            return ValueStep::NoValue;
+        let Step::Next(command, after) = cursor.next(stream) else {
+            return FieldStep::NoField;
+        };
+        match command {
+            Command::Field(e) => {
+                return FieldStep::AField(e, after);
+            }
+            Command::PluginKey(_) => {
+                cursor = after;
+            }
+            _ => {
+                return FieldStep::NoField;
+            }
+        }
+    }
+}
+
+pub enum StructStep {
+    NoStruct,
+    AStruct(Struct, Cursor),
+}
+
+// The next structure of the record from a cursor on.
+pub fn next_struct(stream: &[u8], from: Cursor) -> StructStep
+    ensures { λ r. ⌜ StructsFrom (now (stream .entry)) (from .at) r ⌝ }
+{
+    let mut cursor = from;
+    loop {
+        let Step::Next(command, after) = cursor.next(stream) else {
+            return StructStep::NoStruct;
+        };
+        if let Command::Struct(e) = command {
+            return StructStep::AStruct(e, after);
+        }
+        cursor = after;
+    }
+}
+
+pub enum VariantStep {
+    NoVariant,
+    AVariant(Variant, Cursor),
+}
+
+// The next variant of the list that goes on at a cursor; fields and plugin keys between the variants are passed over.
+pub fn next_variant(stream: &[u8], from: Cursor) -> VariantStep
+    ensures { λ r. ⌜ VariantsFrom (now (stream .entry)) (from .at) r ⌝ }
+{
+    let mut cursor = from;
+    loop {
+        let Step::Next(command, after) = cursor.next(stream) else {
+            return VariantStep::NoVariant;
+        };
+        match command {
+            Command::Variant(e) => {
+                return VariantStep::AVariant(e, after);
+            }
+            Command::Field(_) => {
+                cursor = after;
+            }
+            Command::PluginKey(_) => {
+                cursor = after;
+            }
+            _ => {
+                return VariantStep::NoVariant;
+            }
+        }
+    }
+}
+
+pub enum FamilyStep {
+    NoFamily,
+    AFamily(Family, Cursor),
+}
+
+// The next family of the record from a cursor on.
+pub fn next_family(stream: &[u8], from: Cursor) -> FamilyStep
+    ensures { λ r. ⌜ FamiliesFrom (now (stream .entry)) (from .at) r ⌝ }
+{
+    let mut cursor = from;
+    loop {
+        let Step::Next(command, after) = cursor.next(stream) else {
+            return FamilyStep::NoFamily;
+        };
+        if let Command::Family(e) = command {
+            return FamilyStep::AFamily(e, after);
+        }
+        cursor = after;
+    }
+}
+
+pub enum UnstoredStep {
+    NoUnstored,
+    AnUnstored(PluginKey, Cursor),
+}
+
+// The next unstored plugin key of the record from a cursor on.
+pub fn next_unstored(stream: &[u8], from: Cursor) -> UnstoredStep
+    ensures { λ r. ⌜ UnstoredFrom (now (stream .entry)) (from .at) r ⌝ }
+{
+    let mut cursor = from;
+    loop {
+        let Step::Next(command, after) = cursor.next(stream) else {
+            return UnstoredStep::NoUnstored;
+        };
+        if let Command::UnstoredKey(e) = command {
+            return UnstoredStep::AnUnstored(e, after);
+        }
+        cursor = after;
+    }
+}
+
+pub enum VersionStep {
+    NoVersion,
+    AVersion(Version, Cursor),
+}
+
+// The next version entry of the record from a cursor on.
+pub fn next_version(stream: &[u8], from: Cursor) -> VersionStep
+    ensures { λ r. ⌜ VersionsFrom (now (stream .entry)) (from .at) r ⌝ }
+{
+    let mut cursor = from;
+    loop {
+        let Step::Next(command, after) = cursor.next(stream) else {
+            return VersionStep::NoVersion;
+        };
+        if let Command::Version(e) = command {
+            return VersionStep::AVersion(e, after);
+        }
+        cursor = after;
+    }
+}
+
+// The first constant of that name from a cursor on.
+pub fn find_constant(stream: &[u8], pool: &[u8], from: Cursor, name: &[u8]) -> ConstantStep
+    ensures { λ r. ⌜ constantIn (now (name .entry)) (constantsAt (now (stream .entry)) (now (pool .entry)) (from .at)) ≡ constantFound (now (stream .entry)) (now (pool .entry)) r ⌝ }
+{
+    let mut cursor = from;
+    loop {
+        let ConstantStep::AConstant(e, after) = next_constant(stream, cursor) else {
+            return ConstantStep::NoConstant;
         };
         if same(bytes_of(pool, e.name), name) {
-            return ValueStep::AValue(e, after);
+            return ConstantStep::AConstant(e, after);
         }
         cursor = after;
     }
@@ -237,7 +341,7 @@ pub fn find_value(stream: &[u8], pool: &[u8], from: Cursor, name: &[u8]) -> Valu
 
 // The first alias of that name from a cursor on.
 pub fn find_alias(stream: &[u8], pool: &[u8], from: Cursor, name: &[u8]) -> AliasStep
-    ensures { λ r. ⌜ aliasIn (now (name .entry)) (aliasesAt (rec (now (stream .entry)) (now (pool .entry))) (from .at)) ≡ aliasFound (now (stream .entry)) (now (pool .entry)) r ⌝ }
+    ensures { λ r. ⌜ aliasIn (now (name .entry)) (aliasesAt (now (stream .entry)) (now (pool .entry)) (from .at)) ≡ aliasFound (now (stream .entry)) (now (pool .entry)) r ⌝ }
 {
     let mut cursor = from;
     loop {
@@ -251,17 +355,33 @@ pub fn find_alias(stream: &[u8], pool: &[u8], from: Cursor, name: &[u8]) -> Alia
     }
 }
 
-// The first bit field of that name from a cursor on.
-pub fn find_bits(stream: &[u8], pool: &[u8], from: Cursor, name: &[u8]) -> BitsStep
-    ensures { λ r. ⌜ bitsIn (now (name .entry)) (bitfieldsAt (rec (now (stream .entry)) (now (pool .entry))) (from .at)) ≡ bitsFound (now (stream .entry)) (now (pool .entry)) r ⌝ }
+// The first value of that name from a cursor on.
+pub fn find_value(stream: &[u8], pool: &[u8], from: Cursor, name: &[u8]) -> ValueStep
+    ensures { λ r. ⌜ valueIn (now (name .entry)) (valuesAt (now (stream .entry)) (now (pool .entry)) (from .at)) ≡ valueFound (now (stream .entry)) (now (pool .entry)) r ⌝ }
 {
     let mut cursor = from;
     loop {
-        let BitsStep::SomeBits(e, after) = next_bits(stream, cursor) else {
-            return BitsStep::NoBits;
+        let ValueStep::AValue(e, after) = next_value(stream, cursor) else {
+            return ValueStep::NoValue;
         };
         if same(bytes_of(pool, e.name), name) {
-            return BitsStep::SomeBits(e, after);
+            return ValueStep::AValue(e, after);
+        }
+        cursor = after;
+    }
+}
+
+// The first enum of that name from a cursor on.
+pub fn find_enum(stream: &[u8], pool: &[u8], from: Cursor, name: &[u8]) -> EnumStep
+    ensures { λ r. ⌜ enumIn (now (name .entry)) (enumsAt (now (stream .entry)) (now (pool .entry)) (from .at)) ≡ enumFound (now (stream .entry)) (now (pool .entry)) r ⌝ }
+{
+    let mut cursor = from;
+    loop {
+        let EnumStep::AnEnum(e, after) = next_enum(stream, cursor) else {
+            return EnumStep::NoEnum;
+        };
+        if same(bytes_of(pool, e.name), name) {
+            return EnumStep::AnEnum(e, after);
         }
         cursor = after;
     }
@@ -269,7 +389,7 @@ pub fn find_bits(stream: &[u8], pool: &[u8], from: Cursor, name: &[u8]) -> BitsS
 
 // The first member of that name from a cursor on.
 pub fn find_member(stream: &[u8], pool: &[u8], from: Cursor, name: &[u8]) -> MemberStep
-    ensures { λ r. ⌜ memberIn (now (name .entry)) (membersAt (rec (now (stream .entry)) (now (pool .entry))) (from .at)) ≡ memberFound (now (stream .entry)) (now (pool .entry)) r ⌝ }
+    ensures { λ r. ⌜ memberIn (now (name .entry)) (membersAt (now (stream .entry)) (now (pool .entry)) (from .at)) ≡ memberFound (now (stream .entry)) (now (pool .entry)) r ⌝ }
 {
     let mut cursor = from;
     loop {
@@ -283,17 +403,49 @@ pub fn find_member(stream: &[u8], pool: &[u8], from: Cursor, name: &[u8]) -> Mem
     }
 }
 
-// The first value of that number from a cursor on.
-pub fn find_number(stream: &[u8], from: Cursor, number: u64) -> ValueStep
-    ensures { λ r. ⌜ NumberFrom number (now (stream .entry)) (from .at) r ⌝ }
+// The first bit field of that name from a cursor on.
+pub fn find_bitfield(stream: &[u8], pool: &[u8], from: Cursor, name: &[u8]) -> BitfieldStep
+    ensures { λ r. ⌜ bitfieldIn (now (name .entry)) (bitfieldsAt (now (stream .entry)) (now (pool .entry)) (from .at)) ≡ bitfieldFound (now (stream .entry)) (now (pool .entry)) r ⌝ }
 {
     let mut cursor = from;
     loop {
-        let ValueStep::AValue(e, after) = next_value(stream, cursor) else {
-            return ValueStep::NoValue;
+        let BitfieldStep::ABitfield(e, after) = next_bitfield(stream, cursor) else {
+            return BitfieldStep::NoBitfield;
         };
-        if e.value == number {
-            return ValueStep::AValue(e, after);
+        if same(bytes_of(pool, e.name), name) {
+            return BitfieldStep::ABitfield(e, after);
+        }
+        cursor = after;
+    }
+}
+
+// The first structure of that name from a cursor on.
+pub fn find_struct(stream: &[u8], pool: &[u8], from: Cursor, name: &[u8]) -> StructStep
+    ensures { λ r. ⌜ structIn (now (name .entry)) (structsAt (now (stream .entry)) (now (pool .entry)) (from .at)) ≡ structFound (now (stream .entry)) (now (pool .entry)) r ⌝ }
+{
+    let mut cursor = from;
+    loop {
+        let StructStep::AStruct(e, after) = next_struct(stream, cursor) else {
+            return StructStep::NoStruct;
+        };
+        if same(bytes_of(pool, e.name), name) {
+            return StructStep::AStruct(e, after);
+        }
+        cursor = after;
+    }
+}
+
+// The first family of that name from a cursor on.
+pub fn find_family(stream: &[u8], pool: &[u8], from: Cursor, name: &[u8]) -> FamilyStep
+    ensures { λ r. ⌜ familyIn (now (name .entry)) (familiesAt (now (stream .entry)) (now (pool .entry)) (from .at)) ≡ familyFound (now (stream .entry)) (now (pool .entry)) r ⌝ }
+{
+    let mut cursor = from;
+    loop {
+        let FamilyStep::AFamily(e, after) = next_family(stream, cursor) else {
+            return FamilyStep::NoFamily;
+        };
+        if same(bytes_of(pool, e.name), name) {
+            return FamilyStep::AFamily(e, after);
         }
         cursor = after;
     }

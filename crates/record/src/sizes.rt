@@ -1,60 +1,190 @@
-// The sizes that a record gives its names.
+// The sizes of fields, in bytes. A size is exact as far as the limit of number 9, and one more stands for all that are larger: number 9 refuses
+// every record that has one, so nothing after the reader sees the difference.
 use crate::command::Cursor;
+use crate::command::Field;
+use crate::kind::Kind;
+use crate::kind::kind_of;
 use crate::lists::AliasStep;
-use crate::lists::BitsStep;
+use crate::lists::BitfieldStep;
 use crate::lists::EnumStep;
 use crate::lists::find_alias;
-use crate::lists::find_bits;
+use crate::lists::find_bitfield;
 use crate::lists::find_enum;
 use crate::operands::OptNumber;
+use crate::operands::OptText;
+use crate::scalars::prim_size;
 use crate::text::bytes_of;
-use crate::text::same;
 ghost use mathlib.Core.Path.{_≡_};
-ghost use Rattle.record.specs.Shapes.{primSize, enumSize, aliasSize, bitfieldSize};
-ghost use Rattle.record.specs.Lists.{rec, schemaOf, numberOf};
+ghost use mathlib.Core.Option.{none};
+ghost use Prim.Native.Nat.{_*_, _+_};
+ghost use Rattle.record.specs.Base.{bytes, orElse};
+ghost use Rattle.record.specs.Scalars.{scalarsOf, primSize};
+ghost use Rattle.record.specs.Lists.{optOf, numberOf, fieldOf};
+ghost use Rattle.record.specs.Steps.{enumsAt, aliasesAt, bitfieldsAt};
+ghost use Rattle.record.specs.Shapes.{enumSize, aliasSize, bitfieldSize, sized, shapeSize, limit, capped};
+ghost use Rattle.record.specs.Reading.{rec, schemaOf};
 
-// The bytes of a primitive, and 0 for another word.
-pub fn prim_size(word: &[u8]) -> u32
-    ensures { λ r. ⌜ r ≡ primSize (now (word .entry)) ⌝ }
+// The largest end of a field that number 9 lets pass.
+pub const LIMIT: u64 = 4294967295;
+
+// A size as far as the limit.
+fn cap(n: u64) -> u64
+    ensures { λ r. ⌜ r ≡ capped n ⌝ }
 {
-    if same(word, b"u8") {
-        return 1;
+    if n <= LIMIT { n } else { LIMIT + 1 }
+}
+
+pub fn wide(n: u32) -> u64
+    ensures { λ r. ⌜ r ≡ n ⌝ }
+{
+    n as u64
+}
+
+pub fn sum(a: u64, b: u64) -> u64
+    ensures { λ r. ⌜ r ≡ capped (a + b) ⌝ }
+{
+    if LIMIT < a {
+        return LIMIT + 1;
     }
-    if same(word, b"char") {
-        return 1;
+    if LIMIT - a < b {
+        return LIMIT + 1;
     }
-    if same(word, b"u16") {
-        return 2;
+    a + b
+}
+
+// The product is judged by a quotient, so that no limit makes it overflow.
+fn product(a: u64, b: u64) -> u64
+    ensures { λ r. ⌜ r ≡ capped (a * b) ⌝ }
+{
+    if b == 0 {
+        return 0;
     }
-    if same(word, b"u32") {
-        return 4;
+    if LIMIT / b < a {
+        return LIMIT + 1;
     }
-    0
+    a * b
+}
+
+pub fn or_else(n: OptNumber, d: u32) -> u32
+    ensures { λ r. ⌜ r ≡ orElse (numberOf n) d ⌝ }
+{
+    let OptNumber::Number(x) = n else {
+        return d;
+    };
+    x
 }
 
 pub fn enum_size(stream: &[u8], pool: &[u8], name: &[u8]) -> OptNumber
-    ensures { λ r. ⌜ numberOf r ≡ enumSize (schemaOf (rec (now (stream .entry)) (now (pool .entry)))) (now (name .entry)) ⌝ }
+    ensures { λ r. ⌜ numberOf r ≡ enumSize (enumsAt (now (stream .entry)) (now (pool .entry)) 0) (now (name .entry)) ⌝ }
 {
-    let EnumStep::AnEnum(e, _) = find_enum(stream, pool, Cursor { at: 0 }, name) else {
+    let EnumStep::AnEnum(e, _) = find_enum(stream, pool, Cursor::new(), name) else {
         return OptNumber::Missing;
     };
     OptNumber::Number(e.size)
 }
 
-pub fn alias_size(stream: &[u8], pool: &[u8], name: &[u8]) -> OptNumber
-    ensures { λ r. ⌜ numberOf r ≡ aliasSize (schemaOf (rec (now (stream .entry)) (now (pool .entry)))) (now (name .entry)) ⌝ }
+pub fn alias_size(rows: &[u8], stream: &[u8], pool: &[u8], name: &[u8]) -> OptNumber
+    ensures { λ r. ⌜ numberOf r ≡ aliasSize (scalarsOf (now (rows .entry))) (aliasesAt (now (stream .entry)) (now (pool .entry)) 0) (now (name .entry)) ⌝ }
 {
-    let AliasStep::AnAlias(e, _) = find_alias(stream, pool, Cursor { at: 0 }, name) else {
+    let AliasStep::AnAlias(e, _) = find_alias(stream, pool, Cursor::new(), name) else {
         return OptNumber::Missing;
     };
-    OptNumber::Number(prim_size(bytes_of(pool, e.underlying)))
+    OptNumber::Number(prim_size(rows, bytes_of(pool, e.underlying)))
 }
 
 pub fn bitfield_size(stream: &[u8], pool: &[u8], name: &[u8]) -> OptNumber
-    ensures { λ r. ⌜ numberOf r ≡ bitfieldSize (schemaOf (rec (now (stream .entry)) (now (pool .entry)))) (now (name .entry)) ⌝ }
+    ensures { λ r. ⌜ numberOf r ≡ bitfieldSize (bitfieldsAt (now (stream .entry)) (now (pool .entry)) 0) (now (name .entry)) ⌝ }
 {
-    let BitsStep::SomeBits(e, _) = find_bits(stream, pool, Cursor { at: 0 }, name) else {
+    let BitfieldStep::ABitfield(e, _) = find_bitfield(stream, pool, Cursor::new(), name) else {
         return OptNumber::Missing;
     };
     OptNumber::Number(e.size)
+}
+
+// A scalar whose word is left out is a byte.
+pub fn scalar_bytes(rows: &[u8], pool: &[u8], word: OptText) -> u32
+    ensures { λ r. ⌜ r ≡ primSize (scalarsOf (now (rows .entry))) (orElse (optOf (now (pool .entry)) word) (bytes "u8")) ⌝ }
+{
+    let OptText::Given(x) = word else {
+        return prim_size(rows, b"u8");
+    };
+    prim_size(rows, bytes_of(pool, x))
+}
+
+// An enum that is not declared has one byte.
+pub fn enum_bytes(stream: &[u8], pool: &[u8], name: OptText) -> u32
+    ensures { λ r. ⌜ r ≡ sized (optOf (now (pool .entry)) name) (enumSize (enumsAt (now (stream .entry)) (now (pool .entry)) 0)) 1 ⌝ }
+{
+    let OptText::Given(x) = name else {
+        return 1;
+    };
+    or_else(enum_size(stream, pool, bytes_of(pool, x)), 1)
+}
+
+// An alias that is not declared has two bytes.
+fn alias_bytes(rows: &[u8], stream: &[u8], pool: &[u8], name: OptText) -> u32
+    ensures { λ r. ⌜ r ≡ sized (optOf (now (pool .entry)) name) (aliasSize (scalarsOf (now (rows .entry))) (aliasesAt (now (stream .entry)) (now (pool .entry)) 0)) 2 ⌝ }
+{
+    let OptText::Given(x) = name else {
+        return 2;
+    };
+    or_else(alias_size(rows, stream, pool, bytes_of(pool, x)), 2)
+}
+
+// A bit field that is not declared has no bytes.
+fn bitfield_bytes(stream: &[u8], pool: &[u8], name: OptText) -> u32
+    ensures { λ r. ⌜ r ≡ sized (optOf (now (pool .entry)) name) (bitfieldSize (bitfieldsAt (now (stream .entry)) (now (pool .entry)) 0)) 0 ⌝ }
+{
+    let OptText::Given(x) = name else {
+        return 0;
+    };
+    or_else(bitfield_size(stream, pool, bytes_of(pool, x)), 0)
+}
+
+// The bytes that a field takes.
+pub fn shape_size(rows: &[u8], stream: &[u8], pool: &[u8], f: Field) -> u64
+    ensures { λ r. ⌜ r ≡ capped (shapeSize (schemaOf (rec (now (stream .entry)) (now (pool .entry)) (scalarsOf (now (rows .entry))))) (fieldOf (now (pool .entry)) f none)) ⌝ }
+{
+    let kind = f.kind;
+    let named = f.type_name;
+    let element = f.element;
+    let count = f.count;
+    let size = f.size;
+    match kind_of(bytes_of(pool, kind)) {
+        Kind::Scalar => cap(wide(scalar_bytes(rows, pool, named))),
+        Kind::Enum => cap(wide(enum_bytes(stream, pool, named))),
+        Kind::TypeAlias => cap(wide(alias_bytes(rows, stream, pool, named))),
+        Kind::Bitfield => cap(wide(bitfield_bytes(stream, pool, named))),
+        Kind::InlineArray => {
+            product(
+                wide(scalar_bytes(rows, pool, element)),
+                wide(or_else(count, 0)),
+            )
+        }
+        Kind::InlineArray2d => array2d_size(rows, pool, f),
+        Kind::CstrPtr => 4,
+        Kind::StructPtr => 4,
+        Kind::StructArrayPtr => 4,
+        Kind::StructPtrArrayPtr => 4,
+        Kind::TaggedFamPtr => 4,
+        Kind::SimpleFamPtr => 4,
+        Kind::OpaquePtr => 4,
+        Kind::FnPtr => 4,
+        Kind::Padding => cap(wide(or_else(size, 0))),
+        Kind::Text => 0,
+        Kind::Other => 0,
+    }
+}
+
+fn array2d_size(rows: &[u8], pool: &[u8], f: Field) -> u64
+    ensures { λ r. ⌜ r ≡ capped (primSize (scalarsOf (now (rows .entry))) (orElse (optOf (now (pool .entry)) (f .element)) (bytes "u8")) * orElse (numberOf (f .rows)) 0 * orElse (numberOf (f .cols)) 0) ⌝ }
+{
+    let element = f.element;
+    let down = f.rows;
+    let across = f.cols;
+    let line = product(
+        wide(scalar_bytes(rows, pool, element)),
+        wide(or_else(down, 0)),
+    );
+    product(line, wide(or_else(across, 0)))
 }

@@ -1,20 +1,21 @@
 // A message writer: a template, whose bytes below 32 are the numbers of arguments, and its arguments.
+use crate::text::Text;
+use crate::text::bytes_of;
 ghost use mathlib.Core.Path.{_≡_};
-ghost use mathlib.Core.List.{_++_};
-ghost use Prim.Native.Nat.{_+_, _-_, _≤_, _<_};
-ghost use lib.ListN.{length, take, drop};
+ghost use Prim.Native.Nat.{_+_, _≤_};
+ghost use lib.ListN.{length, drop};
 ghost use Rattle.record.specs.Base.{decimal, signed};
-ghost use Rattle.record.specs.Fill.{stretchOf, argOf, pickOf, filled, placed, fronted};
+ghost use Rattle.record.specs.Fill.{argOf, pickOf, filled, placed, fronted};
 ghost use Rattle.record.specs.Write.{Writes};
 
 // What an argument of a message is.
 pub enum Arg {
     Nothing,
     Byte(u8),
-    // A stretch of the current record's pool: start and length.
-    Now(u16, u8),
-    // A stretch of the released record's pool.
-    Was(u16, u8),
+    // A text of the current record's pool.
+    Now(Text),
+    // A text of the released record's pool.
+    Was(Text),
     Number(u64),
     // A number in two's complement at 64 bits.
     Signed(u64),
@@ -57,23 +58,6 @@ fn signed(v: u64) -> Digits
     Digits { bytes, start: at }
 }
 
-// As much of a pool's stretch as there is.
-fn stretch(pool: &[u8], start: u16, len: u8) -> &[u8]
-    ensures { λ r. ⌜ now r ≡ stretchOf (now (pool .entry)) start len ⌝ }
-{
-    let n = pool.len();
-    let a = start as usize;
-    if n <= a {
-        return &pool[n..n];
-    }
-    let k = len as usize;
-    if n - a <= k {
-        return &pool[a..n];
-    }
-    let e = a + k;
-    &pool[a..e]
-}
-
 // Puts src into out at index at.
 fn put(out: &mut [u8], at: usize, src: &[u8])
     requires { ⌜ at + length (now src) ≤ length (now out) ⌝ }
@@ -104,8 +88,8 @@ fn arg_len(a: Arg, new: &[u8], old: &[u8]) -> usize
     match a {
         Arg::Nothing => 0,
         Arg::Byte(_) => 1,
-        Arg::Now(s, n) => stretch(new, s, n).len(),
-        Arg::Was(s, n) => stretch(old, s, n).len(),
+        Arg::Now(t) => bytes_of(new, t).len(),
+        Arg::Was(t) => bytes_of(old, t).len(),
         Arg::Number(n) => 21 - decimal(n).start,
         Arg::Signed(v) => 21 - signed(v).start,
     }
@@ -119,8 +103,8 @@ fn put_arg(out: &mut [u8], at: usize, a: Arg, new: &[u8], old: &[u8])
     match a {
         Arg::Nothing => {}
         Arg::Byte(b) => put(out, at, &[b]),
-        Arg::Now(s, n) => put(out, at, stretch(new, s, n)),
-        Arg::Was(s, n) => put(out, at, stretch(old, s, n)),
+        Arg::Now(t) => put(out, at, bytes_of(new, t)),
+        Arg::Was(t) => put(out, at, bytes_of(old, t)),
         Arg::Number(n) => put_digits(out, at, decimal(n)),
         Arg::Signed(v) => put_digits(out, at, signed(v)),
     }

@@ -1,147 +1,146 @@
-use Rattle.record.specs.Steps.{commandOf}
 use Rattle.record.proofs.CommandLaws.{else-command}
+use Rattle.record.specs.Commands.{commandOf}
 use borrow.Author.Needs.{needs}
 use Rattle.record.proofs.command.command_of.Statement.{statement}
 use Rattle.record.proofs.command.command_of.Tie as tie
 use Rattle.record.proofs.command.command_of.Reads as reads
 use Rattle.record.proofs.command.command_of.Lts as lts
-use Rattle.record.proofs.command.alias.Reads as alias-reads
-use Rattle.record.proofs.command.bit.Reads as bit-reads
-use Rattle.record.proofs.command.bits.Reads as bits-reads
-use Rattle.record.proofs.command.constant.Reads as constant-reads
-use Rattle.record.proofs.command.enumeration.Reads as enumeration-reads
-use Rattle.record.proofs.command.family.Reads as family-reads
-use Rattle.record.proofs.command.head.Reads as head-reads
-use Rattle.record.proofs.command.member.Reads as member-reads
-use Rattle.record.proofs.command.plugin_key.Reads as plugin-key-reads
-use Rattle.record.proofs.command.structure.Reads as structure-reads
-use Rattle.record.proofs.command.unstored.Reads as unstored-reads
-use Rattle.record.proofs.command.value.Reads as value-reads
-use Rattle.record.proofs.command.variant.Reads as variant-reads
-use Rattle.record.proofs.command.version.Reads as version-reads
+use Rattle.record.proofs.command.alias_at.Reads as alias-at-reads
+use Rattle.record.proofs.command.bitfield_at.Reads as bitfield-at-reads
+use Rattle.record.proofs.command.constant_at.Reads as constant-at-reads
+use Rattle.record.proofs.command.enum_at.Reads as enum-at-reads
+use Rattle.record.proofs.command.family_at.Reads as family-at-reads
+use Rattle.record.proofs.command.field_at.Reads as field-at-reads
+use Rattle.record.proofs.command.head_at.Reads as head-at-reads
+use Rattle.record.proofs.command.key_at.Reads as key-at-reads
+use Rattle.record.proofs.command.member_at.Reads as member-at-reads
+use Rattle.record.proofs.command.struct_at.Reads as struct-at-reads
+use Rattle.record.proofs.command.value_at.Reads as value-at-reads
+use Rattle.record.proofs.command.variant_at.Reads as variant-at-reads
+use Rattle.record.proofs.command.version_at.Reads as version-at-reads
 
--- src/command.rt:218:14
-head-requires : tie.Need-head-requires
-head-requires c κs = search needs
+-- src/command.rt:294:28
+head-at-requires : tie.Need-head-at-requires
+head-at-requires c κs = search needs
 
--- src/command.rt:219:14
-constant-requires : tie.Need-constant-requires
-constant-requires c κs = search needs
+-- src/command.rt:295:32
+constant-at-requires : tie.Need-constant-at-requires
+constant-at-requires c κs = search needs
 
--- src/command.rt:220:14
-alias-requires : tie.Need-alias-requires
-alias-requires c κs = search needs
+-- src/command.rt:296:33
+alias-at-requires : tie.Need-alias-at-requires
+alias-at-requires c κs = search needs
 
--- src/command.rt:221:14
-enumeration-requires : tie.Need-enumeration-requires
-enumeration-requires c κs = search needs
+-- src/command.rt:297:28
+enum-at-requires : tie.Need-enum-at-requires
+enum-at-requires c κs = search needs
 
--- src/command.rt:222:14
-value-requires : tie.Need-value-requires
-value-requires c κs = search needs
+-- src/command.rt:298:29
+value-at-requires : tie.Need-value-at-requires
+value-at-requires c κs = search needs
 
--- src/command.rt:223:14
-bits-requires : tie.Need-bits-requires
-bits-requires c κs = search needs
+-- src/command.rt:299:32
+bitfield-at-requires : tie.Need-bitfield-at-requires
+bitfield-at-requires c κs = search needs
 
--- src/command.rt:224:14
-bit-requires : tie.Need-bit-requires
-bit-requires c κs = search needs
+-- src/command.rt:300:30
+member-at-requires : tie.Need-member-at-requires
+member-at-requires c κs = search needs
 
--- src/command.rt:225:14
-structure-requires : tie.Need-structure-requires
-structure-requires c κs = search needs
+-- src/command.rt:301:30
+struct-at-requires : tie.Need-struct-at-requires
+struct-at-requires c κs = search needs
 
--- src/command.rt:226:14
-family-requires : tie.Need-family-requires
-family-requires c κs = search needs
+-- src/command.rt:302:30
+family-at-requires : tie.Need-family-at-requires
+family-at-requires c κs = search needs
 
--- src/command.rt:227:15
-variant-requires : tie.Need-variant-requires
-variant-requires c κs = search needs
+-- src/command.rt:303:32
+variant-at-requires : tie.Need-variant-at-requires
+variant-at-requires c κs = search needs
 
--- src/command.rt:228:15
-member-requires : tie.Need-member-requires
-member-requires c κs = search needs
+-- src/command.rt:304:30
+field-at-requires : tie.Need-field-at-requires
+field-at-requires c κs = search needs
 
--- src/command.rt:229:15
-plugin-key-requires : tie.Need-plugin-key-requires
-plugin-key-requires c κs = search needs
+-- src/command.rt:305:34
+key-at-requires : tie.Need-key-at-requires
+key-at-requires c κs = search needs
 
--- src/command.rt:230:15
-unstored-requires : tie.Need-unstored-requires
-unstored-requires c κs = search needs
+-- src/command.rt:306:36
+key-at-requires-2 : tie.Need-key-at-requires-2
+key-at-requires-2 c κs = search needs
 
--- src/command.rt:231:14
-version-requires : tie.Need-version-requires
-version-requires c κs = search needs
+-- src/command.rt:307:31
+version-at-requires : tie.Need-version-at-requires
+version-at-requires c κs = search needs
 
--- src/command.rt:214:1
+-- src/command.rt:290:1
 returns : tie.Need-returns
 unfolding commandOf
-returns c = rw (c .before .match .keys1) (c .head .ensures)
+returns c = rw (c .before .match .keys1, c .head-at .ensures)
 
--- src/command.rt:214:1
+-- src/command.rt:290:1
 returns-2 : tie.Need-returns-2
 unfolding commandOf
-returns-2 c = rw (c .before .match .keys2) (c .constant .ensures)
+returns-2 c = rw (c .before .match .keys2, c .constant-at .ensures)
 
--- src/command.rt:214:1
+-- src/command.rt:290:1
 returns-3 : tie.Need-returns-3
 unfolding commandOf
-returns-3 c = rw (c .before .match .keys3) (c .alias .ensures)
+returns-3 c = rw (c .before .match .keys3, c .alias-at .ensures)
 
--- src/command.rt:214:1
+-- src/command.rt:290:1
 returns-4 : tie.Need-returns-4
 unfolding commandOf
-returns-4 c = rw (c .before .match .keys4) (c .enumeration .ensures)
+returns-4 c = rw (c .before .match .keys4, c .enum-at .ensures)
 
--- src/command.rt:214:1
+-- src/command.rt:290:1
 returns-5 : tie.Need-returns-5
 unfolding commandOf
-returns-5 c = rw (c .before .match .keys5) (c .value .ensures)
+returns-5 c = rw (c .before .match .keys5, c .value-at .ensures)
 
--- src/command.rt:214:1
+-- src/command.rt:290:1
 returns-6 : tie.Need-returns-6
 unfolding commandOf
-returns-6 c = rw (c .before .match .keys6) (c .bits .ensures)
+returns-6 c = rw (c .before .match .keys6, c .bitfield-at .ensures)
 
--- src/command.rt:214:1
+-- src/command.rt:290:1
 returns-7 : tie.Need-returns-7
 unfolding commandOf
-returns-7 c = rw (c .before .match .keys7) (c .bit .ensures)
+returns-7 c = rw (c .before .match .keys7, c .member-at .ensures)
 
--- src/command.rt:214:1
+-- src/command.rt:290:1
 returns-8 : tie.Need-returns-8
 unfolding commandOf
-returns-8 c = rw (c .before .match .keys8) (c .structure .ensures)
+returns-8 c = rw (c .before .match .keys8, c .struct-at .ensures)
 
--- src/command.rt:214:1
+-- src/command.rt:290:1
 returns-9 : tie.Need-returns-9
 unfolding commandOf
-returns-9 c = rw (c .before .match .keys9) (c .family .ensures)
+returns-9 c = rw (c .before .match .keys9, c .family-at .ensures)
 
--- src/command.rt:214:1
+-- src/command.rt:290:1
 returns-10 : tie.Need-returns-10
 unfolding commandOf
-returns-10 c = rw (c .before .match .keys10) (c .variant .ensures)
+returns-10 c = rw (c .before .match .keys10, c .variant-at .ensures)
 
--- src/command.rt:214:1
+-- src/command.rt:290:1
 returns-11 : tie.Need-returns-11
 unfolding commandOf
-returns-11 c = rw (c .before .match .keys11) (c .member .ensures)
+returns-11 c = rw (c .before .match .keys11, c .field-at .ensures)
 
--- src/command.rt:214:1
+-- src/command.rt:290:1
 returns-12 : tie.Need-returns-12
 unfolding commandOf
-returns-12 c = rw (c .before .match .keys12) (c .plugin-key .ensures)
+returns-12 c = rw (c .before .match .keys12, c .key-at .ensures)
 
--- src/command.rt:214:1
+-- src/command.rt:290:1
 returns-13 : tie.Need-returns-13
 unfolding commandOf
-returns-13 c = rw (c .before .match .keys13) (c .unstored .ensures)
+returns-13 c = rw (c .before .match .keys13, c .key-at2 .ensures)
 
--- src/command.rt:214:1
+-- src/command.rt:290:1
 returns-14 : tie.Need-returns-14
 returns-14 c = search else-command
 
@@ -149,20 +148,20 @@ pub command-of-spec : {M : Type 1} → statement M
 command-of-spec =
     tie.close
     (tie.spec
-    head-requires
-    constant-requires
-    alias-requires
-    enumeration-requires
-    value-requires
-    bits-requires
-    bit-requires
-    structure-requires
-    family-requires
-    variant-requires
-    member-requires
-    plugin-key-requires
-    unstored-requires
-    version-requires
+    head-at-requires
+    constant-at-requires
+    alias-at-requires
+    enum-at-requires
+    value-at-requires
+    bitfield-at-requires
+    member-at-requires
+    struct-at-requires
+    family-at-requires
+    variant-at-requires
+    field-at-requires
+    key-at-requires
+    key-at-requires-2
+    version-at-requires
     returns
     returns-2
     returns-3

@@ -1,10 +1,9 @@
-use Rattle.record.proofs.ListLaws.{members-nearer, find-member-laws}
-use Rattle.record.proofs.TextLaws.{kept}
-use Rattle.record.specs.Lists.{rec, membersAt}
-use Rattle.record.specs.Items.{memberIn}
-use lib.ListN.{length}
-use Prim.Native.Nat.{_-_}
 use mathlib.Core.Path.{_≡_}
+use Prim.Native.Nat.{_-_}
+use lib.ListN.{length}
+use Rattle.record.specs.Steps.{memberIn, membersAt}
+use Rattle.record.proofs.TextLaws.{kept}
+use Rattle.record.proofs.StepLaws.{members-nearer, find-member-laws}
 use borrow.Author.Needs.{needs}
 use Rattle.record.proofs.lists.find_member.Statement.{statement}
 use Rattle.record.proofs.lists.find_member.Tie as tie
@@ -15,48 +14,48 @@ use Rattle.record.proofs.text.bytes_of.Reads as bytes-of-reads
 use Rattle.record.proofs.text.same.Reads as same-reads
 
 abbrev Inv-loop : tie.InvT-loop
-Inv-loop stream pool name cursor₀ cursor = memberIn name (membersAt (rec stream pool) (cursor₀ .at)) ≡ memberIn name (membersAt (rec stream pool) (cursor .at))
+Inv-loop stream pool name cursor₀ cursor = memberIn name (membersAt stream pool (cursor₀ .at)) ≡ memberIn name (membersAt stream pool (cursor .at))
 
 abbrev μ-loop : tie.MeasureT-loop
 μ-loop stream pool name cursor₀ cursor = length stream - cursor .at
 
--- src/lists.rt:220:5
+-- src/lists.rt:395:5
 loop-holds : tie.Need-loop-holds Inv-loop μ-loop
 loop-holds c = search needs
 
--- src/lists.rt:221:45
+-- src/lists.rt:396:45
 next-member-requires : tie.Need-next-member-requires Inv-loop μ-loop
 next-member-requires c κs = search needs
 
--- src/lists.rt:221:33
+-- src/lists.rt:396:33
 enum-known-e : tie.Need-enum-known-e Inv-loop μ-loop
 enum-known-e c = search needs
 
--- src/lists.rt:222:13
+-- src/lists.rt:397:13
 enum-told : tie.Need-enum-told Inv-loop μ-loop
 enum-told c = search needs
 
--- src/lists.rt:222:13
+-- src/lists.rt:397:13
 returns : tie.Need-returns Inv-loop μ-loop
 returns c = search (kept, find-member-laws)
 
--- src/lists.rt:224:17
+-- src/lists.rt:399:17
 bytes-of-requires : tie.Need-bytes-of-requires Inv-loop μ-loop
 bytes-of-requires c κs = search needs
 
--- src/lists.rt:224:12
+-- src/lists.rt:399:12
 same-requires : tie.Need-same-requires Inv-loop μ-loop
 same-requires c κs = search needs
 
--- src/lists.rt:225:13
+-- src/lists.rt:400:13
 returns-2 : tie.Need-returns-2 Inv-loop μ-loop
 returns-2 c = search (kept, find-member-laws)
 
--- src/lists.rt:220:5
+-- src/lists.rt:395:5
 loop-less : tie.Need-loop-less Inv-loop μ-loop
 loop-less c = search members-nearer
 
--- src/lists.rt:220:5
+-- src/lists.rt:395:5
 loop-again : tie.Need-loop-again Inv-loop μ-loop
 loop-again c = search (kept, find-member-laws)
 

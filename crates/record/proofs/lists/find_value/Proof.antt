@@ -1,10 +1,9 @@
-use Rattle.record.proofs.ListLaws.{values-nearer, find-value-laws}
-use Rattle.record.proofs.TextLaws.{kept}
-use Rattle.record.specs.Lists.{rec, valuesAt}
-use Rattle.record.specs.Items.{valueIn}
-use lib.ListN.{length}
-use Prim.Native.Nat.{_-_}
 use mathlib.Core.Path.{_≡_}
+use Prim.Native.Nat.{_-_}
+use lib.ListN.{length}
+use Rattle.record.specs.Steps.{valueIn, valuesAt}
+use Rattle.record.proofs.TextLaws.{kept}
+use Rattle.record.proofs.StepLaws.{values-nearer, find-value-laws}
 use borrow.Author.Needs.{needs}
 use Rattle.record.proofs.lists.find_value.Statement.{statement}
 use Rattle.record.proofs.lists.find_value.Tie as tie
@@ -15,48 +14,48 @@ use Rattle.record.proofs.text.bytes_of.Reads as bytes-of-reads
 use Rattle.record.proofs.text.same.Reads as same-reads
 
 abbrev Inv-loop : tie.InvT-loop
-Inv-loop stream pool name cursor₀ cursor = valueIn name (valuesAt (rec stream pool) (cursor₀ .at)) ≡ valueIn name (valuesAt (rec stream pool) (cursor .at))
+Inv-loop stream pool name cursor₀ cursor = valueIn name (valuesAt stream pool (cursor₀ .at)) ≡ valueIn name (valuesAt stream pool (cursor .at))
 
 abbrev μ-loop : tie.MeasureT-loop
 μ-loop stream pool name cursor₀ cursor = length stream - cursor .at
 
--- src/lists.rt:147:5
+-- src/lists.rt:363:5
 loop-holds : tie.Need-loop-holds Inv-loop μ-loop
 loop-holds c = search needs
 
--- src/lists.rt:148:43
+-- src/lists.rt:364:43
 next-value-requires : tie.Need-next-value-requires Inv-loop μ-loop
 next-value-requires c κs = search needs
 
--- src/lists.rt:148:31
+-- src/lists.rt:364:31
 enum-known-e : tie.Need-enum-known-e Inv-loop μ-loop
 enum-known-e c = search needs
 
--- src/lists.rt:149:13
+-- src/lists.rt:365:13
 enum-told : tie.Need-enum-told Inv-loop μ-loop
 enum-told c = search needs
 
--- src/lists.rt:149:13
+-- src/lists.rt:365:13
 returns : tie.Need-returns Inv-loop μ-loop
 returns c = search (kept, find-value-laws)
 
--- src/lists.rt:151:17
+-- src/lists.rt:367:17
 bytes-of-requires : tie.Need-bytes-of-requires Inv-loop μ-loop
 bytes-of-requires c κs = search needs
 
--- src/lists.rt:151:12
+-- src/lists.rt:367:12
 same-requires : tie.Need-same-requires Inv-loop μ-loop
 same-requires c κs = search needs
 
--- src/lists.rt:152:13
+-- src/lists.rt:368:13
 returns-2 : tie.Need-returns-2 Inv-loop μ-loop
 returns-2 c = search (kept, find-value-laws)
 
--- src/lists.rt:147:5
+-- src/lists.rt:363:5
 loop-less : tie.Need-loop-less Inv-loop μ-loop
 loop-less c = search values-nearer
 
--- src/lists.rt:147:5
+-- src/lists.rt:363:5
 loop-again : tie.Need-loop-again Inv-loop μ-loop
 loop-again c = search (kept, find-value-laws)
 

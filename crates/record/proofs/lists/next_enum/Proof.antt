@@ -1,8 +1,9 @@
-use Rattle.record.proofs.ListLaws.{Onward, onward-here, enums-laws}
-use Rattle.record.proofs.Tags.{nearer}
-use Rattle.record.specs.Lists.{enumsAt}
-use lib.ListN.{length}
 use Prim.Native.Nat.{_-_}
+use lib.ListN.{length}
+use Rattle.record.specs.Steps.{enumsAt}
+use Rattle.record.proofs.Stream.{nearer}
+use Rattle.record.proofs.ListLaws.{Onward, onward-here}
+use Rattle.record.proofs.StepLaws.{enums-laws}
 use borrow.Author.Needs.{needs}
 use Rattle.record.proofs.lists.next_enum.Statement.{statement}
 use Rattle.record.proofs.lists.next_enum.Tie as tie
@@ -16,39 +17,39 @@ Inv-loop stream cursor₀ cursor = Onward enumsAt stream (cursor₀ .at) (cursor
 abbrev μ-loop : tie.MeasureT-loop
 μ-loop stream cursor₀ cursor = length stream - cursor .at
 
--- src/lists.rt:24:5
+-- src/lists.rt:115:5
 loop-holds : tie.Need-loop-holds Inv-loop μ-loop
 loop-holds c = search onward-here
 
--- src/lists.rt:25:15
+-- src/lists.rt:116:42
 next-requires : tie.Need-next-requires Inv-loop μ-loop
 next-requires c κs = search needs
 
--- src/lists.rt:27:17
-enum-told : tie.Need-enum-told Inv-loop μ-loop
-enum-told c = search needs
-
--- src/lists.rt:27:17
-returns : tie.Need-returns Inv-loop μ-loop
-returns c = search enums-laws
-
--- src/lists.rt:29:24
+-- src/lists.rt:116:24
 enum-known-command : tie.Need-enum-known-command Inv-loop μ-loop
 enum-known-command c = search needs
 
--- src/lists.rt:30:47
+-- src/lists.rt:117:13
+enum-told : tie.Need-enum-told Inv-loop μ-loop
+enum-told c = search needs
+
+-- src/lists.rt:117:13
+returns : tie.Need-returns Inv-loop μ-loop
+returns c = search enums-laws
+
+-- src/lists.rt:119:30
 enum-known-command-2 : tie.Need-enum-known-command-2 Inv-loop μ-loop
 enum-known-command-2 c = search needs
 
--- src/lists.rt:31:21
+-- src/lists.rt:120:13
 returns-2 : tie.Need-returns-2 Inv-loop μ-loop
 returns-2 c = search enums-laws
 
--- src/lists.rt:24:5
+-- src/lists.rt:115:5
 loop-less : tie.Need-loop-less Inv-loop μ-loop
 loop-less c = search nearer
 
--- src/lists.rt:24:5
+-- src/lists.rt:115:5
 loop-again : tie.Need-loop-again Inv-loop μ-loop
 loop-again c = search enums-laws
 
@@ -60,9 +61,9 @@ next-enum-spec =
     μ-loop
     loop-holds
     next-requires
+    enum-known-command
     enum-told
     returns
-    enum-known-command
     enum-known-command-2
     returns-2
     loop-less

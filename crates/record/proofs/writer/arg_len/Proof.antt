@@ -1,89 +1,66 @@
 use mathlib.Core.Path.{ap}
 use native.Mathlib.Omega.{arith}
 use lib.ListN.{length}
-use Rattle.record.proofs.WriterLaws.{stretch-short, text-length}
+use Rattle.record.proofs.WriterLaws.{text-short, text-length}
 use borrow.Author.Needs.{needs}
 use Rattle.record.proofs.writer.arg_len.Statement.{statement}
 use Rattle.record.proofs.writer.arg_len.Tie as tie
-use Rattle.record.proofs.writer.arg_len.Reads as reads
-use Rattle.record.proofs.writer.arg_len.Lts as lts
-use Rattle.record.proofs.writer.decimal.Reads as decimal-reads
-use Rattle.record.proofs.writer.signed.Reads as signed-reads
-use Rattle.record.proofs.writer.stretch.Reads as stretch-reads
 
--- src/lib.rt:103:25
 enum-told : tie.Need-enum-told
 enum-told c = search needs
 
--- src/lib.rt:104:25
 enum-told-2 : tie.Need-enum-told-2
 enum-told-2 c = search needs
 
--- src/lib.rt:105:18
 enum-known-a : tie.Need-enum-known-a
 enum-known-a c = search needs
 
--- src/lib.rt:105:27
-stretch-requires : tie.Need-stretch-requires
-stretch-requires c κs = search needs
+bytes-of-requires : tie.Need-bytes-of-requires
+bytes-of-requires c κs = search needs
 
--- src/lib.rt:106:18
 enum-known-a-2 : tie.Need-enum-known-a-2
 enum-known-a-2 c = search needs
 
--- src/lib.rt:106:27
-stretch-requires-2 : tie.Need-stretch-requires-2
-stretch-requires-2 c κs = search needs
+bytes-of-requires-2 : tie.Need-bytes-of-requires-2
+bytes-of-requires-2 c κs = search needs
 
--- src/lib.rt:107:21
 enum-known-a-3 : tie.Need-enum-known-a-3
 enum-known-a-3 c = search needs
 
--- src/lib.rt:107:32
 decimal-requires : tie.Need-decimal-requires
 decimal-requires c κs = search needs
 
--- src/lib.rt:107:27
 sub-result : tie.Need-sub-result
 sub-result c = search needs
 
--- src/lib.rt:108:21
 enum-known-a-4 : tie.Need-enum-known-a-4
 enum-known-a-4 c = search needs
 
--- src/lib.rt:108:32
 signed-requires : tie.Need-signed-requires
 signed-requires c κs = search needs
 
--- src/lib.rt:108:27
 sub-result-2 : tie.Need-sub-result-2
 sub-result-2 c = search needs
 
--- src/lib.rt:99:1
 returns : tie.Need-returns
 returns c = search needs
 
--- src/lib.rt:99:1
 returns-2 : tie.Need-returns-2
 returns-2 c = search needs
 
--- src/lib.rt:99:1
 returns-3 : tie.Need-returns-3
 returns-3 c =
     let v = c .before .before .a .given in
-    rw (v .1) (ap length (c .stretch .ensures), stretch-short _ (c .before .before .before .before .before .before .args .new .now) (v .0 .0) (v .0 .1 .0) (omega (arith, c .before .known-told .given)) (c .stretch .ensures))
+    rw (v .1) (ap length (c .bytes-of .ensures), text-short _ (c .before .before .before .before .before .before .args .new .now) (v .0 .0) (omega (arith, c .before .known-told .given)) (c .bytes-of .ensures))
 
--- src/lib.rt:99:1
 returns-4 : tie.Need-returns-4
 returns-4 c =
     let v = c .before .before .a2 .given in
-    rw (v .1) (ap length (c .stretch2 .ensures), stretch-short _ (c .before .before .before .before .before .before .args .old .now) (v .0 .0) (v .0 .1 .0) (omega (arith, c .before .known-told2 .given)) (c .stretch2 .ensures))
+    rw (v .1) (ap length (c .bytes-of2 .ensures), text-short _ (c .before .before .before .before .before .before .args .old .now) (v .0 .0) (omega (arith, c .before .known-told2 .given)) (c .bytes-of2 .ensures))
 
--- src/lib.rt:99:1
 returns-5 : tie.Need-returns-5
 returns-5 c = rw (c .before .before .before .a3 .given .1) (text-length _ _ _ (c .before .decimal .ensures .0) (c .before .decimal .ensures .3), omega arith)
 
--- src/lib.rt:99:1
 returns-6 : tie.Need-returns-6
 returns-6 c = rw (c .before .before .before .a4 .given .1) (text-length _ _ _ (c .before .signed .ensures .0) (c .before .signed .ensures .2), omega arith)
 
@@ -94,9 +71,9 @@ arg-len-spec =
     enum-told
     enum-told-2
     enum-known-a
-    stretch-requires
+    bytes-of-requires
     enum-known-a-2
-    stretch-requires-2
+    bytes-of-requires-2
     enum-known-a-3
     decimal-requires
     sub-result

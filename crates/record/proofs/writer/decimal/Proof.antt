@@ -1,4 +1,4 @@
-use mathlib.Core.Path.{_≡_, refl, _∙_}
+use mathlib.Core.Path.{_≡_, refl}
 use mathlib.Core.List.{_++_, append-nil}
 use Prim.Native.Nat.{_≤_, _<_, _-_, _^_}
 use native.Mathlib.Omega.{arith}
@@ -7,8 +7,6 @@ use Rattle.record.specs.Base.{digits, decimal}
 use Rattle.record.proofs.WriterLaws.{digit-more, digit-last, places, places-less}
 use Rattle.record.proofs.writer.decimal.Statement.{statement}
 use Rattle.record.proofs.writer.decimal.Tie as tie
-use Rattle.record.proofs.writer.decimal.Reads as reads
-use Rattle.record.proofs.writer.decimal.Lts as lts
 
 abbrev Inv-loop : tie.InvT-loop
 Inv-loop n bytes₀ i₀ rest₀ bytes i rest =
@@ -17,32 +15,25 @@ Inv-loop n bytes₀ i₀ rest₀ bytes i rest =
 abbrev μ-loop : tie.MeasureT-loop
 μ-loop n bytes₀ i₀ rest₀ bytes i rest = rest
 
--- src/lib.rt:32:5
 loop-holds : tie.Need-loop-holds Inv-loop μ-loop
 unfolding decimal
 loop-holds c = (omega arith, omega arith, refl, omega (arith, c .fits .n .fits), append-nil _)
 
--- src/lib.rt:33:9
 sub-i : tie.Need-sub-i Inv-loop μ-loop
 sub-i c = omega arith
 
--- src/lib.rt:34:25
 cast-bytes : tie.Need-cast-bytes Inv-loop μ-loop
 cast-bytes c = omega arith
 
--- src/lib.rt:34:20
 add-bytes : tie.Need-add-bytes Inv-loop μ-loop
 add-bytes c = omega arith
 
--- src/lib.rt:34:9
 array-write-bytes : tie.Need-array-write-bytes Inv-loop μ-loop
 array-write-bytes c = omega arith
 
--- src/lib.rt:32:5
 loop-less : tie.Need-loop-less Inv-loop μ-loop
 loop-less c = omega arith
 
--- src/lib.rt:32:5
 loop-again : tie.Need-loop-again Inv-loop μ-loop
 loop-again c =
     let l = c .before .loop in
@@ -55,23 +46,18 @@ loop-again c =
       digit-more (l .i) (l .rest) (l .bytes) _ (omega arith) (omega arith) t (l .inv .4),
     )
 
--- src/lib.rt:37:5
 sub-i-2 : tie.Need-sub-i-2 Inv-loop μ-loop
 sub-i-2 c = omega arith
 
--- src/lib.rt:38:21
 cast-bytes-2 : tie.Need-cast-bytes-2 Inv-loop μ-loop
 cast-bytes-2 c = omega arith
 
--- src/lib.rt:38:16
 add-bytes-2 : tie.Need-add-bytes-2 Inv-loop μ-loop
 add-bytes-2 c = omega arith
 
--- src/lib.rt:38:5
 array-write-bytes-2 : tie.Need-array-write-bytes-2 Inv-loop μ-loop
 array-write-bytes-2 c = omega arith
 
--- src/lib.rt:26:1
 returns : tie.Need-returns Inv-loop μ-loop
 returns c =
     let l = c .before .loop in

@@ -3,15 +3,10 @@ use Prim.Native.Nat.{_*_, _-_, _≤_}
 use native.Mathlib.Omega.{arith}
 use lib.ListN.{length, take}
 use lib.Seq.{take-all}
-use Rattle.record.specs.Fill.{filled, fronted, placed}
+use Rattle.record.specs.Fill.{filled, fronted}
 use Rattle.record.proofs.WriterLaws.{length-more, room, stepped, front-none}
 use Rattle.record.proofs.writer.fill.Statement.{statement}
 use Rattle.record.proofs.writer.fill.Tie as tie
-use Rattle.record.proofs.writer.fill.Reads as reads
-use Rattle.record.proofs.writer.fill.Lts as lts
-use Rattle.record.proofs.writer.arg_len.Reads as arg-len-reads
-use Rattle.record.proofs.writer.pick.Reads as pick-reads
-use Rattle.record.proofs.writer.put_arg.Reads as put-arg-reads
 
 abbrev Inv-loop : tie.InvT-loop
 Inv-loop out₀ template args new old at₀ i₀ out at i = (i ≤ length template) × (at ≤ 255 * i) × (at ≡ length (filled new old args (take i template))) × (length out ≡ length out₀) × (out ≡ fronted out₀ (filled new old args (take i template)))
@@ -19,43 +14,34 @@ Inv-loop out₀ template args new old at₀ i₀ out at i = (i ≤ length templa
 abbrev μ-loop : tie.MeasureT-loop
 μ-loop out₀ template args new old at₀ i₀ out at i = length template - i
 
--- src/lib.rt:163:5
 loop-holds : tie.Need-loop-holds Inv-loop μ-loop
 unfolding filled
 loop-holds c = (omega arith, omega arith, refl, refl, front-none _)
 
--- src/lib.rt:164:22
 shared-slice-read-pick : tie.Need-shared-slice-read-pick Inv-loop μ-loop
 shared-slice-read-pick c = omega arith
 
--- src/lib.rt:164:13
 pick-requires : tie.Need-pick-requires Inv-loop μ-loop
 pick-requires c κs = tt
 
--- src/lib.rt:165:9
 put-arg-requires : tie.Need-put-arg-requires Inv-loop μ-loop
 put-arg-requires c κs =
     let l = c .before .before .before .before .loop in
     let a = c .before .before .before .before .before .before .before .before .before in
     room (a .args .new .now) (a .args .old .now) _ (a .args .template .now) (l .i) (l .at) _ (c .before .pick .result) (omega arith) (c .before .pick .ensures) (l .inv .2) (omega arith)
 
--- src/lib.rt:166:15
 arg-len-requires : tie.Need-arg-len-requires Inv-loop μ-loop
 arg-len-requires c κs = tt
 
--- src/lib.rt:166:9
 add-at : tie.Need-add-at Inv-loop μ-loop
 add-at c = omega arith
 
--- src/lib.rt:167:9
 add-i : tie.Need-add-i Inv-loop μ-loop
 add-i c = omega arith
 
--- src/lib.rt:163:5
 loop-less : tie.Need-loop-less Inv-loop μ-loop
 loop-less c = omega arith
 
--- src/lib.rt:163:5
 loop-again : tie.Need-loop-again Inv-loop μ-loop
 loop-again c =
     let l = c .before .before .before .before .before .before .before .before .loop in
@@ -70,11 +56,9 @@ loop-again c =
       c .before .before .before .put-arg .ensures ∙ stepped n o _ (a .template .now) (a .out .now) (l .out) (l .i) (l .at) (p .result) (omega arith) (p .ensures) (l .inv .2) (l .inv .4),
     )
 
--- src/lib.rt:157:1
 same-length : tie.Need-same-length Inv-loop μ-loop
 same-length c = omega arith
 
--- src/lib.rt:157:1
 returns : tie.Need-returns Inv-loop μ-loop
 returns c =
     let l = c .before .loop in

@@ -7,10 +7,6 @@ use Rattle.record.specs.Fill.{filled}
 use Rattle.record.proofs.WriterLaws.{length-more}
 use Rattle.record.proofs.writer.filled_len.Statement.{statement}
 use Rattle.record.proofs.writer.filled_len.Tie as tie
-use Rattle.record.proofs.writer.filled_len.Reads as reads
-use Rattle.record.proofs.writer.filled_len.Lts as lts
-use Rattle.record.proofs.writer.arg_len.Reads as arg-len-reads
-use Rattle.record.proofs.writer.pick.Reads as pick-reads
 
 abbrev Inv-loop : tie.InvT-loop
 Inv-loop template args new old n₀ i₀ n i = (i ≤ length template) × (n ≤ 255 * i) × (n ≡ length (filled new old args (take i template)))
@@ -18,43 +14,34 @@ Inv-loop template args new old n₀ i₀ n i = (i ≤ length template) × (n ≤
 abbrev μ-loop : tie.MeasureT-loop
 μ-loop template args new old n₀ i₀ n i = length template - i
 
--- src/lib.rt:149:5
 loop-holds : tie.Need-loop-holds Inv-loop μ-loop
 unfolding filled
 loop-holds c = (omega arith, omega arith, refl)
 
--- src/lib.rt:150:27
 shared-slice-read-pick : tie.Need-shared-slice-read-pick Inv-loop μ-loop
 shared-slice-read-pick c = omega arith
 
--- src/lib.rt:150:22
 pick-requires : tie.Need-pick-requires Inv-loop μ-loop
 pick-requires c κs = tt
 
--- src/lib.rt:150:14
 arg-len-requires : tie.Need-arg-len-requires Inv-loop μ-loop
 arg-len-requires c κs = tt
 
--- src/lib.rt:150:9
 add-n : tie.Need-add-n Inv-loop μ-loop
 add-n c = omega arith
 
--- src/lib.rt:151:9
 add-i : tie.Need-add-i Inv-loop μ-loop
 add-i c = omega arith
 
--- src/lib.rt:149:5
 loop-less : tie.Need-loop-less Inv-loop μ-loop
 loop-less c = omega arith
 
--- src/lib.rt:149:5
 loop-again : tie.Need-loop-again Inv-loop μ-loop
 loop-again c =
     let l = c .before .before .before .before .loop in
     let a = c .before .before .before .before .before .before .before .before .args in
     (omega arith, omega arith, length-more (a .new .now) (a .old .now) _ (a .template .now) (l .i) (l .n) _ (c .before .pick .result) (omega arith) (c .before .pick .ensures) (l .inv .2) (c .arg-len .ensures .0))
 
--- src/lib.rt:143:1
 returns : tie.Need-returns Inv-loop μ-loop
 returns c =
     let l = c .before .loop in

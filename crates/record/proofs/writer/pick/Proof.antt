@@ -3,26 +3,19 @@ use Rattle.record.proofs.WriterLaws.{pick-itself, pick-arg, pick-none}
 use borrow.Author.Needs.{needs}
 use Rattle.record.proofs.writer.pick.Statement.{statement}
 use Rattle.record.proofs.writer.pick.Tie as tie
-use Rattle.record.proofs.writer.pick.Reads as reads
-use Rattle.record.proofs.writer.pick.Lts as lts
 
--- src/lib.rt:132:9
 returns : tie.Need-returns
 returns c = pick-itself _ _ (c .if1 .taken)
 
--- src/lib.rt:135:9
 returns-2 : tie.Need-returns-2
 returns-2 c = pick-none _ _ (omega arith) (omega arith)
 
--- src/lib.rt:138:5
 mul-result : tie.Need-mul-result
 mul-result c = search needs
 
--- src/lib.rt:138:5
 array-copy-out-result : tie.Need-array-copy-out-result
 array-copy-out-result c = search needs
 
--- src/lib.rt:128:1
 returns-3 : tie.Need-returns-3
 returns-3 c = pick-arg _ _ (omega arith)
 

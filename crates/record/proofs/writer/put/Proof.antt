@@ -1,15 +1,11 @@
-use mathlib.Core.Path.{_≡_, refl, sym, ap, _∙_}
-use Prim.Native.Nat.{ℕ, _+_, _-_, _≤_, _<_}
-use native.Mathlib.Numerals.{add-one}
+use mathlib.Core.Path.{_≡_, refl, _∙_}
+use Prim.Native.Nat.{_+_, _-_, _≤_, _<_}
 use native.Mathlib.Omega.{arith}
 use lib.ListN.{length, length-set}
-use lib.Seq.{paste, paste-zero, paste-suc, take-length}
-use Rattle.record.specs.Fill.{placed}
+use lib.Seq.{paste, paste-zero}
 use Rattle.record.proofs.WriterLaws.{stored, copied}
 use Rattle.record.proofs.writer.put.Statement.{statement}
 use Rattle.record.proofs.writer.put.Tie as tie
-use Rattle.record.proofs.writer.put.Reads as reads
-use Rattle.record.proofs.writer.put.Lts as lts
 
 abbrev Inv-loop : tie.InvT-loop
 Inv-loop out₀ at src j₀ o₀ out j o = (o ≡ at + j) × (j ≤ length src) × (length out ≡ length out₀) × (out ≡ paste out₀ at src j)
@@ -17,31 +13,24 @@ Inv-loop out₀ at src j₀ o₀ out j o = (o ≡ at + j) × (j ≤ length src) 
 abbrev μ-loop : tie.MeasureT-loop
 μ-loop out₀ at src j₀ o₀ out j o = length src - j
 
--- src/lib.rt:82:5
 loop-holds : tie.Need-loop-holds Inv-loop μ-loop
 loop-holds c = (omega arith, omega arith, refl, paste-zero (c .args .out .now) (c .args .at) (c .args .src .now))
 
--- src/lib.rt:83:18
 shared-slice-read-out : tie.Need-shared-slice-read-out Inv-loop μ-loop
 shared-slice-read-out c = omega arith
 
--- src/lib.rt:83:9
 slice-write-out : tie.Need-slice-write-out Inv-loop μ-loop
 slice-write-out c = omega arith
 
--- src/lib.rt:84:9
 add-o : tie.Need-add-o Inv-loop μ-loop
 add-o c = omega arith
 
--- src/lib.rt:85:9
 add-j : tie.Need-add-j Inv-loop μ-loop
 add-j c = omega arith
 
--- src/lib.rt:82:5
 loop-less : tie.Need-loop-less Inv-loop μ-loop
 loop-less c = omega arith
 
--- src/lib.rt:82:5
 loop-again : tie.Need-loop-again Inv-loop μ-loop
 loop-again c =
     let l = c .before .before .loop in
@@ -49,11 +38,9 @@ loop-again c =
     let m : l .o < length (a .out .now) = omega arith in
     (omega arith, omega arith, (simp length-set) ∙ l .inv .2, stored (a .out .now) (a .src .now) (l .out) (a .at) (l .o) (l .j) (l .inv .0) (l .inv .3) m (c .before .loop-test .taken))
 
--- src/lib.rt:76:1
 same-length : tie.Need-same-length Inv-loop μ-loop
 same-length c = omega arith
 
--- src/lib.rt:76:1
 returns : tie.Need-returns Inv-loop μ-loop
 returns c =
     let l = c .before .loop in

@@ -1,38 +1,27 @@
-use mathlib.Core.Path.{_≡_, ap, _∙_}
-use native.Mathlib.Omega.{arith}
-use lib.ListN.{length, take, drop}
+use mathlib.Core.Path.{ap, _∙_}
 use Rattle.record.specs.Fill.{placed}
-use Rattle.record.proofs.WriterLaws.{rest-length, rest-all}
+use Rattle.record.proofs.WriterLaws.{rest-all}
 use borrow.Author.Needs.{needs}
 use Rattle.record.proofs.writer.put_digits.Statement.{statement}
 use Rattle.record.proofs.writer.put_digits.Tie as tie
-use Rattle.record.proofs.writer.put_digits.Reads as reads
-use Rattle.record.proofs.writer.put_digits.Lts as lts
-use Rattle.record.proofs.writer.put.Reads as put-reads
 
--- src/lib.rt:95:18
 sub-put : tie.Need-sub-put
 sub-put c = search needs
 
--- src/lib.rt:95:18
 part-put-start : tie.Need-part-put-start
 part-put-start c = search needs
 
--- src/lib.rt:95:18
 part-put-end : tie.Need-part-put-end
 part-put-end c = search needs
 
--- src/lib.rt:95:5
 put-requires : tie.Need-put-requires
 put-requires c κs =
     let a = c .before .before .before .before .before in
     rw (rest-all (a .args .d .start) (a .args .d .bytes) (a .pre .2)) (a .pre .0)
 
--- src/lib.rt:89:1
 same-length : tie.Need-same-length
 same-length c = search needs
 
--- src/lib.rt:89:1
 returns : tie.Need-returns
 returns c =
     let a = c .before .before .before .before .before .before .before .before in

@@ -5,39 +5,28 @@ use borrow.Author.Needs.{needs}
 use Rattle.record.proofs.WriterLaws.{sign, no-sign}
 use Rattle.record.proofs.writer.signed.Statement.{statement}
 use Rattle.record.proofs.writer.signed.Tie as tie
-use Rattle.record.proofs.writer.signed.Reads as reads
-use Rattle.record.proofs.writer.signed.Lts as lts
-use Rattle.record.proofs.writer.decimal.Reads as decimal-reads
 
--- src/lib.rt:48:9
 decimal-requires : tie.Need-decimal-requires
 decimal-requires c κs = search needs
 
--- src/lib.rt:48:9
 returns : tie.Need-returns
 returns c = (c .decimal .ensures .0 ∙ no-sign _ (c .before .if1 .taken), omega arith, c .decimal .ensures .3)
 
--- src/lib.rt:50:21
 sub-decimal : tie.Need-sub-decimal
 sub-decimal c = search needs
 
--- src/lib.rt:50:21
 add-decimal : tie.Need-add-decimal
 add-decimal c = search needs
 
--- src/lib.rt:50:9
 decimal-requires-2 : tie.Need-decimal-requires-2
 decimal-requires-2 c κs = search needs
 
--- src/lib.rt:51:14
 sub-at : tie.Need-sub-at
 sub-at c = search needs
 
--- src/lib.rt:53:5
 array-write-bytes : tie.Need-array-write-bytes
 array-write-bytes c = search needs
 
--- src/lib.rt:44:1
 returns-2 : tie.Need-returns-2
 returns-2 c =
     let d = c .before .before .decimal2 in

@@ -1,0 +1,440 @@
+-- From the marks of the roots to the owner of a name. Assumes nothing.
+use mathlib.Core.Path.{_≡_, refl, sym, ap, subst, _∙_}
+use mathlib.Core.List.{List, [], _∷_}
+use mathlib.Core.Option.{Option, none, some}
+use mathlib.Core.Bool.{Bool, true, false, cond, false≢true}
+use mathlib.Core.Logic.{_⊎_, inl, inr}
+use Prim.Native.Nat.{ℕ, zero, suc, _+_, _≤_, _<_}
+use native.Mathlib.Omega.{arith}
+use lib.ListN.{length, getD, List·getD-eq-default}
+use lib.Dec.{eqb, leb, ltb}
+use borrow.Author.Tests.{eqb-true, eqb-false, leb-true, leb-false, ltb-true, ltb-false}
+use Rattle.record.specs.Base.{Str, bytes, eqs, isText, find}
+use Rattle.record.specs.Stretch.{textOf}
+use Rattle.record.specs.Schema.{Struct}
+use Rattle.record.specs.Lists.{optOf, structOf}
+use Rattle.record.specs.Steps.{structsAt, fieldsAt, structFound}
+use Rattle.record.specs.Owner.{Types, hasSlot, structInSlot, withName, rootsIn, ownershipOrder, roots, ownerOf, Edge, Leads, here, along, First, now, later}
+use Rattle.record.specs.References.{typesAt, structCommandsAt, commandInSlot, commandFound, InSlot}
+use Rattle.record.specs.Marks.{referenceAt, targetAt, Clear, Named, Full, Fresh, Walked, TypeWalked}
+use Rattle.record.specs.Ownership.{Through, Claimed, Within, Resolved, OwnerMarks, OwnersMarked, Referred, MarkedName, NamedBy, Claims, Takes, OwnerIn, withStretch, stretchesIn, ownedBy, stretchOf, ownerAt, ownerMeant, Answered, OwnerFound}
+use Rattle.record.specs.declared.text.Text.{Text}
+use Rattle.record.specs.declared.operands.OptText.{OptText}
+use Rattle.record.specs.declared.command as D
+use Rattle.record.specs.declared.command.Cursor.{Cursor}
+use Rattle.record.specs.declared.lists.StructStep.{StructStep}
+use Rattle.record.specs.declared.lists.StructStep.the-variants.{NoStruct, AStruct}
+use Rattle.record.specs.declared.ownership.Owner.{Owner}
+use Rattle.record.specs.declared.ownership.Owner.the-variants.{Nobody, Owned}
+use Rattle.record.proofs.Basics.{eqs→eq, eqs-refl}
+use Rattle.record.proofs.ListLaws.{find-hit, find-miss}
+use Rattle.record.proofs.Walk.{owner-is-first}
+use Rattle.record.proofs.PlaceLaws.{entered-is, is-entered}
+use Rattle.record.proofs.MarkLaws.{marked-stays, full-stays, walked-none, walked-into}
+
+none≢some : {A : Type 0} {a : A} → none ≡ some a → ⊥
+none≢some e = let z : _≡_ {A = ℕ} 0 1 = cc in omega arith
+
+-- a root's walk ----------------------------------------------------------------------------------------------------------
+
+module _ (s p slot : Str) (mark : ℕ) (r : StructStep) (i : InSlot s p slot r) (m : List ℕ) where
+  pub root-none : r ≡ NoStruct → Claimed s p mark slot m m
+  root-none e = record { walked = walked-none s p; full = λ root f. absurd (none≢some (sym (i .struct ∙ ap (structFound s p) e) ∙ f)) }
+
+  pub root-walked : (root : D.Struct.Struct) (k : Cursor) (w : Str) (after : List ℕ) → r ≡ AStruct root k → w ≡ textOf p (root .name) → TypeWalked s p mark w m after → Claimed s p mark slot m after
+  root-walked root k w after e h t = record {
+    walked = walked-into s p (λ n l. record { root = there; fills = fills; leads = subst (λ (x : Str). Leads (typesAt s p) x n) h l }) (t .walked);
+    full = λ x f. subst (Full s p after) (h ∙ ap (λ (y : Struct). y .name) (let z : there ≡ x = same x f in z)) (t .full);
+  }
+    where
+      there : Struct
+      there = structOf p root (fieldsAt s p (k .at))
+
+      fills : structInSlot slot (structsAt s p 0) ≡ some there
+      fills = i .struct ∙ ap (structFound s p) e
+
+      same : (x : Struct) → structInSlot slot (structsAt s p 0) ≡ some x → there ≡ x
+      same x f = let g : some there ≡ some x = sym fills ∙ f in cc
+
+pub ruleset root-laws = (root-none, root-walked)
+
+-- the roots one after the other ------------------------------------------------------------------------------------------
+
+-- after the first k roots: what a marked field leads to is full, and no mark is above k
+record Settled (s p : Str) (m : List ℕ) (k : ℕ) : Type 0 where
+  closed : (q : ℕ) → (getD m q 0 ≡ 0 → ⊥) → (n : Str) → targetAt s p q ≡ some n → Full s p m n
+  most : (q : ℕ) → getD m q 0 ≤ k
+
+module _ (s p : Str) where
+  settled-none : {m : List ℕ} → Clear m → Settled s p m 0
+  settled-none c = record { closed = λ q h. absurd (h (c .none q)); most = λ q. let e = c .none q in omega arith }
+
+  -- where references lead from a full name, all is full
+  full-along : {m : List ℕ} {k : ℕ} → Settled s p m k → {a b : Str} → Full s p m a → Leads (typesAt s p) a b → Full s p m b
+  full-along g f (here e) = subst (Full s p _) e f
+  full-along g f (along l e) = let n = full-along g f l .all _ e in g .closed (n .place) (n .marked) _ (n .leads)
+
+  module _ {m after : List ℕ} {k : ℕ} {slot : Str} (g : Settled s p m k) (c : Claimed s p (suc k) slot m after) where
+    settled-next : Settled s p after (suc k)
+    settled-next = record { closed = λ q h. closed q (c .walked .closed q h); most = λ q. most q (c .walked .each q) }
+      where
+        closed : (q : ℕ) → (getD m q 0 ≡ 0 → ⊥) ⊎ ((n : Str) → targetAt s p q ≡ some n → Full s p after n) → (n : Str) → targetAt s p q ≡ some n → Full s p after n
+        closed q (inl h) n t = full-stays s p (c .walked) n (g .closed q h n t)
+        closed q (inr f) n t = f n t
+
+        most : (q : ℕ) → (getD after q 0 ≡ getD m q 0) ⊎ Fresh s p (suc k) (Through s p slot) m after q → getD after q 0 ≤ suc k
+        most q (inl e) = let l = g .most q in omega arith
+        most q (inr f) = let e = f .is in omega arith
+
+    resolved-next : Resolved s p after (suc k) slot
+    resolved-next = record {
+      sound = λ q n e t. sound q n e t (c .walked .each q);
+      complete = λ x n t e.
+          let f = full-along settled-next (c .full (t .root) (t .fills)) (t .leads) .all n e in
+          record { place = f .place; leads = f .leads; marked = f .marked; most = settled-next .most (f .place) };
+    }
+      where
+        sound : (q : ℕ) (n : Str) → getD after q 0 ≡ suc k → targetAt s p q ≡ some n → (getD after q 0 ≡ getD m q 0) ⊎ Fresh s p (suc k) (Through s p slot) m after q → Through s p slot n
+        sound q n e t (inl h) = absurd (let l = g .most q in omega arith)
+        sound q n e t (inr f) = f .into n t
+
+  -- a later root leaves it so
+  resolved-stays : {m after : List ℕ} {j k : ℕ} {slot : Str} {R : Str → Type 0} → j < k → Walked s p k R m after → Resolved s p m j slot → Resolved s p after j slot
+  resolved-stays {m} {after} {j} {k} {slot} {R} l w r = record {
+    sound = λ q n e t. sound q n e t (w .each q);
+    complete = λ x n t e. let f = r .complete x n t e in complete n f (w .each (f .place));
+  }
+    where
+      sound : (q : ℕ) (n : Str) → getD after q 0 ≡ j → targetAt s p q ≡ some n → (getD after q 0 ≡ getD m q 0) ⊎ Fresh s p k R m after q → Through s p slot n
+      sound q n e t (inl h) = r .sound q n (sym h ∙ e) t
+      sound q n e t (inr f) = absurd (let h = f .is in omega arith)
+
+      complete : (n : Str) (f : Within s p m j n) → (getD after (f .place) 0 ≡ getD m (f .place) 0) ⊎ Fresh s p k R m after (f .place) → Within s p after j n
+      complete n f (inl h) = record { place = f .place; leads = f .leads; marked = marked-stays s p w (f .place) (f .marked); most = let g = f .most in omega arith }
+      complete n f (inr g) = absurd (f .marked (g .was))
+
+  pub marks-short : (before : List ℕ) → length before < length s → OwnersMarked s p before before
+  marks-short before h = record { within = λ l. absurd (omega arith); beyond = λ l. refl }
+
+  pub marks-filled : (before a b c d : List ℕ) → length s ≤ length before → Clear a → Claimed s p 1 (bytes "metadata") a b → Claimed s p 2 (bytes "runtime") b c → Claimed s p 3 (bytes "info") c d → OwnersMarked s p before d
+  marks-filled before a b c d h clear one two three = record { within = λ l. marks; beyond = λ l. absurd (omega arith) }
+    where
+      first : Settled s p b 1
+      first = settled-next (settled-none clear) one
+
+      second : Settled s p c 2
+      second = settled-next first two
+
+      marks : OwnerMarks s p d
+      marks = record {
+        metadata = resolved-stays (omega arith) (three .walked) (resolved-stays (omega arith) (two .walked) (resolved-next (settled-none clear) one));
+        runtime = resolved-stays (omega arith) (three .walked) (resolved-next first two);
+        info = resolved-next second three;
+      }
+
+-- a field with a mark that refers to the name ----------------------------------------------------------------------------
+
+pub record NoneTo (s p : Str) (m : List ℕ) (n : Str) (mark i : ℕ) : Type 0 where
+  pub below : (q : ℕ) → q < i → getD m q 0 ≡ mark → referenceAt s p q ≡ some n → ⊥
+
+text-is : (o : Option Str) (n : Str) → isText o n ≡ true → o ≡ some n
+unfolding isText
+text-is none n e = absurd (false≢true e)
+text-is (some x) n e = ap some (eqs→eq x n e)
+
+is-text : (o : Option Str) (n : Str) → o ≡ some n → isText o n ≡ true
+unfolding isText
+is-text o n e = rw e (eqs-refl n)
+
+module _ (s p : Str) (m : List ℕ) (n : Str) (mark : ℕ) where
+  pub none-yet : NoneTo s p m n mark 0
+  none-yet = record { below = λ q h. absurd (omega arith) }
+
+  module _ (i : ℕ) (h : NoneTo s p m n mark i) where
+    step : (getD m i 0 ≡ mark → referenceAt s p i ≡ some n → ⊥) → NoneTo s p m n mark (i + 1)
+    step g = record { below = λ q l. go q l (eqb q i) refl }
+      where
+        go : (q : ℕ) → q < i + 1 → (b : Bool) → eqb q i ≡ b → getD m q 0 ≡ mark → referenceAt s p q ≡ some n → ⊥
+        go q l true e = subst (λ (x : ℕ). getD m x 0 ≡ mark → referenceAt s p x ≡ some n → ⊥) (sym (eqb-true q i e)) g
+        go q l false e = h .below q (let z : q ≡ i → ⊥ = eqb-false q i e in omega arith)
+
+    pub none-marked : (getD m i 0 ≡ mark → ⊥) → NoneTo s p m n mark (i + 1)
+    none-marked g = step (λ e t. g e)
+
+    pub none-ends : length m ≤ i → MarkedName s p m n mark false
+    none-ends l = record { yes = λ e. absurd (false≢true e); never = λ e r. let j = r .inside in h .below (r .place) (omega arith) (r .is) (r .name) }
+
+    module _ (o : OptText) (b : Bool) (found : optOf p o ≡ referenceAt s p i) (is : b ≡ isText (optOf p o) n) where
+      pub none-other : b ≡ false → NoneTo s p m n mark (i + 1)
+      none-other e = step (λ g t. false≢true (sym e ∙ is ∙ is-text (optOf p o) n (found ∙ t)))
+
+      pub one-found : i < length m → getD m i 0 ≡ mark → b ≡ true → MarkedName s p m n mark true
+      one-found l g e = record {
+        yes = λ z. record { place = i; inside = l; is = g; name = sym found ∙ text-is (optOf p o) n (sym is ∙ e) };
+        never = λ z. absurd (false≢true (sym z));
+      }
+
+-- what the marks say of one root -----------------------------------------------------------------------------------------
+
+Nobody≢Owned : {t : Text} → Nobody ≡ Owned t → ⊥
+Nobody≢Owned e = let z : _≡_ {A = ℕ} 0 1 = cc in omega arith
+
+module _ (s p : Str) (m : List ℕ) (n slot : Str) (mark : ℕ) (r : StructStep) (i : InSlot s p slot r) where
+  pub owner-none : r ≡ NoStruct → OwnerIn s p m n slot mark Nobody
+  owner-none e = record {
+    filled = r;
+    fills = i;
+    owned = λ t g. absurd (Nobody≢Owned g);
+    nobody = λ g root k h c. let z : _≡_ {A = ℕ} 0 1 = cc in omega arith;
+  }
+
+  module _ (root : D.Struct.Struct) (k : Cursor) (e : r ≡ AStruct root k) (x : Str) (b : Bool) (text : x ≡ textOf p (root .name)) (same : b ≡ eqs x n) where
+    claimed : Claims s p m n mark root → OwnerIn s p m n slot mark (Owned (root .name))
+    claimed c = record {
+      filled = r;
+      fills = i;
+      owned = λ t g. record { root = root; after = k; stands = e; stretch = let z : root .name ≡ t = cc in z; claims = c };
+      nobody = λ g. absurd (Nobody≢Owned (sym g));
+    }
+
+    unclaimed : (Claims s p m n mark root → ⊥) → OwnerIn s p m n slot mark Nobody
+    unclaimed c = record {
+      filled = r;
+      fills = i;
+      owned = λ t g. absurd (Nobody≢Owned g);
+      nobody = λ g y j h d. c (subst (Claims s p m n mark) (let z : y ≡ root = other y j h in z) d);
+    }
+      where
+        other : (y : D.Struct.Struct) (j : Cursor) → r ≡ AStruct y j → y ≡ root
+        other y j h = let g : AStruct y j ≡ AStruct root k = sym h ∙ e in cc
+
+    pub owner-own : b ≡ true → OwnerIn s p m n slot mark (Owned (root .name))
+    owner-own h = claimed (inl (sym text ∙ eqs→eq x n (sym same ∙ h)))
+
+    module _ (d : b ≡ false) where
+      differ : textOf p (root .name) ≡ n → ⊥
+      differ g = false≢true (sym d ∙ same ∙ ap (eqs x) (sym (text ∙ g)) ∙ eqs-refl x)
+
+      neither : (NamedBy s p m mark n → ⊥) → Claims s p m n mark root → ⊥
+      neither f (inl g) = differ g
+      neither f (inr g) = f g
+
+      free : (g : NamedBy s p m mark n) → (referenceAt s p (g .place) ≡ some n) × (hasSlot (typesAt s p) n ≡ false)
+      unfolding targetAt
+      free g = entered-is (typesAt s p) (referenceAt s p (g .place)) n (g .leads)
+
+      module _ (f : Bool) (slotted : f ≡ hasSlot (typesAt s p) n) where
+        pub owner-slotted : f ≡ true → OwnerIn s p m n slot mark Nobody
+        owner-slotted h = unclaimed (neither (λ g. false≢true (sym (free g .1) ∙ sym slotted ∙ h)))
+
+        module _ (v : Bool) (told : MarkedName s p m n mark v) (h : f ≡ false) where
+          pub owner-named : v ≡ true → OwnerIn s p m n slot mark (Owned (root .name))
+          unfolding targetAt
+          owner-named y =
+              let g = told .yes y in
+              claimed (inr (record { place = g .place; inside = g .inside; is = g .is; leads = is-entered (typesAt s p) _ n (g .name) (sym slotted ∙ h) }))
+
+          pub owner-not : v ≡ false → OwnerIn s p m n slot mark Nobody
+          owner-not y = unclaimed (neither (λ g. told .never y (record { place = g .place; inside = g .inside; is = g .is; name = free g .0 })))
+
+pub ruleset owner-in-laws = (owner-none, owner-own, owner-slotted, owner-named, owner-not)
+
+-- the answer -------------------------------------------------------------------------------------------------------------
+
+-- an answer of these slots: the first root that leads to the name, and the first of their stretches that reads as its name does
+record AnswerIn (s p n : Str) (slots : List Str) (r : Owner) : Type 0 where
+  first : (t : Text) → r ≡ Owned t → First (typesAt s p) n (rootsIn (structsAt s p 0) slots) (textOf p t)
+  leads : (t : Text) → r ≡ Owned t → Leads (typesAt s p) (textOf p t) n
+  stretch : (t : Text) → r ≡ Owned t → find (λ (x : Text). eqs (textOf p x) (textOf p t)) (stretchesIn p (structCommandsAt s 0) slots) ≡ some t
+  nobody : r ≡ Nobody → (x : Str) → First (typesAt s p) n (rootsIn (structsAt s p 0) slots) x → ⊥
+
+first-nil : {t : Types} {n x : Str} → First t n [] x → ⊥
+first-nil f = elim f [ ]
+
+first-later : {t : Types} {n q x : Str} {rs : List Str} → (Leads t q n → ⊥) → First t n (q ∷ rs) x → First t n rs x
+first-later d (now e l) = absurd (d l)
+first-later d (later c f) = f
+
+module _ (s p n : Str) where
+  answer-end : AnswerIn s p n [] Nobody
+  unfolding rootsIn
+  answer-end = record {
+    first = λ t e. absurd (Nobody≢Owned e);
+    leads = λ t e. absurd (Nobody≢Owned e);
+    stretch = λ t e. absurd (Nobody≢Owned e);
+    nobody = λ e x f. first-nil f;
+  }
+
+  module _ (slot : Str) (slots : List Str) (f : StructStep) (i : InSlot s p slot f) where
+    roots-are : rootsIn (structsAt s p 0) (slot ∷ slots) ≡ withName (structFound s p f) (rootsIn (structsAt s p 0) slots)
+    unfolding rootsIn
+    roots-are = ap (λ (o : Option Struct). withName o (rootsIn (structsAt s p 0) slots)) (i .struct)
+
+    stretches-are : stretchesIn p (structCommandsAt s 0) (slot ∷ slots) ≡ withStretch (commandFound f) (stretchesIn p (structCommandsAt s 0) slots)
+    unfolding stretchesIn
+    stretches-are = ap (λ (o : Option D.Struct.Struct). withStretch o (stretchesIn p (structCommandsAt s 0) slots)) (i .command)
+
+    module _ (root : D.Struct.Struct) (k : Cursor) (e : f ≡ AStruct root k) where
+      roots-now : rootsIn (structsAt s p 0) (slot ∷ slots) ≡ textOf p (root .name) ∷ rootsIn (structsAt s p 0) slots
+      unfolding withName
+      roots-now = roots-are ∙ ap (λ (x : StructStep). withName (structFound s p x) (rootsIn (structsAt s p 0) slots)) e
+
+      stretches-now : stretchesIn p (structCommandsAt s 0) (slot ∷ slots) ≡ root .name ∷ stretchesIn p (structCommandsAt s 0) slots
+      unfolding withStretch
+      stretches-now = stretches-are ∙ ap (λ (x : StructStep). withStretch (commandFound x) (stretchesIn p (structCommandsAt s 0) slots)) e
+
+      answer-taken : Leads (typesAt s p) (textOf p (root .name)) n → AnswerIn s p n (slot ∷ slots) (Owned (root .name))
+      answer-taken l = record {
+        first = λ t g. rw (roots-now) (now (ap (textOf p) (is t g)) l);
+        leads = λ t g. subst (λ (x : Text). Leads (typesAt s p) (textOf p x) n) (is t g) l;
+        stretch = λ t g. find-hit _ _ (root .name) _ stretches-now (rw (is t g) (eqs-refl (textOf p t))) ∙ ap some (is t g);
+        nobody = λ g. absurd (Nobody≢Owned (sym g));
+      }
+        where
+          is : (t : Text) → Owned (root .name) ≡ Owned t → root .name ≡ t
+          is t g = cc
+
+      answer-other : (r : Owner) → (Leads (typesAt s p) (textOf p (root .name)) n → ⊥) → AnswerIn s p n slots r → AnswerIn s p n (slot ∷ slots) r
+      answer-other r d a = record {
+        first = λ t g. rw (roots-now) (later d (a .first t g));
+        leads = a .leads;
+        stretch = λ t g. find-miss _ _ (root .name) _ stretches-now (differ t (a .leads t g) (eqs (textOf p (root .name)) (textOf p t)) refl) ∙ a .stretch t g;
+        nobody = λ g x h. a .nobody g x (first-later d (rw roots-now at h));
+      }
+        where
+          differ : (t : Text) → Leads (typesAt s p) (textOf p t) n → (b : Bool) → eqs (textOf p (root .name)) (textOf p t) ≡ b → b ≡ false
+          differ t l true g = absurd (d (subst (λ (x : Str). Leads (typesAt s p) x n) (sym (eqs→eq _ _ g)) l))
+          differ t l false g = refl
+
+    answer-empty : (r : Owner) → f ≡ NoStruct → AnswerIn s p n slots r → AnswerIn s p n (slot ∷ slots) r
+    unfolding withName withStretch
+    answer-empty r e a = record {
+      first = λ t g. rw roots (a .first t g);
+      leads = a .leads;
+      stretch = λ t g. rw stretches (a .stretch t g);
+      nobody = λ g x h. a .nobody g x (rw roots at h);
+    }
+      where
+        roots : rootsIn (structsAt s p 0) (slot ∷ slots) ≡ rootsIn (structsAt s p 0) slots
+        roots = roots-are ∙ ap (λ (x : StructStep). withName (structFound s p x) (rootsIn (structsAt s p 0) slots)) e
+
+        stretches : stretchesIn p (structCommandsAt s 0) (slot ∷ slots) ≡ stretchesIn p (structCommandsAt s 0) slots
+        stretches = stretches-are ∙ ap (λ (x : StructStep). withStretch (commandFound x) (stretchesIn p (structCommandsAt s 0) slots)) e
+
+    -- a root that does not lead to the name is passed over
+    answer-left : (r : Owner) → ((root : D.Struct.Struct) (k : Cursor) → f ≡ AStruct root k → Leads (typesAt s p) (textOf p (root .name)) n → ⊥) → AnswerIn s p n slots r → AnswerIn s p n (slot ∷ slots) r
+    answer-left r d a = go f refl
+      where
+        go : (x : StructStep) → f ≡ x → AnswerIn s p n (slot ∷ slots) r
+        go NoStruct e = answer-empty r e a
+        go (AStruct root k) e = answer-other root k e r (d root k e) a
+
+  -- one root by its marks
+  module _ (m : List ℕ) (slot : Str) (j : ℕ) (c : Resolved s p m (suc j) slot) (r : Owner) (o : OwnerIn s p m n slot (suc j) r) where
+    through : (root : D.Struct.Struct) (k : Cursor) → o .filled ≡ AStruct root k → structInSlot slot (structsAt s p 0) ≡ some (structOf p root (fieldsAt s p (k .at)))
+    through root k e = o .fills .struct ∙ ap (structFound s p) e
+
+    claims-lead : (root : D.Struct.Struct) (k : Cursor) → o .filled ≡ AStruct root k → Claims s p m n (suc j) root → Leads (typesAt s p) (textOf p (root .name)) n
+    claims-lead root k e (inl g) = here g
+    claims-lead root k e (inr g) =
+        let t = c .sound (g .place) n (g .is) (g .leads) in
+        let q : some (structOf p root (fieldsAt s p (k .at))) ≡ some (t .root) = sym (through root k e) ∙ t .fills in
+        subst (λ (x : Str). Leads (typesAt s p) x n) (let z : t .root .name ≡ textOf p (root .name) = named (t .root) q in z) (t .leads)
+      where
+        named : (x : Struct) → some (structOf p root (fieldsAt s p (k .at))) ≡ some x → x .name ≡ textOf p (root .name)
+        named x q = let y : x ≡ structOf p root (fieldsAt s p (k .at)) = cc in ap (λ (z : Struct). z .name) y
+
+    root-taken : (slots : List Str) (t : Text) → r ≡ Owned t → AnswerIn s p n (slot ∷ slots) (Owned t)
+    root-taken slots t e =
+        let w = o .owned t e in
+        subst (λ (x : Text). AnswerIn s p n (slot ∷ slots) (Owned x)) (w .stretch)
+        (answer-taken slot slots (o .filled) (o .fills) (w .root) (w .after) (w .stands) (claims-lead (w .root) (w .after) (w .stands) (w .claims)))
+
+    -- where no earlier root has marked a field that leads to the name, and this one has not, none has so far
+    module _ (none-before : Within s p m j n → ⊥) (e : r ≡ Nobody) where
+      none-so-far : Within s p m (suc j) n → ⊥
+      none-so-far h = go (leb (getD m (h .place) 0) j) refl (o .filled) refl
+        where
+          inside : h .place < length m
+          inside = at (ltb (h .place) (length m)) refl
+            where
+              at : (b : Bool) → ltb (h .place) (length m) ≡ b → h .place < length m
+              at true g = ltb-true (h .place) (length m) g
+              at false g = absurd (h .marked (List·getD-eq-default m 0 {n = h .place} (ltb-false (h .place) (length m) g)))
+
+          equal : leb (getD m (h .place) 0) j ≡ false → getD m (h .place) 0 ≡ suc j
+          equal g = let l = h .most in let k = leb-false (getD m (h .place) 0) j g in omega arith
+
+          go : (b : Bool) → leb (getD m (h .place) 0) j ≡ b → (x : StructStep) → o .filled ≡ x → ⊥
+          go true g x y = none-before (record { place = h .place; leads = h .leads; marked = h .marked; most = leb-true (getD m (h .place) 0) j g })
+          go false g NoStruct y =
+              let t = c .sound (h .place) n (equal g) (h .leads) in none≢some (sym (o .fills .struct ∙ ap (structFound s p) y) ∙ t .fills)
+          go false g (AStruct root k) y = o .nobody e root k y (inr (record { place = h .place; inside = inside; is = equal g; leads = h .leads }))
+
+      none-leads : (root : D.Struct.Struct) (k : Cursor) → o .filled ≡ AStruct root k → Leads (typesAt s p) (textOf p (root .name)) n → ⊥
+      none-leads root k y (here g) = o .nobody e root k y (inl g)
+      none-leads root k y (along l g) =
+          none-so-far (c .complete _ n (record { root = structOf p root (fieldsAt s p (k .at)); fills = through root k y; leads = l }) g)
+
+      root-left : (slots : List Str) (x : Owner) → AnswerIn s p n slots x → AnswerIn s p n (slot ∷ slots) x
+      root-left slots x a = answer-left slot slots (o .filled) (o .fills) x none-leads a
+
+  -- an answer of all three slots is the owner
+  answered : (r : Owner) → AnswerIn s p n ownershipOrder r → Answered s p n r
+  unfolding ownerAt stretchOf ownedBy roots
+  answered Nobody a = record { owner = sym nobody; stretch = rw nobody }
+    where
+      none-owns : (x : Option Str) → ownerOf (typesAt s p) n ≡ x → x ≡ none
+      none-owns none e = refl
+      none-owns (some x) e = absurd (a .nobody refl x (owner-is-first (typesAt s p) n x .0 e))
+
+      nobody : ownerOf (typesAt s p) n ≡ none
+      nobody = none-owns (ownerOf (typesAt s p) n) refl
+  answered (Owned t) a = record { owner = sym owns; stretch = rw owns (rw (a .stretch t refl)) }
+    where
+      owns : ownerOf (typesAt s p) n ≡ some (textOf p t)
+      owns = owner-is-first (typesAt s p) n (textOf p t) .1 (a .first t refl)
+
+  module _ (m : List ℕ) (g : OwnerMarks s p m) (a : Owner) (one : OwnerIn s p m n (bytes "metadata") 1 a) where
+    none-first : Within s p m 0 n → ⊥
+    none-first h = h .marked (let l = h .most in omega arith)
+
+    pub answer-first : (t : Text) → a ≡ Owned t → Answered s p n (Owned t)
+    unfolding ownershipOrder
+    answer-first t e = answered (Owned t) (root-taken m (bytes "metadata") 0 (g .metadata) a one _ t e)
+
+    module _ (e : a ≡ Nobody) (b : Owner) (two : OwnerIn s p m n (bytes "runtime") 2 b) where
+      pub answer-second : (t : Text) → b ≡ Owned t → Answered s p n (Owned t)
+      unfolding ownershipOrder
+      answer-second t h =
+          answered (Owned t)
+          (root-left m (bytes "metadata") 0 (g .metadata) a one none-first e _ (Owned t)
+          (root-taken m (bytes "runtime") 1 (g .runtime) b two _ t h))
+
+      module _ (h : b ≡ Nobody) (c : Owner) (three : OwnerIn s p m n (bytes "info") 3 c) where
+        last : (x : Owner) → c ≡ x → AnswerIn s p n (bytes "info" ∷ []) x
+        last Nobody y =
+            root-left m (bytes "info") 2 (g .info) c three
+            (none-so-far m (bytes "runtime") 1 (g .runtime) b two (none-so-far m (bytes "metadata") 0 (g .metadata) a one none-first e) h)
+            y [] Nobody answer-end
+        last (Owned t) y = root-taken m (bytes "info") 2 (g .info) c three [] t y
+
+        pub answer-third : Answered s p n c
+        unfolding ownershipOrder
+        answer-third =
+            answered c
+            (root-left m (bytes "metadata") 0 (g .metadata) a one none-first e _ c
+            (root-left m (bytes "runtime") 1 (g .runtime) b two (none-so-far m (bytes "metadata") 0 (g .metadata) a one none-first e) h _ c (last c refl)))
+
+-- the call ---------------------------------------------------------------------------------------------------------------
+
+module _ (s p : Str) (before after : List ℕ) (f : OwnersMarked s p before after) (h : length s ≤ length before) where
+  pub marks-are : OwnerMarks s p after
+  marks-are = f .within h
+
+module _ (room : ℕ) (s p n : Str) where
+  pub found-beyond : room < length s → OwnerFound room s p n Nobody
+  found-beyond h = record { within = λ l. absurd (omega arith); beyond = λ l. refl }
+
+  pub found-within : (r : Owner) → length s ≤ room → Answered s p n r → OwnerFound room s p n r
+  found-within r h a = record { within = λ l. a; beyond = λ l. absurd (omega arith) }

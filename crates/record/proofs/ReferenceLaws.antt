@@ -1,0 +1,204 @@
+-- What each way out of the look-ups of references and slots says. Assumes nothing.
+use mathlib.Core.Path.{_≡_, refl, sym, ap, subst, _∙_}
+use mathlib.Core.List.{List, [], _∷_}
+use mathlib.Core.Option.{Option, none, some}
+use mathlib.Core.Bool.{Bool, true, false}
+use mathlib.Core.Logic.{⊎-elim}
+use Prim.Native.Nat.{ℕ}
+use types.Run.{OneOf}
+use denote.Enum.Declared.{tagOf}
+use lib.ListN.{drop, getD}
+use Rattle.record.specs.Base.{Str, eqs, isText, isSome, find}
+use Rattle.record.specs.Stretch.{textOf}
+use Rattle.record.specs.Schema.{Key, Struct}
+use Rattle.record.specs.Kind.{kindOf}
+use Rattle.record.specs.Commands.{start, stepAt, commandsAt, commandOf, structAt}
+use Rattle.record.specs.Lists.{optOf, fieldOf, structOf, listed, anything}
+use Rattle.record.specs.Steps.{structsAt, fieldsAt, structIn, structFound}
+use Rattle.record.specs.Owner.{referenced, referencedAs, structInSlot, slotted, hasSlot}
+use Rattle.record.specs.References.{typesAt, Refers, slotIn, structCommandsAt, commandInSlot, commandFound, InSlot}
+use Rattle.record.specs.declared.operands.OptText.{OptText}
+use Rattle.record.specs.declared.operands.OptText.the-variants.{Absent, Given}
+use Rattle.record.specs.declared.text.Text.{Text}
+use Rattle.record.specs.declared.kind.Kind.{Kind}
+use Rattle.record.specs.declared.kind.Kind.the-variants as K
+use Rattle.record.specs.declared.command as D
+use Rattle.record.specs.declared.command.Cursor.{Cursor}
+use Rattle.record.specs.declared.command.Command.{Command}
+use Rattle.record.specs.declared.command.Command.the-variants as C
+use Rattle.record.specs.declared.command.Step.{Step}
+use Rattle.record.specs.declared.command.Step.the-variants.{Next, Stop}
+use Rattle.record.specs.declared.lists.StructStep.{StructStep}
+use Rattle.record.specs.declared.lists.StructStep.the-variants.{NoStruct, AStruct}
+use Rattle.record.proofs.command.Command.{the-type}
+use Rattle.record.proofs.kind.Kind.{the-type as kinds}
+use Rattle.record.proofs.Tags.{not-one-of}
+use Rattle.record.proofs.ListLaws.{byteOf, other, operands-are, listed-stop, listed-here, listed-over, Onward, onward-here, find-none, find-hit, find-miss}
+use Rattle.record.proofs.StepLaws.{structs-skip, structs-found, structs-end}
+
+-- referenced_type --------------------------------------------------------------------------------------------------------
+
+-- what holds of each of some numbers holds of one of them
+abbrev All : (ℕ → Type 0) → List ℕ → Type 0
+All P [] = Unit
+All P (k ∷ ks) = P k × All P ks
+
+one-of : (P : ℕ → Type 0) (ks : List ℕ) {x : ℕ} → All P ks → OneOf ks x → P x
+one-of P [] a h = absurd h
+one-of P (k ∷ []) a h = subst P (sym h) (a .0)
+one-of P (k ∷ j ∷ ks) a h = ⊎-elim (λ e. subst P (sym e) (a .0)) (λ g. one-of P (j ∷ ks) (a .1) g) h
+
+-- the kinds by their tags
+kindAt : ℕ → Kind
+kindAt n =
+    getD
+    (K.Scalar ∷ K.Enum ∷ K.TypeAlias ∷ K.Bitfield ∷ K.InlineArray ∷ K.InlineArray2d ∷ K.CstrPtr ∷ K.StructPtr ∷ K.StructArrayPtr ∷ K.StructPtrArrayPtr ∷ K.TaggedFamPtr ∷ K.SimpleFamPtr ∷ K.OpaquePtr ∷ K.FnPtr ∷ K.Padding ∷ K.Text ∷ [])
+    n K.Other
+
+tag-gives : (k : Kind) → kindAt (tagOf kinds k) ≡ k
+unfolding kindAt
+tag-gives K.Scalar = refl
+tag-gives K.Enum = refl
+tag-gives K.TypeAlias = refl
+tag-gives K.Bitfield = refl
+tag-gives K.InlineArray = refl
+tag-gives K.InlineArray2d = refl
+tag-gives K.CstrPtr = refl
+tag-gives K.StructPtr = refl
+tag-gives K.StructArrayPtr = refl
+tag-gives K.StructPtrArrayPtr = refl
+tag-gives K.TaggedFamPtr = refl
+tag-gives K.SimpleFamPtr = refl
+tag-gives K.OpaquePtr = refl
+tag-gives K.FnPtr = refl
+tag-gives K.Padding = refl
+tag-gives K.Text = refl
+tag-gives K.Other = refl
+
+module _ (p : Str) (f : D.Field.Field) (w : Str) (v : Kind) (named : w ≡ textOf p (f .kind)) (meant : v ≡ kindOf w) where
+  -- a field of a kind with this tag refers to what r means
+  abbrev As : OptText → ℕ → Type 0
+  As r n = (k : Option Key) → optOf p r ≡ referencedAs (kindAt n) (fieldOf p f k)
+
+  refers-as : (r : OptText) (ks : List ℕ) → All (As r) ks → OneOf ks (tagOf kinds v) → Refers p f r
+  unfolding referenced
+  refers-as r ks a h =
+      let g = one-of (As r) ks a h in
+      record { name = λ k. g k ∙ ap (λ (x : Kind). referencedAs x (fieldOf p f k)) (tag-gives v ∙ meant ∙ ap kindOf named) }
+
+  pub refers-type : OneOf (7 ∷ 10 ∷ 11 ∷ []) (tagOf kinds v) → Refers p f (f .«type_name»)
+  unfolding referencedAs kindAt
+  refers-type h = refers-as (f .«type_name») (7 ∷ 10 ∷ 11 ∷ []) (λ k. refl, (λ k. refl, (λ k. refl, tt))) h
+
+  pub refers-element : OneOf (8 ∷ 9 ∷ []) (tagOf kinds v) → Refers p f (f .element)
+  unfolding referencedAs kindAt
+  refers-element h = refers-as (f .element) (8 ∷ 9 ∷ []) (λ k. refl, (λ k. refl, tt)) h
+
+  pub refers-nowhere : OneOf (0 ∷ 1 ∷ 2 ∷ 3 ∷ 4 ∷ 5 ∷ 6 ∷ 12 ∷ 13 ∷ 14 ∷ 15 ∷ 16 ∷ []) (tagOf kinds v) → Refers p f Absent
+  unfolding referencedAs kindAt
+  refers-nowhere h =
+      refers-as Absent (0 ∷ 1 ∷ 2 ∷ 3 ∷ 4 ∷ 5 ∷ 6 ∷ 12 ∷ 13 ∷ 14 ∷ 15 ∷ 16 ∷ [])
+      (λ k. refl, (λ k. refl, (λ k. refl, (λ k. refl, (λ k. refl, (λ k. refl, (λ k. refl, (λ k. refl, (λ k. refl, (λ k. refl, (λ k. refl, (λ k. refl, tt)))))))))))) h
+
+pub ruleset reference-laws = (refers-type, refers-element, refers-nowhere)
+
+-- slot_of, has_slot ------------------------------------------------------------------------------------------------------
+
+module _ (s p n : Str) (o : Cursor) (front : o ≡ start) (r : StructStep) (found : structIn n (structsAt s p (o .at)) ≡ structFound s p r) where
+  at-front : structIn n (structsAt s p 0) ≡ structFound s p r
+  at-front = ap (λ (k : Cursor). structIn n (structsAt s p (k .at))) (sym front) ∙ found
+
+  pub slot-none : r ≡ NoStruct → optOf p Absent ≡ slotIn (structIn n (structsAt s p 0))
+  unfolding slotIn
+  slot-none m = rw (at-front, m)
+
+  pub slot-there : (e : D.Struct.Struct) (k : Cursor) → r ≡ AStruct e k → optOf p (e .«generation_slot») ≡ slotIn (structIn n (structsAt s p 0))
+  unfolding slotIn
+  slot-there e k m = rw (at-front, m)
+
+pub ruleset slot-laws = (slot-none, slot-there)
+
+slot-is : (o : Option Struct) → isSome (slotIn o) ≡ slotted o
+unfolding slotIn slotted isSome
+slot-is none = refl
+slot-is (some t) = refl
+
+module _ (s p n : Str) (r : OptText) (found : optOf p r ≡ slotIn (structIn n (structsAt s p 0))) where
+  pub slot-absent : r ≡ Absent → false ≡ hasSlot (typesAt s p) n
+  unfolding hasSlot isSome
+  slot-absent m = ap (λ (x : OptText). isSome (optOf p x)) (sym m) ∙ ap isSome found ∙ slot-is (structIn n (structsAt s p 0))
+
+  pub slot-given : (t : Text) → r ≡ Given t → true ≡ hasSlot (typesAt s p) n
+  unfolding hasSlot isSome
+  slot-given t m = ap (λ (x : OptText). isSome (optOf p x)) (sym m) ∙ ap isSome found ∙ slot-is (structIn n (structsAt s p 0))
+
+pub ruleset has-slot-laws = (slot-absent, slot-given)
+
+-- is_text ----------------------------------------------------------------------------------------------------------------
+
+module _ (p n : Str) (o : OptText) where
+  pub text-absent : o ≡ Absent → false ≡ isText (optOf p o) n
+  unfolding isText
+  text-absent m = rw m
+
+  pub text-same : (t : Text) (w : Str) (b : Bool) → o ≡ Given t → w ≡ textOf p t → b ≡ eqs w n → b ≡ isText (optOf p o) n
+  unfolding isText
+  text-same t w b m h e = rw m (e ∙ ap (λ (x : Str). eqs x n) h)
+
+pub ruleset is-text-laws = (text-absent, text-same)
+
+-- struct_in_slot ---------------------------------------------------------------------------------------------------------
+
+-- neither the structures nor their commands before a place have the slot text
+pub record Before (s p slot : Str) (at : ℕ) : Type 0 where
+  pub structs : structInSlot slot (structsAt s p 0) ≡ structInSlot slot (structsAt s p at)
+  pub commands : commandInSlot p slot (structCommandsAt s 0) ≡ commandInSlot p slot (structCommandsAt s at)
+
+pub before-start : (s p slot : Str) (o : Cursor) → o ≡ start → Before s p slot (o .at)
+before-start s p slot o e = rw e (record { structs = refl; commands = refl })
+
+module _ (s : Str) (at : ℕ) (r : Step) (i : r ≡ stepAt s at) (p slot : Str) (b : Before s p slot at) where
+  pub slot-end : r ≡ Stop → InSlot s p slot NoStruct
+  unfolding structInSlot commandInSlot structCommandsAt
+  slot-end m = record {
+    struct = b .structs ∙ find-none _ (structsAt s p at) (structs-end s at r i at (onward-here structsAt s at) m .list p);
+    command = b .commands ∙ find-none _ (structCommandsAt s at) (listed-stop s anything 8 _ at (sym i ∙ m));
+  }
+
+  module _ (c : Command) (k : Cursor) (m : r ≡ Next c k) where
+    pub slot-skip : OneOf (0 ∷ 1 ∷ 2 ∷ 3 ∷ 4 ∷ 5 ∷ 6 ∷ 8 ∷ 9 ∷ 10 ∷ 11 ∷ 12 ∷ 13 ∷ []) (tagOf the-type c) → Before s p slot (k .at)
+    unfolding structCommandsAt
+    slot-skip h = record {
+      structs = b .structs ∙ ap (structInSlot slot) (structs-skip s at r i c k m at (onward-here structsAt s at) h .same p);
+      commands = b .commands ∙ ap (commandInSlot p slot) (listed-over s anything 8 _ at c k (sym i ∙ m) (other (0 ∷ 1 ∷ 2 ∷ 3 ∷ 4 ∷ 5 ∷ 6 ∷ 8 ∷ 9 ∷ 10 ∷ 11 ∷ 12 ∷ 13 ∷ []) 7 c tt h) refl);
+    }
+
+    module _ (e : D.Struct.Struct) (h : c ≡ C.Struct e) (t : Bool) (is : t ≡ isText (optOf p (e .«generation_slot»)) slot) where
+      struct-now : structsAt s p at ≡ structOf p e (fieldsAt s p (k .at)) ∷ structsAt s p (k .at)
+      struct-now = structs-found s at r i c k m at e (onward-here structsAt s at) h .list p
+
+      command-is : (x : List ℕ) → commandOf 8 x ≡ C.Struct e → structAt x ≡ e
+      unfolding commandOf
+      command-is x g = cc
+
+      command-now : structCommandsAt s at ≡ e ∷ structCommandsAt s (k .at)
+      unfolding structCommandsAt
+      command-now =
+          listed-here s anything 8 _ at c k (sym i ∙ m) (ap byteOf h)
+          ∙ ap (λ (x : D.Struct.Struct). x ∷ structCommandsAt s (k .at)) (command-is (drop at s) (operands-are s at c k (sym i ∙ m) 8 (ap byteOf h) ∙ h))
+
+      pub slot-hit : t ≡ true → InSlot s p slot (AStruct e k)
+      unfolding structInSlot commandInSlot
+      slot-hit y = record {
+        struct = b .structs ∙ find-hit _ (structsAt s p at) _ _ struct-now (sym is ∙ y);
+        command = b .commands ∙ find-hit _ (structCommandsAt s at) _ _ command-now (sym is ∙ y);
+      }
+
+      pub slot-miss : t ≡ false → Before s p slot (k .at)
+      unfolding structInSlot commandInSlot
+      slot-miss y = record {
+        structs = b .structs ∙ find-miss _ (structsAt s p at) _ _ struct-now (sym is ∙ y);
+        commands = b .commands ∙ find-miss _ (structCommandsAt s at) _ _ command-now (sym is ∙ y);
+      }
+
+pub ruleset in-slot-laws = (slot-end, slot-skip, slot-hit, slot-miss)

@@ -1,0 +1,73 @@
+-- The table of scalar words, one row at a time.
+use Prim.Native.Nat.{ℕ, zero, suc, _+_, _-_, _≤_, _<_}
+use mathlib.Core.List.{List, [], _∷_}
+use mathlib.Core.Bool.{Bool, true, false}
+use mathlib.Core.Path.{_≡_, refl, ap, _∙_}
+use native.Mathlib.Omega.{arith}
+use lib.ListN.{length, take, drop, getD}
+use borrow.Author.Tests.{le-leb, lt-leb}
+use Rattle.record.specs.Base.{Str, bytes, eqs, find}
+use Rattle.record.specs.Cut.{placeOf, beforeByte}
+use Rattle.record.specs.Scalars.{Scalar, beforeZero, scalarAt, scalarsFrom, scalarsAt, scalarsOf, scalarIn, primSize, builtIn, builtInRows}
+
+pub row-word-is : (s : Str) (at : ℕ) (a b x : Str) → a ≡ drop at s → b ≡ take 8 a → x ≡ beforeByte 0 b → x ≡ beforeZero (take 8 (drop at s))
+unfolding beforeZero
+row-word-is s at a b x p q h = rw (← p, ← q) h
+
+-- more rows than bytes change nothing
+enough : (s : Str) (n m at : ℕ) → length s ≤ n + at → length s ≤ m + at → scalarsFrom n s at ≡ scalarsFrom m s at
+unfolding scalarsFrom
+enough s zero zero at p q = refl
+enough s zero (suc m) at p q = rw (lt-leb 9 (length s - at) (omega arith))
+enough s (suc n) zero at p q = rw (lt-leb 9 (length s - at) (omega arith))
+enough s (suc n) (suc m) at p q = rw (enough s n m (at + 9) (omega arith) (omega arith))
+
+module _ (s : Str) (at : ℕ) where
+  pub scalars-next : 9 ≤ length s - at → scalarsAt s at ≡ scalarAt s at ∷ scalarsAt s (at + 9)
+  unfolding scalarsAt scalarsFrom
+  scalars-next h = go (length s - at) (omega arith)
+    where
+      go : (n : ℕ) → length s ≤ n + at → scalarsFrom n s at ≡ scalarAt s at ∷ scalarsAt s (at + 9)
+      go zero p = absurd (omega arith)
+      go (suc n) p = rw (le-leb 9 (length s - at) h) (ap (λ (l : List Scalar). scalarAt s at ∷ l) (enough s n (length s - (at + 9)) (at + 9) (omega arith) (omega arith)))
+
+  pub scalars-end : length s - at < 9 → scalarsAt s at ≡ []
+  unfolding scalarsAt scalarsFrom
+  scalars-end h = go (length s - at)
+    where
+      go : (n : ℕ) → scalarsFrom n s at ≡ []
+      go zero = refl
+      go (suc n) = rw (lt-leb 9 (length s - at) h)
+
+  module _ (w : Str) where
+    pub prim-hit : (x : Str) (b : Bool) (z : ℕ) → 9 ≤ length s - at → x ≡ beforeZero (take 8 (drop at s)) → b ≡ eqs x w → b ≡ true → z ≡ getD s (at + 8) 0 → primSize (scalarsAt s at) w ≡ z
+    unfolding primSize scalarIn find scalarAt
+    prim-hit x b z h e q t m = rw (scalars-next h, ← e, ← q, t, m)
+
+    pub prim-miss : (x : Str) (b : Bool) → 9 ≤ length s - at → x ≡ beforeZero (take 8 (drop at s)) → b ≡ eqs x w → b ≡ false → primSize (scalarsAt s at) w ≡ primSize (scalarsAt s (at + 9)) w
+    unfolding primSize scalarIn find scalarAt
+    prim-miss x b h e q t = rw (scalars-next h, ← e, ← q, t)
+
+    pub prim-none : length s - at < 9 → primSize (scalarsAt s at) w ≡ 0
+    unfolding primSize scalarIn find
+    prim-none h = rw (scalars-end h)
+
+pub prim-begin : (s w : Str) → primSize (scalarsOf s) w ≡ primSize (scalarsAt s 0) w
+unfolding scalarsOf
+prim-begin s w = refl
+
+pub ruleset prim-laws = (prim-hit, prim-miss, prim-none)
+
+-- the table of the built-in words is read as they are
+pub built-in : scalarsOf builtInRows ≡ builtIn
+unfolding scalarsOf scalarsAt scalarsFrom scalarAt beforeZero beforeByte placeOf bytes builtIn builtInRows
+built-in = refl
+
+-- a caller who lends that table gets the built-in sizes
+pub built-in-size : (w : Str) (r : ℕ) → r ≡ primSize (scalarsOf builtInRows) w → r ≡ primSize builtIn w
+built-in-size w r h = h ∙ ap (λ (l : List Scalar). primSize l w) built-in
+
+-- an example: u16 is of two bytes, i64 is no word of the table
+pub built-in-sizes : (primSize builtIn (bytes "u16") ≡ 2) × (primSize builtIn (bytes "i64") ≡ 0)
+unfolding primSize scalarIn find eqs bytes builtIn
+built-in-sizes = (refl, refl)

@@ -1,0 +1,278 @@
+-- The laws of the types in the order of the stream, and of the ends of their fields. Assumes nothing.
+use mathlib.Core.Path.{_≡_, refl, sym, ap, ap₂, subst, _∙_}
+use mathlib.Core.List.{List, [], _∷_, _++_}
+use mathlib.Core.Option.{Option, none, some}
+use mathlib.Core.Bool.{Bool, true, false, _||_, cond}
+use Prim.Native.Nat.{ℕ, suc, _+_, _-_, _≤_, _<_}
+use native.Mathlib.Omega.{arith}
+use types.Run.{OneOf}
+use denote.Enum.Declared.{tagOf}
+use lib.ListN.{length, getD, drop}
+use lib.Dec.{eqb, ltb, leb}
+use borrow.Author.Tests.{lt-ltb, le-ltb, ne-eqb, leb-true, leb-false}
+use Rattle.record.specs.Base.{Str, bytes, eqs, any, find, orElse}
+use Rattle.record.specs.Scalars.{Scalar, primSize}
+use Rattle.record.specs.Schema.{Schema, Field, Family}
+use Rattle.record.specs.Commands.{commandOf, familyAt, start, stepAt, commandsAt}
+use Rattle.record.specs.Lists.{optOf, fieldOf, familyOf, fields}
+use Rattle.record.specs.Steps.{enumsAt, fieldsAt, fieldKeyAt, FieldsFrom}
+use Rattle.record.specs.Kind.{kindOf, meaning, words}
+use Rattle.record.specs.Shapes.{enumSize, sized, scalarSize, sizeAs, shapeSize, Place, placeOf, places, plain, prefix, limit, capped}
+use Rattle.record.specs.Reading.{Rec, rec, schemaFrom, schemaOf, Opened, openedAt, opened, large, vast}
+use Rattle.record.specs.Vast.{openedFrom, openedOf, openedLeft, OpenedFrom, discSize, lenSize, frontEnd, vastAt, firstVast}
+use Rattle.record.specs.declared.operands.OptText.{OptText}
+use Rattle.record.specs.declared.operands.OptText.the-variants.{Given}
+use Rattle.record.specs.declared.command as D
+use Rattle.record.specs.declared.command.Cursor.{Cursor}
+use Rattle.record.specs.declared.command.Command.{Command}
+use Rattle.record.specs.declared.command.Command.the-variants as C
+use Rattle.record.specs.declared.command.Step.{Step}
+use Rattle.record.specs.declared.command.Step.the-variants.{Next, Stop}
+use Rattle.record.specs.declared.lists.FieldStep.{FieldStep}
+use Rattle.record.specs.declared.lists.FieldStep.the-variants.{NoField, AField}
+use Rattle.record.specs.declared.vast.TypeStep.{TypeStep}
+use Rattle.record.specs.declared.vast.TypeStep.the-variants.{NoType, Plain, Fronted}
+use Rattle.record.specs.declared.vast.Vast.{Vast}
+use Rattle.record.specs.declared.vast.Vast.the-variants.{NoneVast, VastAt}
+use Rattle.record.proofs.command.Command.{the-type}
+use Rattle.record.proofs.Stream.{step-found, commands-stop, commands-next}
+use Rattle.record.proofs.ListLaws.{byteOf, other, byte-is, operands-are, Onward, find-none, find-hit, find-miss}
+use Rattle.record.proofs.StepLaws.{fields-over-now, fields-now, fields-nearer}
+use Rattle.record.proofs.SizeLaws.{cap-low, cap-high, keyless}
+
+-- one step along the types ------------------------------------------------------------------------------------------------
+
+module _ (s : Str) (at : ℕ) (r : Step) (i : r ≡ stepAt s at) (a : ℕ) (o : Onward openedFrom s a at) where
+  pub types-end : r ≡ Stop → OpenedFrom s a NoType
+  unfolding openedFrom opened
+  types-end m = record { list = λ p. o .same p ∙ rw (commands-stop s at (sym i ∙ m)); left = omega arith }
+
+  module _ (c : Command) (k : Cursor) (m : r ≡ Next c k) where
+    -- the list from here, by the command's number
+    types-at : (p : Str) (b : ℕ) → byteOf c ≡ b → openedFrom s p at ≡ openedAt s p at (commandsAt s (k .at)) (openedFrom s p (k .at))
+    unfolding openedFrom opened
+    types-at p b e = rw (commands-next s at c k (sym i ∙ m))
+
+    pub types-struct : (x : D.Struct.Struct) → c ≡ C.Struct x → OpenedFrom s a (Plain at k)
+    unfolding openedAt fieldsAt
+    types-struct x h =
+        let g = step-found s at c k (sym i ∙ m) in
+        let near = o .on in
+        let on = g .on in
+        let within = g .within in
+        record { list = λ p. o .same p ∙ types-at p 8 (ap byteOf h) ∙ rw (byte-is s at c k (sym i ∙ m) ∙ ap byteOf h); left = omega arith }
+
+    pub types-variant : (x : D.Variant.Variant) → c ≡ C.Variant x → OpenedFrom s a (Plain at k)
+    unfolding openedAt fieldsAt
+    types-variant x h =
+        let g = step-found s at c k (sym i ∙ m) in
+        let near = o .on in
+        let on = g .on in
+        let within = g .within in
+        record { list = λ p. o .same p ∙ types-at p 10 (ap byteOf h) ∙ rw (byte-is s at c k (sym i ∙ m) ∙ ap byteOf h); left = omega arith }
+
+    family-is : (x : D.Family.Family) → c ≡ C.Family x → familyAt (drop at s) ≡ x
+    unfolding commandOf
+    family-is x h = let q = operands-are s at c k (sym i ∙ m) 9 (ap byteOf h) ∙ h in cc
+
+    pub types-family : (x : D.Family.Family) → c ≡ C.Family x → OpenedFrom s a (Fronted at x k)
+    unfolding openedAt fieldsAt
+    types-family x h =
+        let g = step-found s at c k (sym i ∙ m) in
+        let near = o .on in
+        let on = g .on in
+        let within = g .within in
+        record {
+          list = λ p.
+              o .same p ∙ types-at p 9 (ap byteOf h) ∙ (rw (byte-is s at c k (sym i ∙ m) ∙ ap byteOf h) refl)
+              ∙ ap (λ (y : D.Family.Family). record { place = at; fields = prefix (familyOf p y [] []) ++ fields s p (commandsAt s (k .at)) } ∷ openedFrom s p (k .at)) (family-is x h);
+          left = omega arith;
+        }
+
+    pub types-skip : OneOf (0 ∷ 1 ∷ 2 ∷ 3 ∷ 4 ∷ 5 ∷ 6 ∷ 10 ∷ 11 ∷ 12 ∷ 13 ∷ []) (tagOf the-type c) → Onward openedFrom s a (k .at)
+    unfolding openedAt
+    types-skip h =
+        let g = step-found s at c k (sym i ∙ m) in
+        let near = o .on in
+        let on = g .on in
+        let ks : List ℕ = 0 ∷ 1 ∷ 2 ∷ 3 ∷ 4 ∷ 5 ∷ 6 ∷ 10 ∷ 11 ∷ 12 ∷ 13 ∷ [] in
+        record {
+          same = λ p. o .same p ∙ types-at p (byteOf c) refl
+              ∙ rw (byte-is s at c k (sym i ∙ m), ne-eqb (byteOf c) 9 (other ks 8 c tt h), ne-eqb (byteOf c) 8 (other ks 7 c tt h), ne-eqb (byteOf c) 10 (other ks 9 c tt h));
+          on = omega arith;
+        }
+
+pub ruleset type-laws = (types-end, types-struct, types-variant, types-family, types-skip)
+
+-- the ends of fields ------------------------------------------------------------------------------------------------------
+
+-- a sum as far as the limit: past it, or exact
+module _ (a x z e : ℕ) (l : a ≤ limit) (u : z ≡ capped x) (v : e ≡ capped (a + z)) where
+  pub end-past : limit < e → limit < a + x
+  end-past h = go (leb x limit) refl
+    where
+      go : (t : Bool) → leb x limit ≡ t → limit < a + x
+      go false q = let g = leb-false x limit q in omega arith
+      go true q = more (leb (a + x) limit) refl
+        where
+          same : z ≡ x
+          same = u ∙ sym (cap-low x (leb-true x limit q))
+
+          more : (t : Bool) → leb (a + x) limit ≡ t → limit < a + x
+          more false q2 = leb-false (a + x) limit q2
+          more true q2 =
+              let b = leb-true (a + x) limit q2 in
+              let w : e ≡ a + x = v ∙ ap (λ (n : ℕ). capped (a + n)) same ∙ sym (cap-low (a + x) b) in
+              absurd (omega arith)
+
+  pub end-exact : e ≤ limit → e ≡ a + x
+  end-exact h = go (leb x limit) refl
+    where
+      go : (t : Bool) → leb x limit ≡ t → e ≡ a + x
+      go false q =
+          let g = leb-false x limit q in
+          let w : z ≡ limit + 1 = u ∙ sym (cap-high x g) in
+          let y : e ≡ limit + 1 = v ∙ sym (cap-high (a + z) (omega arith)) in
+          absurd (omega arith)
+      go true q = more (leb (a + x) limit) refl
+        where
+          same : z ≡ x
+          same = u ∙ sym (cap-low x (leb-true x limit q))
+
+          more : (t : Bool) → leb (a + x) limit ≡ t → e ≡ a + x
+          more true q2 = v ∙ ap (λ (n : ℕ). capped (a + n)) same ∙ sym (cap-low (a + x) (leb-true (a + x) limit q2))
+          more false q2 =
+              let w : e ≡ limit + 1 = v ∙ ap (λ (n : ℕ). capped (a + n)) same ∙ sym (cap-high (a + x) (leb-false (a + x) limit q2)) in
+              absurd (omega arith)
+
+module _ (s p : Str) (w : List Scalar) where
+  -- what is left to judge: the fields at a place, the first of them at an offset
+  pub record Ending (fs : List Place) (offset at : ℕ) : Type 0 where
+    pub so-far : any large fs ≡ any large (places (schemaOf (rec s p w)) offset (fieldsAt s p at))
+    pub low : offset ≤ limit
+
+  pub ending-begin : (offset at : ℕ) → offset ≤ limit → Ending (places (schemaOf (rec s p w)) offset (fieldsAt s p at)) offset at
+  ending-begin offset at h = record { so-far = refl; low = h }
+
+  module _ (fs : List Place) (offset at : ℕ) (i : Ending fs offset at) (r : FieldStep) (f : FieldsFrom s at r) where
+    pub ending-none : r ≡ NoField → false ≡ any large fs
+    unfolding places any
+    ending-none m = sym (i .so-far ∙ rw (fields-over-now s at r f p m))
+
+    module _ (e : D.Field.Field) (k : Cursor) (m : r ≡ AField e k) (z end : ℕ) (u : z ≡ capped (shapeSize (schemaOf (rec s p w)) (fieldOf p e none))) (v : end ≡ capped (offset + z)) where
+      size-is : shapeSize (schemaOf (rec s p w)) (fieldOf p e (fieldKeyAt s p (k .at))) ≡ shapeSize (schemaOf (rec s p w)) (fieldOf p e none)
+      unfolding shapeSize
+      size-is = keyless (kindOf (fieldOf p e none .kind)) (schemaOf (rec s p w)) p e (fieldKeyAt s p (k .at))
+
+      ending-at : any large fs ≡ (ltb limit (offset + shapeSize (schemaOf (rec s p w)) (fieldOf p e none)) || any large (places (schemaOf (rec s p w)) (offset + shapeSize (schemaOf (rec s p w)) (fieldOf p e none)) (fieldsAt s p (k .at))))
+      unfolding places placeOf any large
+      ending-at = i .so-far ∙ rw (fields-now s at r f p e k m, size-is)
+
+      pub ending-past : limit < end → true ≡ any large fs
+      ending-past h =
+          let g = end-past offset (shapeSize (schemaOf (rec s p w)) (fieldOf p e none)) z end (i .low) u v h in
+          sym (ending-at ∙ rw (lt-ltb limit (offset + shapeSize (schemaOf (rec s p w)) (fieldOf p e none)) g))
+
+      pub ending-more : end ≤ limit → Ending fs end (k .at)
+      ending-more h =
+          let x = end-exact offset (shapeSize (schemaOf (rec s p w)) (fieldOf p e none)) z end (i .low) u v h in
+          record {
+            so-far = ending-at ∙ rw (← x, le-ltb limit end h);
+            low = h;
+          }
+
+pub ruleset ending-laws = (ending-none, ending-past, ending-more)
+
+-- fronts of families ------------------------------------------------------------------------------------------------------
+
+module _ (s p : Str) (w : List Scalar) (f : D.Family.Family) where
+  pub front-is : (t : OptText) (a b x y r : ℕ) → t ≡ Given (f .«discriminant_type») → a ≡ sized (optOf p t) (enumSize (enumsAt s p 0)) 1
+      → b ≡ primSize w (orElse (optOf p (f .«param_len_type»)) (bytes "u8")) → x ≡ a → y ≡ b → r ≡ capped (x + y)
+      → r ≡ capped (frontEnd (schemaOf (rec s p w)) (familyOf p f [] []))
+  unfolding frontEnd discSize lenSize scalarSize schemaOf schemaFrom enumsAt
+  front-is t a b x y r e g h i j q = q ∙ rw (i, j, g, h, e)
+
+module _ (t : Schema) (m : Family) where
+  front-as-it-stands : (fs : List Field) → any large (places t 0 (prefix m ++ fs))
+      ≡ (ltb limit (0 + discSize t m) || (ltb limit (0 + discSize t m + lenSize t m) || any large (places t (0 + discSize t m + lenSize t m) fs)))
+  unfolding any large places placeOf prefix plain shapeSize kindOf meaning words eqs bytes sizeAs scalarSize orElse discSize lenSize
+  front-as-it-stands fs = refl
+
+  -- the front's second field ends where the front does, and the fields after it begin there
+  front-places : (fs : List Field) → any large (places t 0 (prefix m ++ fs)) ≡ (ltb limit (discSize t m) || (ltb limit (frontEnd t m) || any large (places t (frontEnd t m) fs)))
+  unfolding frontEnd
+  front-places fs =
+      let e : 0 + discSize t m ≡ discSize t m = omega arith in
+      front-as-it-stands fs ∙ rw e
+
+  disc-first : discSize t m ≤ frontEnd t m
+  unfolding frontEnd
+  disc-first = omega arith
+
+  or-true : (b : Bool) → (b || true) ≡ true
+  or-true true = refl
+  or-true false = refl
+
+  module _ (n : ℕ) (e : n ≡ capped (frontEnd t m)) (fs : List Field) where
+    pub front-past : limit < n → true ≡ any large (places t 0 (prefix m ++ fs))
+    front-past h = sym (front-places fs ∙ rw (lt-ltb limit (frontEnd t m) past) (or-true (ltb limit (discSize t m))))
+      where
+        past : limit < frontEnd t m
+        past = go (leb (frontEnd t m) limit) refl
+          where
+            go : (b : Bool) → leb (frontEnd t m) limit ≡ b → limit < frontEnd t m
+            go false q = leb-false (frontEnd t m) limit q
+            go true q =
+                let g = leb-true (frontEnd t m) limit q in
+                let x : n ≡ frontEnd t m = e ∙ sym (cap-low (frontEnd t m) g) in
+                absurd (omega arith)
+
+    pub front-on : (r : Bool) → n ≤ limit → r ≡ any large (places t n fs) → r ≡ any large (places t 0 (prefix m ++ fs))
+    front-on r h q =
+        let g = disc-first in
+        let x = exact in
+        q ∙ sym (front-places fs ∙ rw (le-ltb limit (discSize t m) (omega arith), ← x, le-ltb limit n h))
+      where
+        exact : n ≡ frontEnd t m
+        exact = go (leb (frontEnd t m) limit) refl
+          where
+            go : (b : Bool) → leb (frontEnd t m) limit ≡ b → n ≡ frontEnd t m
+            go true q = e ∙ sym (cap-low (frontEnd t m) (leb-true (frontEnd t m) limit q))
+            go false q =
+                let x : n ≡ limit + 1 = e ∙ sym (cap-high (frontEnd t m) (leb-false (frontEnd t m) limit q)) in
+                absurd (omega arith)
+
+pub ruleset front-laws = (front-past, front-on)
+
+-- the first vast type -----------------------------------------------------------------------------------------------------
+
+module _ (s p : Str) (w : List Scalar) (at : ℕ) (r : TypeStep) (f : OpenedFrom s at r) where
+  pub vast-end : r ≡ NoType → firstVast (rec s p w) at ≡ NoneVast
+  unfolding firstVast
+  vast-end m = ap vastAt (find-none (vast (schemaOf (rec s p w))) _ (f .list p ∙ ap (openedOf s p) m))
+
+  module _ (q : ℕ) (k : Cursor) (m : r ≡ Plain q k) (b : Bool) (e : b ≡ any large (places (schemaOf (rec s p w)) 0 (fieldsAt s p (k .at)))) where
+    pub vast-plain : b ≡ true → firstVast (rec s p w) at ≡ VastAt q
+    unfolding firstVast vast
+    vast-plain t = ap vastAt (find-hit (vast (schemaOf (rec s p w))) _ _ _ (f .list p ∙ ap (openedOf s p) m) (sym e ∙ t))
+
+    pub vast-plain-on : b ≡ false → firstVast (rec s p w) at ≡ firstVast (rec s p w) (k .at)
+    unfolding firstVast vast
+    vast-plain-on t = ap vastAt (find-miss (vast (schemaOf (rec s p w))) _ _ _ (f .list p ∙ ap (openedOf s p) m) (sym e ∙ t))
+
+    pub plain-nearer : length s - k .at < length s - at
+    plain-nearer = let h : suc (length s - k .at) ≤ length s - at = subst (λ x. openedLeft s x ≤ length s - at) m (f .left) in omega arith
+
+  module _ (q : ℕ) (x : D.Family.Family) (k : Cursor) (m : r ≡ Fronted q x k) (b : Bool) (e : b ≡ any large (places (schemaOf (rec s p w)) 0 (prefix (familyOf p x [] []) ++ fieldsAt s p (k .at)))) where
+    pub vast-front : b ≡ true → firstVast (rec s p w) at ≡ VastAt q
+    unfolding firstVast vast
+    vast-front t = ap vastAt (find-hit (vast (schemaOf (rec s p w))) _ _ _ (f .list p ∙ ap (openedOf s p) m) (sym e ∙ t))
+
+    pub vast-front-on : b ≡ false → firstVast (rec s p w) at ≡ firstVast (rec s p w) (k .at)
+    unfolding firstVast vast
+    vast-front-on t = ap vastAt (find-miss (vast (schemaOf (rec s p w))) _ _ _ (f .list p ∙ ap (openedOf s p) m) (sym e ∙ t))
+
+    pub front-nearer : length s - k .at < length s - at
+    front-nearer = let h : suc (length s - k .at) ≤ length s - at = subst (λ y. openedLeft s y ≤ length s - at) m (f .left) in omega arith
+
+pub ruleset vast-laws = (vast-end, vast-plain, vast-plain-on, vast-front, vast-front-on)

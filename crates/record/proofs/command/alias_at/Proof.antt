@@ -1,0 +1,21 @@
+use borrow.Author.Needs.{needs}
+use Rattle.record.proofs.command.alias_at.Statement.{statement}
+use Rattle.record.proofs.command.alias_at.Tie as tie
+use Rattle.record.proofs.command.alias_at.Reads as reads
+use Rattle.record.proofs.command.alias_at.Lts as lts
+use Rattle.record.proofs.operands.text_at.Reads as text-at-reads
+
+-- src/command.rt:154:15
+text-at-requires : tie.Need-text-at-requires
+text-at-requires c κs = search needs
+
+-- src/command.rt:155:21
+text-at-requires-2 : tie.Need-text-at-requires-2
+text-at-requires-2 c κs = search needs
+
+-- src/command.rt:150:1
+returns : tie.Need-returns
+returns c = cc
+
+pub alias-at-spec : {M : Type 1} → statement M
+alias-at-spec = tie.close (tie.spec text-at-requires text-at-requires-2 returns)

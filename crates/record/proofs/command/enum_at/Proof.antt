@@ -1,0 +1,34 @@
+use borrow.Author.Needs.{needs}
+use Rattle.record.proofs.command.enum_at.Statement.{statement}
+use Rattle.record.proofs.command.enum_at.Tie as tie
+use Rattle.record.proofs.command.enum_at.Reads as reads
+use Rattle.record.proofs.command.enum_at.Lts as lts
+use Rattle.record.proofs.le.u32_at.Reads as u32-at-reads
+use Rattle.record.proofs.operands.flag_at.Reads as flag-at-reads
+use Rattle.record.proofs.operands.opt_text_at.Reads as opt-text-at-reads
+use Rattle.record.proofs.operands.text_at.Reads as text-at-reads
+
+-- src/command.rt:163:15
+text-at-requires : tie.Need-text-at-requires
+text-at-requires c κs = search needs
+
+-- src/command.rt:164:15
+u32-at-requires : tie.Need-u32-at-requires
+u32-at-requires c κs = search needs
+
+-- src/command.rt:165:18
+flag-at-requires : tie.Need-flag-at-requires
+flag-at-requires c κs = search needs
+
+-- src/command.rt:166:24
+opt-text-at-requires : tie.Need-opt-text-at-requires
+opt-text-at-requires c κs = search needs
+
+-- src/command.rt:159:1
+returns : tie.Need-returns
+returns c = cc
+
+pub enum-at-spec : {M : Type 1} → statement M
+enum-at-spec =
+    tie.close
+    (tie.spec text-at-requires u32-at-requires flag-at-requires opt-text-at-requires returns)

@@ -1,0 +1,34 @@
+use borrow.Author.Needs.{needs}
+use Rattle.record.proofs.command.member_at.Statement.{statement}
+use Rattle.record.proofs.command.member_at.Tie as tie
+use Rattle.record.proofs.command.member_at.Reads as reads
+use Rattle.record.proofs.command.member_at.Lts as lts
+use Rattle.record.proofs.le.u32_at.Reads as u32-at-reads
+use Rattle.record.proofs.operands.opt_number_at.Reads as opt-number-at-reads
+use Rattle.record.proofs.operands.opt_text_at.Reads as opt-text-at-reads
+use Rattle.record.proofs.operands.text_at.Reads as text-at-reads
+
+-- src/command.rt:194:15
+text-at-requires : tie.Need-text-at-requires
+text-at-requires c κs = search needs
+
+-- src/command.rt:195:14
+u32-at-requires : tie.Need-u32-at-requires
+u32-at-requires c κs = search needs
+
+-- src/command.rt:196:16
+opt-number-at-requires : tie.Need-opt-number-at-requires
+opt-number-at-requires c κs = search needs
+
+-- src/command.rt:197:24
+opt-text-at-requires : tie.Need-opt-text-at-requires
+opt-text-at-requires c κs = search needs
+
+-- src/command.rt:190:1
+returns : tie.Need-returns
+returns c = cc
+
+pub member-at-spec : {M : Type 1} → statement M
+member-at-spec =
+    tie.close
+    (tie.spec text-at-requires u32-at-requires opt-number-at-requires opt-text-at-requires returns)

@@ -1,0 +1,50 @@
+use Prim.Native.Nat.{_+_, _-_, _≤_}
+use mathlib.Core.Path.{_≡_}
+use lib.ListN.{length, drop}
+use Rattle.record.specs.Cut.{placeOf}
+use Rattle.record.proofs.TextLaws.{kept, ended}
+use Rattle.record.proofs.CutLaws.{place-laws}
+use borrow.Author.Needs.{needs}
+use Rattle.record.proofs.cut.place_of.Statement.{statement}
+use Rattle.record.proofs.cut.place_of.Tie as tie
+
+abbrev Inv-loop : tie.InvT-loop
+Inv-loop s b i₀ i = (i ≤ length s) × (placeOf b s ≡ i + placeOf b (drop i s))
+
+abbrev μ-loop : tie.MeasureT-loop
+μ-loop s b i₀ i = length s - i
+
+loop-holds : tie.Need-loop-holds Inv-loop μ-loop
+loop-holds c = search needs
+
+shared-slice-read-if1 : tie.Need-shared-slice-read-if1 Inv-loop μ-loop
+shared-slice-read-if1 c = search needs
+
+returns : tie.Need-returns Inv-loop μ-loop
+returns c = search (ended, place-laws)
+
+add-i : tie.Need-add-i Inv-loop μ-loop
+add-i c = search needs
+
+loop-less : tie.Need-loop-less Inv-loop μ-loop
+loop-less c = search needs
+
+loop-again : tie.Need-loop-again Inv-loop μ-loop
+loop-again c = (search needs, search (kept, place-laws))
+
+returns-2 : tie.Need-returns-2 Inv-loop μ-loop
+returns-2 c = search (ended, place-laws)
+
+pub place-of-spec : {M : Type 1} → statement M
+place-of-spec =
+    tie.close
+    (tie.spec
+    Inv-loop
+    μ-loop
+    loop-holds
+    shared-slice-read-if1
+    returns
+    add-i
+    loop-less
+    loop-again
+    returns-2)

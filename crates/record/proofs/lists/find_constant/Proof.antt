@@ -1,0 +1,77 @@
+use mathlib.Core.Path.{_≡_}
+use Prim.Native.Nat.{_-_}
+use lib.ListN.{length}
+use Rattle.record.specs.Steps.{constantIn, constantsAt}
+use Rattle.record.proofs.TextLaws.{kept}
+use Rattle.record.proofs.StepLaws.{constants-nearer, find-constant-laws}
+use borrow.Author.Needs.{needs}
+use Rattle.record.proofs.lists.find_constant.Statement.{statement}
+use Rattle.record.proofs.lists.find_constant.Tie as tie
+use Rattle.record.proofs.lists.find_constant.Reads as reads
+use Rattle.record.proofs.lists.find_constant.Lts as lts
+use Rattle.record.proofs.lists.next_constant.Reads as next-constant-reads
+use Rattle.record.proofs.text.bytes_of.Reads as bytes-of-reads
+use Rattle.record.proofs.text.same.Reads as same-reads
+
+abbrev Inv-loop : tie.InvT-loop
+Inv-loop stream pool name cursor₀ cursor = constantIn name (constantsAt stream pool (cursor₀ .at)) ≡ constantIn name (constantsAt stream pool (cursor .at))
+
+abbrev μ-loop : tie.MeasureT-loop
+μ-loop stream pool name cursor₀ cursor = length stream - cursor .at
+
+-- src/lists.rt:331:5
+loop-holds : tie.Need-loop-holds Inv-loop μ-loop
+loop-holds c = search needs
+
+-- src/lists.rt:332:49
+next-constant-requires : tie.Need-next-constant-requires Inv-loop μ-loop
+next-constant-requires c κs = search needs
+
+-- src/lists.rt:332:37
+enum-known-e : tie.Need-enum-known-e Inv-loop μ-loop
+enum-known-e c = search needs
+
+-- src/lists.rt:333:13
+enum-told : tie.Need-enum-told Inv-loop μ-loop
+enum-told c = search needs
+
+-- src/lists.rt:333:13
+returns : tie.Need-returns Inv-loop μ-loop
+returns c = search (kept, find-constant-laws)
+
+-- src/lists.rt:335:17
+bytes-of-requires : tie.Need-bytes-of-requires Inv-loop μ-loop
+bytes-of-requires c κs = search needs
+
+-- src/lists.rt:335:12
+same-requires : tie.Need-same-requires Inv-loop μ-loop
+same-requires c κs = search needs
+
+-- src/lists.rt:336:13
+returns-2 : tie.Need-returns-2 Inv-loop μ-loop
+returns-2 c = search (kept, find-constant-laws)
+
+-- src/lists.rt:331:5
+loop-less : tie.Need-loop-less Inv-loop μ-loop
+loop-less c = search constants-nearer
+
+-- src/lists.rt:331:5
+loop-again : tie.Need-loop-again Inv-loop μ-loop
+loop-again c = search (kept, find-constant-laws)
+
+pub find-constant-spec : {M : Type 1} → statement M
+find-constant-spec =
+    tie.close
+    (tie.spec
+    Inv-loop
+    μ-loop
+    loop-holds
+    next-constant-requires
+    enum-known-e
+    enum-told
+    returns
+    bytes-of-requires
+    same-requires
+    returns-2
+    loop-less
+    loop-again)

@@ -1,0 +1,70 @@
+use Prim.Native.Nat.{_-_}
+use lib.ListN.{length}
+use Rattle.record.specs.Steps.{structsAt}
+use Rattle.record.proofs.Stream.{nearer}
+use Rattle.record.proofs.ListLaws.{Onward, onward-here}
+use Rattle.record.proofs.StepLaws.{structs-laws}
+use borrow.Author.Needs.{needs}
+use Rattle.record.proofs.lists.next_struct.Statement.{statement}
+use Rattle.record.proofs.lists.next_struct.Tie as tie
+use Rattle.record.proofs.lists.next_struct.Reads as reads
+use Rattle.record.proofs.lists.next_struct.Lts as lts
+use Rattle.record.proofs.command.Cursor.next.Reads as next-reads
+
+abbrev Inv-loop : tie.InvT-loop
+Inv-loop stream cursor₀ cursor = Onward structsAt stream (cursor₀ .at) (cursor .at)
+
+abbrev μ-loop : tie.MeasureT-loop
+μ-loop stream cursor₀ cursor = length stream - cursor .at
+
+-- src/lists.rt:221:5
+loop-holds : tie.Need-loop-holds Inv-loop μ-loop
+loop-holds c = search onward-here
+
+-- src/lists.rt:222:42
+next-requires : tie.Need-next-requires Inv-loop μ-loop
+next-requires c κs = search needs
+
+-- src/lists.rt:222:24
+enum-known-command : tie.Need-enum-known-command Inv-loop μ-loop
+enum-known-command c = search needs
+
+-- src/lists.rt:223:13
+enum-told : tie.Need-enum-told Inv-loop μ-loop
+enum-told c = search needs
+
+-- src/lists.rt:223:13
+returns : tie.Need-returns Inv-loop μ-loop
+returns c = search structs-laws
+
+-- src/lists.rt:225:32
+enum-known-command-2 : tie.Need-enum-known-command-2 Inv-loop μ-loop
+enum-known-command-2 c = search needs
+
+-- src/lists.rt:226:13
+returns-2 : tie.Need-returns-2 Inv-loop μ-loop
+returns-2 c = search structs-laws
+
+-- src/lists.rt:221:5
+loop-less : tie.Need-loop-less Inv-loop μ-loop
+loop-less c = search nearer
+
+-- src/lists.rt:221:5
+loop-again : tie.Need-loop-again Inv-loop μ-loop
+loop-again c = search structs-laws
+
+pub next-struct-spec : {M : Type 1} → statement M
+next-struct-spec =
+    tie.close
+    (tie.spec
+    Inv-loop
+    μ-loop
+    loop-holds
+    next-requires
+    enum-known-command
+    enum-told
+    returns
+    enum-known-command-2
+    returns-2
+    loop-less
+    loop-again)

@@ -1,0 +1,32 @@
+use Rattle.record.proofs.ReferenceLaws.{reference-laws}
+use borrow.Author.Needs.{needs}
+use Rattle.record.proofs.references.referenced_type.Statement.{statement}
+use Rattle.record.proofs.references.referenced_type.Tie as tie
+use Rattle.record.proofs.references.referenced_type.Reads as reads
+use Rattle.record.proofs.references.referenced_type.Lts as lts
+use Rattle.record.proofs.kind.kind_of.Reads as kind-of-reads
+use Rattle.record.proofs.text.bytes_of.Reads as bytes-of-reads
+
+-- src/references.rt:25:24
+bytes-of-requires : tie.Need-bytes-of-requires
+bytes-of-requires c κs = search needs
+
+-- src/references.rt:25:9
+kind-of-requires : tie.Need-kind-of-requires
+kind-of-requires c κs = search needs
+
+-- src/references.rt:21:1
+returns : tie.Need-returns
+returns c = search reference-laws
+
+-- src/references.rt:21:1
+returns-2 : tie.Need-returns-2
+returns-2 c = search reference-laws
+
+-- src/references.rt:21:1
+returns-3 : tie.Need-returns-3
+returns-3 c = search reference-laws
+
+pub referenced-type-spec : {M : Type 1} → statement M
+referenced-type-spec =
+    tie.close (tie.spec bytes-of-requires kind-of-requires returns returns-2 returns-3)

@@ -1,0 +1,45 @@
+use Rattle.record.proofs.VastLaws.{front-is}
+use borrow.Author.Needs.{needs}
+use Rattle.record.proofs.vast.front_end.Statement.{statement}
+use Rattle.record.proofs.vast.front_end.Tie as tie
+use Rattle.record.proofs.vast.front_end.Reads as reads
+use Rattle.record.proofs.vast.front_end.Lts as lts
+use Rattle.record.proofs.sizes.enum_bytes.Reads as enum-bytes-reads
+use Rattle.record.proofs.sizes.scalar_bytes.Reads as scalar-bytes-reads
+use Rattle.record.proofs.sizes.sum.Reads as sum-reads
+use Rattle.record.proofs.sizes.wide.Reads as wide-reads
+
+-- src/vast.rt:66:9
+enum-bytes-requires : tie.Need-enum-bytes-requires
+enum-bytes-requires c κs = search needs
+
+-- src/vast.rt:67:9
+scalar-bytes-requires : tie.Need-scalar-bytes-requires
+scalar-bytes-requires c κs = search needs
+
+-- src/vast.rt:68:9
+wide-requires : tie.Need-wide-requires
+wide-requires c κs = search needs
+
+-- src/vast.rt:68:22
+wide-requires-2 : tie.Need-wide-requires-2
+wide-requires-2 c κs = search needs
+
+-- src/vast.rt:68:5
+sum-requires : tie.Need-sum-requires
+sum-requires c κs = search needs
+
+-- src/vast.rt:61:1
+returns : tie.Need-returns
+returns c = search front-is
+
+pub front-end-spec : {M : Type 1} → statement M
+front-end-spec =
+    tie.close
+    (tie.spec
+    enum-bytes-requires
+    scalar-bytes-requires
+    wide-requires
+    wide-requires-2
+    sum-requires
+    returns)

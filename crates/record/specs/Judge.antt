@@ -1,0 +1,134 @@
+-- One command judged: refusals 2, 1, 3, 4, 5, 6 of 01, each at the command's place. Assumes nothing.
+use Prim.Native.Nat.{ℕ, _+_, _-_}
+use mathlib.Core.List.{List, [], _∷_}
+use mathlib.Core.Option.{Option, none, some}
+use mathlib.Core.Bool.{Bool, true, false, _||_, not, cond}
+use lib.ListN.{getD, length, drop}
+use lib.Dec.{eqb, ltb, leb}
+use Rattle.record.specs.Base.{Str}
+use Rattle.record.specs.Operands.{flagAt, optTextAt}
+use Rattle.record.specs.Commands.{operands, wide, widths, commandOf}
+use Rattle.record.specs.declared.operands.OptText.{OptText}
+use Rattle.record.specs.declared.operands.OptText.the-variants.{Absent, Given}
+use Rattle.record.specs.declared.command.Parent.{Parent}
+use Rattle.record.specs.declared.command.Parent.the-variants.{NoParent, InStruct, InFamily}
+use Rattle.record.specs.declared.command.Cursor.{Cursor}
+use Rattle.record.specs.declared.refusal.Side.{Side}
+use Rattle.record.specs.declared.refusal.Side.the-variants.{Current, Released}
+use Rattle.record.specs.declared.refusal.Refusal.the-variants as R
+use Rattle.record.specs.declared.judge.Fault.{Fault}
+use Rattle.record.specs.declared.judge.Fault.the-variants.{Fine, Outside, Missing, Flag}
+use Rattle.record.specs.declared.judge.Judged.{Judged}
+use Rattle.record.specs.declared.judge.Judged.the-variants.{Next, Done, Refused}
+
+-- operands: any 4 goes before any 5, and that before any 6 ------------------------------------------------------------------
+
+abbrev pub worseOf : Fault → Fault → Fault
+worseOf Fine b = b
+worseOf Outside b = Outside
+worseOf Missing Fine = Missing
+worseOf Missing Outside = Outside
+worseOf Missing Missing = Missing
+worseOf Missing Flag = Missing
+worseOf Flag Fine = Flag
+worseOf Flag Outside = Outside
+worseOf Flag Missing = Missing
+worseOf Flag Flag = Flag
+
+abbrev pub missingIn : Side → Fault
+missingIn Current = Missing
+missingIn Released = Fine
+
+-- what an absent text comes to, by the operand's letter (T, O, ! or ?); is-text is the flag at 4
+unfoldable pub ifAbsent : Side → Str → ℕ → Fault
+ifAbsent side x o =
+    cond (eqb o 79) Fine
+    (cond (eqb o 33) (missingIn side)
+    (cond (eqb o 63) (cond (flagAt x 4) Missing Fine) Outside))
+
+-- a text that is there lies in the pool, which has n bytes
+abbrev pub textFault : ℕ → Fault → OptText → Fault
+textFault n absent Absent = absent
+textFault n absent (Given t) = cond (leb (t .start + t .len) n) Fine Outside
+
+unfoldable pub flagFault : ℕ → Fault
+flagFault b = cond (ltb b 2) Fine Flag
+
+-- the fault of an operand at a place of the command's bytes, by its letter (F, N, W, V, or a text's)
+unfoldable pub operandFault : Side → ℕ → Str → ℕ → ℕ → Fault
+operandFault side n x i o =
+    cond (eqb o 70) (flagFault (getD x i 0))
+    (cond (eqb o 78) (flagFault (getD x i 0))
+    (cond (eqb o 87) Fine
+    (cond (eqb o 86) Fine (textFault n (ifAbsent side x o) (optTextAt x i)))))
+
+unfoldable pub faultsFrom : Side → ℕ → Str → ℕ → Str → Fault
+faultsFrom side n x i [] = Fine
+faultsFrom side n x i (o ∷ os) = worseOf (operandFault side n x i o) (faultsFrom side n x (i + wide o) os)
+
+-- places ------------------------------------------------------------------------------------------------------------------
+
+abbrev pub isOpen : Parent → Bool
+isOpen NoParent = false
+isOpen InStruct = true
+isOpen InFamily = true
+
+abbrev pub inFamily : Parent → Bool
+inFamily NoParent = false
+inFamily InStruct = false
+inFamily InFamily = true
+
+unfoldable pub follows : Cursor → ℕ → ℕ → Bool
+follows c a b = eqb (c .last) a || eqb (c .last) b
+
+-- 01 first and once; 05 after 04 or 05; 07 after 06 or 07; 0A while a family is open; 0B while a type is; 0C right after 0B; all others
+-- anywhere after the head
+unfoldable pub mayStand : Cursor → ℕ → Bool
+mayStand c b =
+    cond (eqb b 1) (eqb (c .last) 0)
+    (cond (eqb b 5) (follows c 4 5)
+    (cond (eqb b 7) (follows c 6 7)
+    (cond (eqb b 10) (inFamily (c .parent))
+    (cond (eqb b 11) (isOpen (c .parent))
+    (cond (eqb b 12) (follows c 11 11) (not (eqb (c .last) 0)))))))
+
+-- only 0A, 0B and 0C leave a structure or a family open
+unfoldable pub parentAfter : Parent → ℕ → Parent
+parentAfter p b =
+    cond (eqb b 8) InStruct
+    (cond (eqb b 9) InFamily
+    (cond (eqb b 10) p
+    (cond (eqb b 11) p
+    (cond (eqb b 12) p NoParent))))
+
+-- the whole judgement -----------------------------------------------------------------------------------------------------
+
+abbrev pub moved : Cursor → ℕ → ℕ → Cursor
+moved c b w = record { at = c .at + w; last = b; parent = parentAfter (c .parent) b }
+
+-- a command without fault; nothing stands after the end
+unfoldable pub ready : Str → Cursor → ℕ → ℕ → Judged
+ready s c b w =
+    cond (eqb b 15) (cond (eqb (c .at + w) (length s)) Done (Refused R.Misplaced (c .at + w)))
+    (Next (commandOf b (drop (c .at) s)) (moved c b w))
+
+abbrev pub faulted : ℕ → Judged → Fault → Judged
+faulted at j Fine = j
+faulted at j Outside = Refused R.Outside at
+faulted at j Missing = Refused R.Missing at
+faulted at j Flag = Refused R.Flag at
+
+-- by a command's operands, its width, and whether it may stand here
+unfoldable pub judgedWith : Side → Str → ℕ → Cursor → Str → ℕ → Bool → Judged
+judgedWith side s n c os w stands =
+    cond (ltb (length s - c .at) w) (Refused R.Cut (c .at))
+    (cond stands (faulted (c .at) (ready s c (getD s (c .at) 0) w) (faultsFrom side n (drop (c .at) s) 1 os)) (Refused R.Misplaced (c .at)))
+
+abbrev pub judgedAs : Side → Str → ℕ → Cursor → ℕ → Option Str → Judged
+judgedAs side s n c b none = Refused R.Unknown (c .at)
+judgedAs side s n c b (some os) = judgedWith side s n c os (1 + widths os) (mayStand c b)
+
+-- the command at a cursor, of a stream beside a pool of n bytes
+unfoldable pub judgedAt : Side → Str → ℕ → Cursor → Judged
+judgedAt side s n c =
+    cond (ltb (c .at) (length s)) (judgedAs side s n c (getD s (c .at) 0) (operands (getD s (c .at) 0))) (Refused R.Cut (c .at))

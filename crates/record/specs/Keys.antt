@@ -1,0 +1,59 @@
+-- The plugin keys of a record: plugin_keys of schema.rs and of released.rs. Assumes nothing.
+use mathlib.Core.Path.{_≡_}
+use mathlib.Core.List.{List, [], _∷_}
+use mathlib.Core.Option.{Option, none, some}
+use Prim.Native.Nat.{ℕ}
+use Rattle.record.specs.Base.{Str}
+use Rattle.record.specs.Schema.{Key, Field, Struct}
+use Rattle.record.specs.Lists.{keyOf}
+use Rattle.record.specs.Steps.{fieldsAt, structsAt, unstoredAt}
+use Rattle.record.specs.declared.lists.KeyStep.{KeyStep}
+use Rattle.record.specs.declared.lists.KeyStep.the-variants.{NoKey, AKey}
+use Rattle.record.specs.declared.keys.KeysAt.{KeysAt}
+use Rattle.record.specs.declared.keys.KeysAt.the-variants.{Structs, Fields, Unstored}
+use Rattle.record.specs.declared.keys.PluginKeyStep.{PluginKeyStep}
+use Rattle.record.specs.declared.keys.PluginKeyStep.the-variants.{NoPluginKey, APluginKey}
+
+unfoldable pub withKey : Option Key → List Key → List Key
+withKey none l = l
+withKey (some k) l = k ∷ l
+
+unfoldable pub fieldKeys : List Field → List Key → List Key
+fieldKeys [] l = l
+fieldKeys (f ∷ fs) l = withKey (f .key) (fieldKeys fs l)
+
+unfoldable pub structKeys : List Struct → List Key → List Key
+structKeys [] l = l
+structKeys (t ∷ ts) l = fieldKeys (t .fields) (structKeys ts l)
+
+-- the keys of structures' fields, then the unstored ones, as all have one id; those of families and variants are not looked at
+unfoldable pub pluginKeys : List Struct → List Key → List Key
+pluginKeys ss l = structKeys ss l
+
+-- the walk ----------------------------------------------------------------------------------------------------------------
+
+-- what is left of the walk
+unfoldable pub keysFrom : Str → Str → KeysAt → List Key
+keysFrom s p (Structs k) = structKeys (structsAt s p (k .at)) (unstoredAt s p 0)
+keysFrom s p (Fields f k) = fieldKeys (fieldsAt s p (f .at)) (structKeys (structsAt s p (k .at)) (unstoredAt s p 0))
+keysFrom s p (Unstored k) = unstoredAt s p (k .at)
+
+-- nothing is taken yet, in any record
+pub record AllKeys (r : KeysAt) : Type 0 where
+  pub list : (s p : Str) → keysFrom s p r ≡ pluginKeys (structsAt s p 0) (unstoredAt s p 0)
+
+-- the list at a step
+abbrev pub pluginKeysOf : Str → Str → PluginKeyStep → List Key
+pluginKeysOf s p NoPluginKey = []
+pluginKeysOf s p (APluginKey e k) = keyOf p e ∷ keysFrom s p k
+
+pub record PluginKeysFrom (s : Str) (at : KeysAt) (r : PluginKeyStep) : Type 0 where
+  pub list : (p : Str) → keysFrom s p at ≡ pluginKeysOf s p r
+
+-- the keys of the fields at a step, before some others
+abbrev pub fieldKeysOf : Str → Str → KeyStep → List Key → List Key
+fieldKeysOf s p NoKey l = l
+fieldKeysOf s p (AKey e k) l = keyOf p e ∷ fieldKeys (fieldsAt s p (k .at)) l
+
+pub record InFields (s : Str) (at : ℕ) (r : KeyStep) : Type 0 where
+  pub list : (p : Str) (l : List Key) → fieldKeys (fieldsAt s p at) l ≡ fieldKeysOf s p r l

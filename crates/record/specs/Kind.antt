@@ -1,0 +1,60 @@
+-- The kinds of a field, each by its word.
+use mathlib.Core.List.{List, [], _∷_, map}
+use mathlib.Core.Bool.{Bool, true, false, cond}
+use Rattle.record.specs.Base.{Str, bytes, eqs}
+use Rattle.record.specs.declared.kind.Kind.{Kind}
+use Rattle.record.specs.declared.kind.Kind.the-variants.{Scalar, Enum, TypeAlias, Bitfield, InlineArray, InlineArray2d, CstrPtr, StructPtr, StructArrayPtr, StructPtrArrayPtr, TaggedFamPtr, SimpleFamPtr, OpaquePtr, FnPtr, Padding, Text, Other}
+
+pub record Word : Type 0 where
+  pub spelt : Str
+  pub means : Kind
+
+unfoldable pub words : List Word
+words =
+    record { spelt = bytes "scalar"; means = Scalar } ∷
+    record { spelt = bytes "enum"; means = Enum } ∷
+    record { spelt = bytes "type_alias"; means = TypeAlias } ∷
+    record { spelt = bytes "bitfield"; means = Bitfield } ∷
+    record { spelt = bytes "inline_array"; means = InlineArray } ∷
+    record { spelt = bytes "inline_array2d"; means = InlineArray2d } ∷
+    record { spelt = bytes "cstr_ptr"; means = CstrPtr } ∷
+    record { spelt = bytes "struct_ptr"; means = StructPtr } ∷
+    record { spelt = bytes "struct_array_ptr"; means = StructArrayPtr } ∷
+    record { spelt = bytes "struct_ptr_array_ptr"; means = StructPtrArrayPtr } ∷
+    record { spelt = bytes "tagged_fam_ptr"; means = TaggedFamPtr } ∷
+    record { spelt = bytes "simple_fam_ptr"; means = SimpleFamPtr } ∷
+    record { spelt = bytes "opaque_ptr"; means = OpaquePtr } ∷
+    record { spelt = bytes "fn_ptr"; means = FnPtr } ∷
+    record { spelt = bytes "padding"; means = Padding } ∷
+    record { spelt = bytes "string"; means = Text } ∷
+    []
+
+unfoldable pub kindWords : List Str
+kindWords = map (λ (w : Word). w .spelt) words
+
+-- what the first entry that is spelt so means
+unfoldable pub meaning : List Word → Str → Kind
+meaning [] w = Other
+meaning (x ∷ xs) w = cond (eqs w (x .spelt)) (x .means) (meaning xs w)
+
+unfoldable pub kindOf : Str → Kind
+kindOf w = meaning words w
+
+abbrev pub isPadding : Kind → Bool
+isPadding Scalar = false
+isPadding Enum = false
+isPadding TypeAlias = false
+isPadding Bitfield = false
+isPadding InlineArray = false
+isPadding InlineArray2d = false
+isPadding CstrPtr = false
+isPadding StructPtr = false
+isPadding StructArrayPtr = false
+isPadding StructPtrArrayPtr = false
+isPadding TaggedFamPtr = false
+isPadding SimpleFamPtr = false
+isPadding OpaquePtr = false
+isPadding FnPtr = false
+isPadding Padding = true
+isPadding Text = false
+isPadding Other = false

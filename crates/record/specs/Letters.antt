@@ -1,0 +1,17 @@
+-- The letters of a pool.
+use Prim.Native.Nat.{ℕ, _+_}
+use mathlib.Core.List.{[], _∷_}
+use mathlib.Core.Bool.{Bool, _&&_, cond}
+use lib.Dec.{leb}
+use Rattle.record.specs.Base.{Str}
+use Rattle.record.specs.declared.letters.Letters.{Letters}
+use Rattle.record.specs.declared.letters.Letters.the-variants.{Good, Odd}
+
+-- the letter rule
+unfoldable pub isLetter : ℕ → Bool
+isLetter b = leb 0x20 b && leb b 0x7e
+
+-- the place of the first byte that is no letter, in a list whose first byte has the place i
+unfoldable pub oddLetter : ℕ → Str → Letters
+oddLetter i [] = Good
+oddLetter i (b ∷ bs) = cond (isLetter b) (oddLetter (i + 1) bs) (Odd i)

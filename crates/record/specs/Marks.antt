@@ -1,0 +1,118 @@
+-- Marks on the fields of a stream, one for each byte at which a field's command may begin, and what a walk does to them. Assumes nothing.
+use mathlib.Core.Path.{_≡_}
+use mathlib.Core.List.{List, [], _∷_}
+use mathlib.Core.Option.{Option, none, some}
+use mathlib.Core.Bool.{Bool, true, false, _||_, cond}
+use mathlib.Core.Logic.{_⊎_}
+use Prim.Native.Nat.{ℕ, suc, _+_, _-_, _≤_, _<_}
+use lib.ListN.{length, getD, drop}
+use lib.Dec.{eqb}
+use Rattle.record.specs.Base.{Str, first}
+use Rattle.record.specs.Schema.{Field, Struct}
+use Rattle.record.specs.Commands.{fieldAt, commandsAt}
+use Rattle.record.specs.Lists.{listed, fieldOf, keys, aKey}
+use Rattle.record.specs.Steps.{fieldKeyAt}
+use Rattle.record.specs.Owner.{Types, referenced, hasSlot, Edge, Leads}
+use Rattle.record.specs.References.{typesAt}
+use Rattle.record.specs.declared.marks.PlaceStep.{PlaceStep}
+use Rattle.record.specs.declared.marks.PlaceStep.the-variants.{NoPlace, APlace}
+
+-- places -----------------------------------------------------------------------------------------------------------------
+
+-- what may stand between the fields of a type: plugin keys, and in a family its variants
+abbrev pub aVariant : ℕ → Bool
+aVariant b = eqb b 10 || eqb b 12
+
+abbrev pub between : Bool → ℕ → Bool
+between true = aVariant
+between false = aKey
+
+-- the fields of a type that begin at a place
+unfoldable pub bodyAt : Bool → Str → Str → ℕ → List Field
+bodyAt family s p at = listed s (between family) 11 (λ at rest. fieldOf p (fieldAt (drop at s)) (first (keys s p rest))) (commandsAt s at)
+
+abbrev pub bodyOf : Bool → Str → Str → PlaceStep → List Field
+bodyOf family s p NoPlace = []
+bodyOf family s p (APlace q k) = fieldOf p (fieldAt (drop q s)) (fieldKeyAt s p (k .at)) ∷ bodyAt family s p (k .at)
+
+abbrev pub bodyLeft : Str → PlaceStep → ℕ
+bodyLeft s NoPlace = 0
+bodyLeft s (APlace q k) = suc (length s - k .at)
+
+abbrev pub placePast : PlaceStep → ℕ
+placePast NoPlace = 0
+placePast (APlace q k) = suc q
+
+-- a step along a type's fields: the list at the step, one more than the bytes after the field, and its place inside the stream
+pub record PlacesFrom (family : Bool) (s : Str) (at : ℕ) (r : PlaceStep) : Type 0 where
+  pub list : (p : Str) → bodyAt family s p at ≡ bodyOf family s p r
+  pub left : bodyLeft s r ≤ length s - at
+  pub within : placePast r ≤ length s
+
+-- the name that the field at a place refers to
+unfoldable pub referenceAt : Str → Str → ℕ → Option Str
+referenceAt s p q = referenced (fieldOf p (fieldAt (drop q s)) none)
+
+-- a name, unless it is that of a structure with slot text
+unfoldable pub entered : Types → Option Str → Option Str
+entered t none = none
+entered t (some n) = cond (hasSlot t n) none (some n)
+
+-- the name that the field at a place leads to
+unfoldable pub targetAt : Str → Str → ℕ → Option Str
+targetAt s p q = entered (typesAt s p) (referenceAt s p q)
+
+-- walks ------------------------------------------------------------------------------------------------------------------
+
+-- no mark is set
+pub record Clear (m : List ℕ) : Type 0 where
+  pub none : (q : ℕ) → getD m q 0 ≡ 0
+
+-- how many marks are not set
+unfoldable pub unseen : List ℕ → ℕ
+unseen [] = 0
+unseen (x ∷ xs) = cond (eqb x 0) 1 0 + unseen xs
+
+-- what a walk asks: a mark for each byte of the stream, and a number that marks
+pub record Ready (s : Str) (m : List ℕ) (mark : ℕ) : Type 0 where
+  pub room : length s ≤ length m
+  pub real : 0 < mark
+
+-- a marked field leads to the name
+pub record Named (s p : Str) (m : List ℕ) (n : Str) : Type 0 where
+  pub place : ℕ
+  pub marked : getD m place 0 ≡ 0 → ⊥
+  pub leads : targetAt s p place ≡ some n
+
+-- whatever a type's fields lead to, a marked field leads to
+pub record Full (s p : Str) (m : List ℕ) (n : Str) : Type 0 where
+  pub all : (x : Str) → Edge (typesAt s p) n x → Named s p m x
+
+-- a field that was marked on the way: it leads only to names of R
+pub record Fresh (s p : Str) (mark : ℕ) (R : Str → Type 0) (before after : List ℕ) (q : ℕ) : Type 0 where
+  pub was : getD before q 0 ≡ 0
+  pub is : getD after q 0 ≡ mark
+  pub into : (n : Str) → targetAt s p q ≡ some n → R n
+
+-- a walk: older marks stay, fresh ones are its own, and the type that a freshly marked field leads to is full
+pub record Walked (s p : Str) (mark : ℕ) (R : Str → Type 0) (before after : List ℕ) : Type 0 where
+  pub same-length : length after ≡ length before
+  pub fewer : unseen after ≤ unseen before
+  pub each : (q : ℕ) → (getD after q 0 ≡ getD before q 0) ⊎ Fresh s p mark R before after q
+  pub closed : (q : ℕ) → (getD after q 0 ≡ 0 → ⊥) → (getD before q 0 ≡ 0 → ⊥) ⊎ ((n : Str) → targetAt s p q ≡ some n → Full s p after n)
+
+-- a type's walk
+pub record TypeWalked (s p : Str) (mark : ℕ) (n : Str) (before after : List ℕ) : Type 0 where
+  pub walked : Walked s p mark (Leads (typesAt s p) n) before after
+  pub full : Full s p after n
+
+-- what a field leads to leads to the name
+pub record Beyond (s p : Str) (q : ℕ) (n : Str) : Type 0 where
+  pub through : Str
+  pub target : targetAt s p q ≡ some through
+  pub leads : Leads (typesAt s p) through n
+
+-- a field's walk
+pub record FieldWalked (s p : Str) (mark q : ℕ) (before after : List ℕ) : Type 0 where
+  pub walked : Walked s p mark (Beyond s p q) before after
+  pub marked : getD after q 0 ≡ 0 → ⊥

@@ -1,0 +1,135 @@
+-- The marks of a record's three roots, and the owner that the calls answer. Assumes nothing.
+use mathlib.Core.Path.{_≡_}
+use mathlib.Core.List.{List, [], _∷_}
+use mathlib.Core.Option.{Option, none, some}
+use mathlib.Core.Bool.{Bool, true, false}
+use mathlib.Core.Logic.{_⊎_}
+use Prim.Native.Nat.{ℕ, _≤_, _<_}
+use lib.ListN.{length, getD}
+use Rattle.record.specs.Base.{Str, bytes, eqs, find}
+use Rattle.record.specs.Stretch.{textOf}
+use Rattle.record.specs.Schema.{Struct}
+use Rattle.record.specs.Steps.{structsAt}
+use Rattle.record.specs.Owner.{structInSlot, ownershipOrder, ownerOf, Edge, Leads}
+use Rattle.record.specs.References.{typesAt, structCommandsAt, commandInSlot, InSlot}
+use Rattle.record.specs.Marks.{targetAt, referenceAt, Full, Walked}
+use Rattle.record.specs.declared.text.Text.{Text}
+use Rattle.record.specs.declared.command as D
+use Rattle.record.specs.declared.command.Cursor.{Cursor}
+use Rattle.record.specs.declared.lists.StructStep.{StructStep}
+use Rattle.record.specs.declared.lists.StructStep.the-variants.{AStruct}
+use Rattle.record.specs.declared.ownership.Owner.{Owner}
+use Rattle.record.specs.declared.ownership.Owner.the-variants.{Nobody, Owned}
+
+-- marks ------------------------------------------------------------------------------------------------------------------
+
+-- the root in a slot leads to the name
+pub record Through (s p slot n : Str) : Type 0 where
+  pub root : Struct
+  pub fills : structInSlot slot (structsAt s p 0) ≡ some root
+  pub leads : Leads (typesAt s p) (root .name) n
+
+-- a root's walk
+pub record Claimed (s p : Str) (mark : ℕ) (slot : Str) (before after : List ℕ) : Type 0 where
+  pub walked : Walked s p mark (Through s p slot) before after
+  pub full : (root : Struct) → structInSlot slot (structsAt s p 0) ≡ some root → Full s p after (root .name)
+
+-- a field that leads to the name has a mark, and none above this one
+pub record Within (s p : Str) (m : List ℕ) (mark : ℕ) (n : Str) : Type 0 where
+  pub place : ℕ
+  pub leads : targetAt s p place ≡ some n
+  pub marked : getD m place 0 ≡ 0 → ⊥
+  pub most : getD m place 0 ≤ mark
+
+-- the root in a slot leads to whatever a field with its mark leads to, and whatever a reference of its tree leads to has a mark of this or
+-- an earlier root
+pub record Resolved (s p : Str) (m : List ℕ) (mark : ℕ) (slot : Str) : Type 0 where
+  pub sound : (q : ℕ) (n : Str) → getD m q 0 ≡ mark → targetAt s p q ≡ some n → Through s p slot n
+  pub complete : (x n : Str) → Through s p slot x → Edge (typesAt s p) x n → Within s p m mark n
+
+-- the marks of a record: its fields by the first root that leads to them
+pub record OwnerMarks (s p : Str) (m : List ℕ) : Type 0 where
+  pub metadata : Resolved s p m 1 (bytes "metadata")
+  pub runtime : Resolved s p m 2 (bytes "runtime")
+  pub info : Resolved s p m 3 (bytes "info")
+
+-- marks that were filled: the record's where there is one for each byte of the stream, else as they were
+pub record OwnersMarked (s p : Str) (before after : List ℕ) : Type 0 where
+  pub within : length s ≤ length before → OwnerMarks s p after
+  pub beyond : length before < length s → after ≡ before
+
+-- answers ----------------------------------------------------------------------------------------------------------------
+
+-- a field with this mark refers to the name
+pub record Referred (s p : Str) (m : List ℕ) (mark : ℕ) (n : Str) : Type 0 where
+  pub place : ℕ
+  pub inside : place < length m
+  pub is : getD m place 0 ≡ mark
+  pub name : referenceAt s p place ≡ some n
+
+pub record MarkedName (s p : Str) (m : List ℕ) (n : Str) (mark : ℕ) (r : Bool) : Type 0 where
+  pub yes : r ≡ true → Referred s p m mark n
+  pub never : r ≡ false → Referred s p m mark n → ⊥
+
+-- a field with this mark leads to the name
+pub record NamedBy (s p : Str) (m : List ℕ) (mark : ℕ) (n : Str) : Type 0 where
+  pub place : ℕ
+  pub inside : place < length m
+  pub is : getD m place 0 ≡ mark
+  pub leads : targetAt s p place ≡ some n
+
+-- the root is the name's own, or a field with its mark leads to the name
+abbrev pub Claims : Str → Str → List ℕ → Str → ℕ → D.Struct.Struct → Type 0
+Claims s p m n mark root = (textOf p (root .name) ≡ n) ⊎ NamedBy s p m mark n
+
+-- such a root stands in the slot, and its name's stretch is t
+pub record Takes (s p : Str) (m : List ℕ) (n : Str) (mark : ℕ) (filled : StructStep) (t : Text) : Type 0 where
+  pub root : D.Struct.Struct
+  pub after : Cursor
+  pub stands : filled ≡ AStruct root after
+  pub stretch : root .name ≡ t
+  pub claims : Claims s p m n mark root
+
+-- what the marks say of the root in one slot
+pub record OwnerIn (s p : Str) (m : List ℕ) (n slot : Str) (mark : ℕ) (r : Owner) : Type 0 where
+  pub filled : StructStep
+  pub fills : InSlot s p slot filled
+  pub owned : (t : Text) → r ≡ Owned t → Takes s p m n mark filled t
+  pub nobody : r ≡ Nobody → (root : D.Struct.Struct) (after : Cursor) → filled ≡ AStruct root after → Claims s p m n mark root → ⊥
+
+-- the names of the structures that fill these slots, as the stretches that their commands give
+unfoldable pub withStretch : Option D.Struct.Struct → List Text → List Text
+withStretch none l = l
+withStretch (some e) l = e .name ∷ l
+
+unfoldable pub stretchesIn : Str → List D.Struct.Struct → List Str → List Text
+stretchesIn p l [] = []
+stretchesIn p l (x ∷ xs) = withStretch (commandInSlot p x l) (stretchesIn p l xs)
+
+unfoldable pub ownedBy : Option Text → Owner
+ownedBy none = Nobody
+ownedBy (some t) = Owned t
+
+-- the first of these stretches that reads so
+unfoldable pub stretchOf : Str → List Text → Option Str → Owner
+stretchOf p l none = Nobody
+stretchOf p l (some r) = ownedBy (find (λ (t : Text). eqs (textOf p t) r) l)
+
+-- the owner of a name, as the stretch that its root's command gives
+unfoldable pub ownerAt : Str → Str → Str → Owner
+ownerAt s p n = stretchOf p (stretchesIn p (structCommandsAt s 0) ownershipOrder) (ownerOf (typesAt s p) n)
+
+-- the owner's name
+abbrev pub ownerMeant : Str → Owner → Option Str
+ownerMeant p Nobody = none
+ownerMeant p (Owned t) = some (textOf p t)
+
+-- the answer: the owner's name is the definition's, and its stretch is that of the root's own command
+pub record Answered (s p n : Str) (r : Owner) : Type 0 where
+  pub owner : ownerMeant p r ≡ ownerOf (typesAt s p) n
+  pub stretch : r ≡ ownerAt s p n
+
+-- the same where the stream has no more bytes than there is room for, and nobody else
+pub record OwnerFound (room : ℕ) (s p n : Str) (r : Owner) : Type 0 where
+  pub within : length s ≤ room → Answered s p n r
+  pub beyond : room < length s → r ≡ Nobody

@@ -1,0 +1,53 @@
+-- The types of a record in the order of the stream, as the code steps along them, and the first that is vast. Assumes nothing.
+use mathlib.Core.Path.{_≡_}
+use mathlib.Core.List.{List, [], _∷_, _++_}
+use mathlib.Core.Option.{Option, none, some}
+use Prim.Native.Nat.{ℕ, suc, _+_, _-_, _≤_}
+use lib.ListN.{length}
+use Rattle.record.specs.Base.{Str, bytes, orElse, find}
+use Rattle.record.specs.Schema.{Schema, Family}
+use Rattle.record.specs.Commands.{commandsAt}
+use Rattle.record.specs.Lists.{familyOf}
+use Rattle.record.specs.Steps.{fieldsAt}
+use Rattle.record.specs.Shapes.{enumSize, sized, scalarSize, prefix}
+use Rattle.record.specs.Reading.{Rec, Opened, opened, vast, schemaOf}
+use Rattle.record.specs.declared.vast.TypeStep.{TypeStep}
+use Rattle.record.specs.declared.vast.TypeStep.the-variants.{NoType, Plain, Fronted}
+use Rattle.record.specs.declared.vast.Vast.{Vast}
+use Rattle.record.specs.declared.vast.Vast.the-variants.{NoneVast, VastAt}
+
+-- the types that the stream opens from a place on
+unfoldable pub openedFrom : Str → Str → ℕ → List Opened
+openedFrom s p at = opened s p (commandsAt s at)
+
+abbrev pub openedOf : Str → Str → TypeStep → List Opened
+openedOf s p NoType = []
+openedOf s p (Plain at k) = record { place = at; fields = fieldsAt s p (k .at) } ∷ openedFrom s p (k .at)
+openedOf s p (Fronted at f k) = record { place = at; fields = prefix (familyOf p f [] []) ++ fieldsAt s p (k .at) } ∷ openedFrom s p (k .at)
+
+abbrev pub openedLeft : Str → TypeStep → ℕ
+openedLeft s NoType = 0
+openedLeft s (Plain at k) = suc (length s - k .at)
+openedLeft s (Fronted at f k) = suc (length s - k .at)
+
+pub record OpenedFrom (s : Str) (at : ℕ) (r : TypeStep) : Type 0 where
+  pub list : (p : Str) → openedFrom s p at ≡ openedOf s p r
+  pub left : openedLeft s r ≤ length s - at
+
+-- the two fields in front of a family, and where they end
+unfoldable pub discSize : Schema → Family → ℕ
+discSize s m = sized (some (m .discType)) (enumSize (s .enums)) 1
+
+unfoldable pub lenSize : Schema → Family → ℕ
+lenSize s m = scalarSize s (m .lenType)
+
+unfoldable pub frontEnd : Schema → Family → ℕ
+frontEnd s m = discSize s m + lenSize s m
+
+abbrev pub vastAt : Option Opened → Vast
+vastAt none = NoneVast
+vastAt (some t) = VastAt (t .place)
+
+-- the first vast type from a place on
+unfoldable pub firstVast : Rec → ℕ → Vast
+firstVast r at = vastAt (find (vast (schemaOf r)) (openedFrom (r .stream) (r .pool) at))

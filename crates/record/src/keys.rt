@@ -1,0 +1,90 @@
+// The walk over the plugin keys of a record: those of structures' fields in the record's order, then the unstored ones (plugin_keys of the Rust).
+use crate::command::Cursor;
+use crate::command::PluginKey;
+use crate::lists::FieldStep;
+use crate::lists::KeyStep;
+use crate::lists::StructStep;
+use crate::lists::UnstoredStep;
+use crate::lists::next_field;
+use crate::lists::next_key;
+use crate::lists::next_struct;
+use crate::lists::next_unstored;
+ghost use Rattle.record.specs.declared.keys.KeysAt.the-variants.{Structs, Unstored};
+ghost use Rattle.record.specs.Keys.{AllKeys, InFields, PluginKeysFrom};
+
+// What is left of the walk: the structures from a cursor on; the fields from a cursor on and the structures from another; the unstored keys from a cursor on.
+pub enum KeysAt {
+    Structs(Cursor),
+    Fields(Cursor, Cursor),
+    Unstored(Cursor),
+}
+
+pub enum PluginKeyStep {
+    NoPluginKey,
+    APluginKey(PluginKey, KeysAt),
+}
+
+// The whole walk.
+pub fn first_key() -> KeysAt
+    ensures { λ r. ⌜ AllKeys r ⌝ }
+{
+    KeysAt::Structs(Cursor::new())
+}
+
+// The next plugin key of the fields from a cursor on, with the cursor after its field.
+fn next_in_fields(stream: &[u8], from: Cursor) -> KeyStep
+    ensures { λ r. ⌜ InFields (now (stream .entry)) (from .at) r ⌝ }
+{
+    let mut cursor = from;
+    loop {
+        let FieldStep::AField(_, after) = next_field(stream, cursor) else {
+            return KeyStep::NoKey;
+        };
+        if let KeyStep::AKey(e, _) = next_key(stream, after) {
+            return KeyStep::AKey(e, after);
+        }
+        cursor = after;
+    }
+}
+
+// The next unstored key from a cursor on.
+fn next_unstored_key(stream: &[u8], from: Cursor) -> PluginKeyStep
+    ensures { λ r. ⌜ PluginKeysFrom (now (stream .entry)) (Unstored from) r ⌝ }
+{
+    let UnstoredStep::AnUnstored(e, after) = next_unstored(stream, from) else {
+        return PluginKeyStep::NoPluginKey;
+    };
+    PluginKeyStep::APluginKey(e, KeysAt::Unstored(after))
+}
+
+// The next plugin key of the structures from a cursor on, and after them the first unstored one.
+fn next_in_structs(stream: &[u8], from: Cursor) -> PluginKeyStep
+    ensures { λ r. ⌜ PluginKeysFrom (now (stream .entry)) (Structs from) r ⌝ }
+{
+    let mut cursor = from;
+    loop {
+        let StructStep::AStruct(_, after) = next_struct(stream, cursor) else {
+            return next_unstored_key(stream, Cursor::new());
+        };
+        if let KeyStep::AKey(e, inside) = next_in_fields(stream, after) {
+            return PluginKeyStep::APluginKey(e, KeysAt::Fields(inside, after));
+        }
+        cursor = after;
+    }
+}
+
+// The next plugin key, with what is left of the walk after it.
+pub fn next_plugin_key(stream: &[u8], at: KeysAt) -> PluginKeyStep
+    ensures { λ r. ⌜ PluginKeysFrom (now (stream .entry)) at r ⌝ }
+{
+    match at {
+        KeysAt::Structs(from) => next_in_structs(stream, from),
+        KeysAt::Fields(inside, after) => {
+            let KeyStep::AKey(e, rest) = next_in_fields(stream, inside) else {
+                return next_in_structs(stream, after);
+            };
+            PluginKeyStep::APluginKey(e, KeysAt::Fields(rest, after))
+        }
+        KeysAt::Unstored(from) => next_unstored_key(stream, from),
+    }
+}

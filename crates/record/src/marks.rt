@@ -1,0 +1,183 @@
+// The walks of ownership: a type's walk visits its fields, and a field's walk visits the type it names. Marks are lent, one for each byte of the
+// stream: a field is marked where its command begins, by the number of the root that led to it.
+use crate::command::Command;
+use crate::command::Cursor;
+use crate::command::Parent;
+use crate::command::Step;
+use crate::command::field_at;
+use crate::cut;
+use crate::lists::FamilyStep;
+use crate::lists::StructStep;
+use crate::lists::find_family;
+use crate::lists::find_struct;
+use crate::operands::OptText;
+use crate::references::has_slot;
+use crate::references::referenced_type;
+use crate::references::struct_in_slot;
+use crate::text::bytes_of;
+ghost use mathlib.Core.Path.{_≡_};
+ghost use Prim.Native.Nat.{_<_};
+ghost use lib.ListN.{length};
+ghost use Rattle.record.specs.Lists.{optOf};
+ghost use Rattle.record.specs.Owner.{typeFields};
+ghost use Rattle.record.specs.References.{typesAt};
+ghost use Rattle.record.specs.Marks.{bodyAt, PlacesFrom, referenceAt, targetAt, Clear, Ready, TypeWalked, FieldWalked};
+ghost use Rattle.record.specs.Ownership.{Claimed, OwnersMarked};
+
+// Where the fields of a type begin, and whether variants stand between them.
+struct Body {
+    from: Cursor,
+    family: bool,
+}
+
+// The fields of the first structure of a name, else of the first family. A name that nobody declares has none: its fields begin where the
+// stream ends.
+fn type_fields(stream: &[u8], pool: &[u8], name: &[u8]) -> Body
+    ensures { λ r. ⌜ typeFields (typesAt (now (stream .entry)) (now (pool .entry))) (now (name .entry)) ≡ bodyAt (r .family) (now (stream .entry)) (now (pool .entry)) (r .from .at) ⌝ }
+{
+    if let StructStep::AStruct(_, after) = find_struct(stream, pool, Cursor::new(), name) {
+        return Body {
+            from: after,
+            family: false,
+        };
+    }
+    if let FamilyStep::AFamily(_, after) = find_family(stream, pool, Cursor::new(), name) {
+        return Body {
+            from: after,
+            family: true,
+        };
+    }
+    Body {
+        from: Cursor {
+            at: stream.len(),
+            last: 0,
+            parent: Parent::NoParent,
+        },
+        family: false,
+    }
+}
+
+// The place of a field's command, and the cursor after it.
+enum PlaceStep {
+    NoPlace,
+    APlace(usize, Cursor),
+}
+
+// The place of the next field of a type. Plugin keys are passed over, and in a family its variants.
+fn next_place(stream: &[u8], from: Cursor, family: bool) -> PlaceStep
+    ensures { λ r. ⌜ PlacesFrom family (now (stream .entry)) (from .at) r ⌝ }
+{
+    let mut cursor = from;
+    loop {
+        let at = cursor.at;
+        let Step::Next(command, after) = cursor.next(stream) else {
+            return PlaceStep::NoPlace;
+        };
+        match command {
+            Command::Field(_) => {
+                return PlaceStep::APlace(at, after);
+            }
+            Command::PluginKey(_) => {
+                cursor = after;
+            }
+            Command::Variant(_) => {
+                if family {
+                    cursor = after;
+                } else {
+                    return PlaceStep::NoPlace;
+                }
+            }
+            _ => {
+                return PlaceStep::NoPlace;
+            }
+        }
+    }
+}
+
+// The name that the field at a place refers to.
+pub fn reference_at(stream: &[u8], pool: &[u8], place: usize) -> OptText
+    ensures { λ r. ⌜ optOf (now (pool .entry)) r ≡ referenceAt (now (stream .entry)) (now (pool .entry)) place ⌝ }
+{
+    referenced_type(pool, field_at(cut::from(stream, place)))
+}
+
+// The name that the field at a place leads to: no structure with slot text.
+fn target_at(stream: &[u8], pool: &[u8], place: usize) -> OptText
+    ensures { λ r. ⌜ optOf (now (pool .entry)) r ≡ targetAt (now (stream .entry)) (now (pool .entry)) place ⌝ }
+{
+    let OptText::Given(name) = reference_at(stream, pool, place) else {
+        return OptText::Absent;
+    };
+    if has_slot(stream, pool, bytes_of(pool, name)) {
+        return OptText::Absent;
+    }
+    OptText::Given(name)
+}
+
+// Visits a field that has no mark: marks it, and visits the type that it names.
+fn walk_field(stream: &[u8], pool: &[u8], marks: &mut [u8], place: usize, mark: u8)
+    requires { ⌜ Ready (now stream) (now marks) mark × (place < length (now stream)) ⌝ }
+    ensures { λ _. ⌜ FieldWalked (now (stream .entry)) (now (pool .entry)) mark place (now (marks .entry)) (now (marks .exit)) ⌝ }
+{
+    if marks[place] != 0 {
+        return;
+    }
+    marks[place] = mark;
+    let OptText::Given(name) = target_at(stream, pool, place) else {
+        return;
+    };
+    walk_type(stream, pool, marks, bytes_of(pool, name), mark);
+}
+
+// Visits the fields of a type.
+fn walk_type(stream: &[u8], pool: &[u8], marks: &mut [u8], name: &[u8], mark: u8)
+    requires { ⌜ Ready (now stream) (now marks) mark ⌝ }
+    ensures { λ _. ⌜ TypeWalked (now (stream .entry)) (now (pool .entry)) mark (now (name .entry)) (now (marks .entry)) (now (marks .exit)) ⌝ }
+{
+    let body = type_fields(stream, pool, name);
+    let family = body.family;
+    let mut cursor = body.from;
+    loop {
+        let PlaceStep::APlace(place, after) = next_place(stream, cursor, family) else {
+            return;
+        };
+        walk_field(stream, pool, marks, place, mark);
+        cursor = after;
+    }
+}
+
+// Takes every mark away.
+fn clear(marks: &mut [u8])
+    ensures { λ _. ⌜ Clear (now (marks .exit)) ⌝ }
+{
+    let mut i = 0;
+    while i < marks.len() {
+        marks[i] = 0;
+        i += 1;
+    }
+}
+
+// Marks what the structure in a slot leads to and no earlier root has taken.
+fn mark_root(stream: &[u8], pool: &[u8], marks: &mut [u8], slot: &[u8], mark: u8)
+    requires { ⌜ Ready (now stream) (now marks) mark ⌝ }
+    ensures { λ _. ⌜ Claimed (now (stream .entry)) (now (pool .entry)) mark (now (slot .entry)) (now (marks .entry)) (now (marks .exit)) ⌝ }
+{
+    let StructStep::AStruct(root, _) = struct_in_slot(stream, pool, slot) else {
+        return;
+    };
+    let name = root.name;
+    walk_type(stream, pool, marks, bytes_of(pool, name), mark);
+}
+
+// Marks each field that a root leads to by the number of the first such root.
+pub fn mark_owners(stream: &[u8], pool: &[u8], marks: &mut [u8])
+    ensures { λ _. ⌜ OwnersMarked (now (stream .entry)) (now (pool .entry)) (now (marks .entry)) (now (marks .exit)) ⌝ }
+{
+    if marks.len() < stream.len() {
+        return;
+    }
+    clear(marks);
+    mark_root(stream, pool, marks, b"metadata", 1);
+    mark_root(stream, pool, marks, b"runtime", 2);
+    mark_root(stream, pool, marks, b"info", 3);
+}

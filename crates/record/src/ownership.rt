@@ -1,0 +1,89 @@
+// The owner of a name: the first root, in slot order metadata, runtime, info, from which references lead to it.
+use crate::lists::StructStep;
+use crate::marks::mark_owners;
+use crate::marks::reference_at;
+use crate::references::has_slot;
+use crate::references::is_text;
+use crate::references::struct_in_slot;
+use crate::text::Text;
+use crate::text::bytes_of;
+use crate::text::same;
+ghost use lib.ListN.{length};
+ghost use Rattle.record.specs.Ownership.{OwnerMarks, MarkedName, OwnerIn, Answered, OwnerFound};
+
+// The owner's name, as the stretch that the root's own command gives.
+pub enum Owner {
+    Nobody,
+    Owned(Text),
+}
+
+// Whether a field with this mark refers to the name.
+fn marked_name(stream: &[u8], pool: &[u8], marks: &[u8], name: &[u8], mark: u8) -> bool
+    ensures { λ r. ⌜ MarkedName (now (stream .entry)) (now (pool .entry)) (now (marks .entry)) (now (name .entry)) mark r ⌝ }
+{
+    let mut place = 0;
+    while place < marks.len() {
+        if marks[place] != mark {
+            place += 1;
+            continue;
+        }
+        if is_text(pool, reference_at(stream, pool, place), name) {
+            return true;
+        }
+        place += 1;
+    }
+    false
+}
+
+// The root in a slot, where it is the name's or has marked a field that leads to the name.
+fn owner_in(stream: &[u8], pool: &[u8], marks: &[u8], name: &[u8], slot: &[u8], mark: u8) -> Owner
+    ensures { λ r. ⌜ OwnerIn (now (stream .entry)) (now (pool .entry)) (now (marks .entry)) (now (name .entry)) (now (slot .entry)) mark r ⌝ }
+{
+    let StructStep::AStruct(root, _) = struct_in_slot(stream, pool, slot) else {
+        return Owner::Nobody;
+    };
+    let own = root.name;
+    if same(bytes_of(pool, own), name) {
+        return Owner::Owned(own);
+    }
+    if has_slot(stream, pool, name) {
+        return Owner::Nobody;
+    }
+    if marked_name(stream, pool, marks, name, mark) {
+        return Owner::Owned(own);
+    }
+    Owner::Nobody
+}
+
+// The owner of a name, from the marks of the record: many names may be asked of one walk.
+pub fn owner_among(stream: &[u8], pool: &[u8], marks: &[u8], name: &[u8]) -> Owner
+    requires { ⌜ OwnerMarks (now stream) (now pool) (now marks) ⌝ }
+    ensures { λ r. ⌜ Answered (now (stream .entry)) (now (pool .entry)) (now (name .entry)) r ⌝ }
+{
+    if let Owner::Owned(t) = owner_in(stream, pool, marks, name, b"metadata", 1) {
+        return Owner::Owned(t);
+    }
+    if let Owner::Owned(t) = owner_in(stream, pool, marks, name, b"runtime", 2) {
+        return Owner::Owned(t);
+    }
+    owner_in(stream, pool, marks, name, b"info", 3)
+}
+
+// The same on marks that are lent for one walk.
+fn owner_by(stream: &[u8], pool: &[u8], marks: &mut [u8], name: &[u8]) -> Owner
+    ensures { λ r. ⌜ OwnerFound (length (now (marks .entry))) (now (stream .entry)) (now (pool .entry)) (now (name .entry)) r ⌝ }
+{
+    if marks.len() < stream.len() {
+        return Owner::Nobody;
+    }
+    mark_owners(stream, pool, marks);
+    owner_among(stream, pool, marks, name)
+}
+
+// The owner of a name. A stream of more than 32,768 bytes is no record, and nothing in it is owned.
+pub fn owner_of(stream: &[u8], pool: &[u8], name: &[u8]) -> Owner
+    ensures { λ r. ⌜ OwnerFound 32768 (now (stream .entry)) (now (pool .entry)) (now (name .entry)) r ⌝ }
+{
+    let mut marks = [0u8; 32768];
+    owner_by(stream, pool, &mut marks, name)
+}

@@ -1,0 +1,83 @@
+// What a field refers to, and the slots of structures: referenced_type, slot_of and struct_in_slot of the Rust.
+use crate::command::Command;
+use crate::command::Cursor;
+use crate::command::Field;
+use crate::command::Step;
+use crate::kind::Kind;
+use crate::kind::kind_of;
+use crate::lists::StructStep;
+use crate::lists::find_struct;
+use crate::operands::OptText;
+use crate::text::bytes_of;
+use crate::text::same;
+ghost use mathlib.Core.Path.{_≡_};
+ghost use Rattle.record.specs.Base.{isText};
+ghost use Rattle.record.specs.Lists.{optOf};
+ghost use Rattle.record.specs.Steps.{structsAt, structIn};
+ghost use Rattle.record.specs.Owner.{hasSlot};
+ghost use Rattle.record.specs.References.{typesAt, Refers, slotIn, InSlot};
+
+// The name that a field refers to, by its kind.
+pub fn referenced_type(pool: &[u8], f: Field) -> OptText
+    ensures { λ r. ⌜ Refers (now (pool .entry)) f r ⌝ }
+{
+    let word = f.kind;
+    let kind = kind_of(bytes_of(pool, word));
+    match kind {
+        Kind::StructPtr | Kind::TaggedFamPtr | Kind::SimpleFamPtr => f.type_name,
+        Kind::StructArrayPtr | Kind::StructPtrArrayPtr => f.element,
+        _ => OptText::Absent,
+    }
+}
+
+// The slot text of the first structure of a name.
+pub fn slot_of(stream: &[u8], pool: &[u8], name: &[u8]) -> OptText
+    ensures { λ r. ⌜ optOf (now (pool .entry)) r ≡ slotIn (structIn (now (name .entry)) (structsAt (now (stream .entry)) (now (pool .entry)) 0)) ⌝ }
+{
+    let StructStep::AStruct(e, _) = find_struct(stream, pool, Cursor::new(), name) else {
+        return OptText::Absent;
+    };
+    e.generation_slot
+}
+
+// Whether the first structure of a name has slot text, whatever it says.
+pub fn has_slot(stream: &[u8], pool: &[u8], name: &[u8]) -> bool
+    ensures { λ r. ⌜ r ≡ hasSlot (typesAt (now (stream .entry)) (now (pool .entry))) (now (name .entry)) ⌝ }
+{
+    let slot = slot_of(stream, pool, name);
+    let OptText::Given(_) = slot else {
+        return false;
+    };
+    true
+}
+
+// Whether a text is given and is this one.
+pub fn is_text(pool: &[u8], given: OptText, text: &[u8]) -> bool
+    ensures { λ r. ⌜ r ≡ isText (optOf (now (pool .entry)) given) (now (text .entry)) ⌝ }
+{
+    let OptText::Given(t) = given else {
+        return false;
+    };
+    same(bytes_of(pool, t), text)
+}
+
+// The first structure with this slot text.
+pub fn struct_in_slot(stream: &[u8], pool: &[u8], slot: &[u8]) -> StructStep
+    ensures { λ r. ⌜ InSlot (now (stream .entry)) (now (pool .entry)) (now (slot .entry)) r ⌝ }
+{
+    let mut cursor = Cursor::new();
+    loop {
+        let Step::Next(command, after) = cursor.next(stream) else {
+            return StructStep::NoStruct;
+        };
+        let Command::Struct(e) = command else {
+            cursor = after;
+            continue;
+        };
+        let given = e.generation_slot;
+        if is_text(pool, given, slot) {
+            return StructStep::AStruct(e, after);
+        }
+        cursor = after;
+    }
+}

@@ -1,0 +1,36 @@
+// Scalar words: a table of bytes, rows of nine. A row is a word, filled up with zeros to eight bytes, and its size.
+use crate::cut::before_byte;
+use crate::cut::from;
+use crate::cut::upto;
+use crate::text::same;
+ghost use mathlib.Core.Path.{_≡_};
+ghost use lib.ListN.{take, drop};
+ghost use Rattle.record.specs.Scalars.{beforeZero, scalarsOf, primSize};
+
+// The word of the row at a place.
+pub fn row_word(rows: &[u8], at: usize) -> &[u8]
+    ensures { λ r. ⌜ now r ≡ beforeZero (take 8 (drop at (now (rows .entry)))) ⌝ }
+{
+    before_byte(upto(from(rows, at), 8), 0)
+}
+
+// A byte as a size. A function, because a cast of a byte in place asks a proof that it fits.
+fn wide(b: u8) -> u32
+    ensures { λ r. ⌜ r ≡ b ⌝ }
+{
+    b as u32
+}
+
+// The size of the first row of a word, and 0 where the table has no such row. A last part shorter than nine is no row.
+pub fn prim_size(rows: &[u8], word: &[u8]) -> u32
+    ensures { λ r. ⌜ r ≡ primSize (scalarsOf (now (rows .entry))) (now (word .entry)) ⌝ }
+{
+    let mut at = 0;
+    while 9 <= rows.len() - at {
+        if same(row_word(rows, at), word) {
+            return wide(rows[at + 8]);
+        }
+        at += 9;
+    }
+    0
+}

@@ -1,0 +1,131 @@
+// Number 9: the types of a record in the order of the stream, and the first one with a field that ends past the limit.
+use crate::command::Command;
+use crate::command::Cursor;
+use crate::command::Family;
+use crate::command::Step;
+use crate::lists::FieldStep;
+use crate::lists::next_field;
+use crate::operands::OptText;
+use crate::sizes::LIMIT;
+use crate::sizes::enum_bytes;
+use crate::sizes::scalar_bytes;
+use crate::sizes::shape_size;
+use crate::sizes::sum;
+use crate::sizes::wide;
+ghost use mathlib.Core.Path.{_≡_};
+ghost use mathlib.Core.List.{[], _++_};
+ghost use Prim.Native.Nat.{_≤_};
+ghost use Rattle.record.specs.Base.{any, find};
+ghost use Rattle.record.specs.Scalars.{scalarsOf};
+ghost use Rattle.record.specs.Lists.{familyOf};
+ghost use Rattle.record.specs.Steps.{fieldsAt};
+ghost use Rattle.record.specs.Shapes.{places, prefix, limit, capped};
+ghost use Rattle.record.specs.Reading.{rec, schemaOf, large};
+ghost use Rattle.record.specs.Vast.{OpenedFrom, frontEnd, firstVast};
+
+// A type as the stream opens it: the place of its command, a family's front, and the cursor at its fields.
+pub enum TypeStep {
+    NoType,
+    Plain(usize, Cursor),
+    Fronted(usize, Family, Cursor),
+}
+
+// The next structure, family or variant of the record from a cursor on.
+pub fn next_type(stream: &[u8], from: Cursor) -> TypeStep
+    ensures { λ r. ⌜ OpenedFrom (now (stream .entry)) (from .at) r ⌝ }
+{
+    let mut cursor = from;
+    loop {
+        let at = cursor.at;
+        let Step::Next(command, after) = cursor.next(stream) else {
+            return TypeStep::NoType;
+        };
+        match command {
+            Command::Struct(_) => {
+                return TypeStep::Plain(at, after);
+            }
+            Command::Variant(_) => {
+                return TypeStep::Plain(at, after);
+            }
+            Command::Family(f) => {
+                return TypeStep::Fronted(at, f, after);
+            }
+            _ => {
+                cursor = after;
+            }
+        }
+    }
+}
+
+// Where the front of a family ends: its discriminant and its length field.
+pub fn front_end(rows: &[u8], stream: &[u8], pool: &[u8], f: Family) -> u64
+    ensures { λ r. ⌜ r ≡ capped (frontEnd (schemaOf (rec (now (stream .entry)) (now (pool .entry)) (scalarsOf (now (rows .entry))))) (familyOf (now (pool .entry)) f [] [])) ⌝ }
+{
+    let discriminant = f.discriminant_type;
+    let length = f.param_len_type;
+    let first = enum_bytes(stream, pool, OptText::Given(discriminant));
+    let second = scalar_bytes(rows, pool, length);
+    sum(wide(first), wide(second))
+}
+
+// Whether one of the fields at a cursor, the first of them at this offset, ends past the limit.
+fn ends_past(rows: &[u8], stream: &[u8], pool: &[u8], from: Cursor, start: u64) -> bool
+    requires { ⌜ start ≤ limit ⌝ }
+    ensures { λ r. ⌜ r ≡ any large (places (schemaOf (rec (now (stream .entry)) (now (pool .entry)) (scalarsOf (now (rows .entry))))) start (fieldsAt (now (stream .entry)) (now (pool .entry)) (from .at))) ⌝ }
+{
+    let mut cursor = from;
+    let mut offset = start;
+    loop {
+        let FieldStep::AField(f, after) = next_field(stream, cursor) else {
+            return false;
+        };
+        let end = sum(offset, shape_size(rows, stream, pool, f));
+        if LIMIT < end {
+            return true;
+        }
+        offset = end;
+        cursor = after;
+    }
+}
+
+pub enum Vast {
+    NoneVast,
+    VastAt(usize),
+}
+
+// The place of the first type that is vast.
+pub fn first_vast(rows: &[u8], stream: &[u8], pool: &[u8]) -> Vast
+    ensures { λ r. ⌜ r ≡ firstVast (rec (now (stream .entry)) (now (pool .entry)) (scalarsOf (now (rows .entry)))) 0 ⌝ }
+{
+    let mut cursor = Cursor::new();
+    loop {
+        match next_type(stream, cursor) {
+            TypeStep::NoType => {
+                return Vast::NoneVast;
+            }
+            TypeStep::Plain(at, after) => {
+                if ends_past(rows, stream, pool, after, 0) {
+                    return Vast::VastAt(at);
+                }
+                cursor = after;
+            }
+            TypeStep::Fronted(at, f, after) => {
+                if family_ends_past(rows, stream, pool, f, after) {
+                    return Vast::VastAt(at);
+                }
+                cursor = after;
+            }
+        }
+    }
+}
+
+// The same of a family's front and its common fields.
+fn family_ends_past(rows: &[u8], stream: &[u8], pool: &[u8], f: Family, from: Cursor) -> bool
+    ensures { λ r. ⌜ r ≡ any large (places (schemaOf (rec (now (stream .entry)) (now (pool .entry)) (scalarsOf (now (rows .entry))))) 0 (prefix (familyOf (now (pool .entry)) f [] []) ++ fieldsAt (now (stream .entry)) (now (pool .entry)) (from .at))) ⌝ }
+{
+    let start = front_end(rows, stream, pool, f);
+    if LIMIT < start {
+        return true;
+    }
+    ends_past(rows, stream, pool, from, start)
+}

@@ -1,0 +1,137 @@
+// Replays the oracle's answers of owners, data/owners: each vector is a stream, a pool and a name (a length of four bytes, little-endian, and the
+// bytes), the answer (a byte: 0 none, 1 an owner, 2 a refused record) and two numbers of four bytes (the start and the length of the owner's name;
+// the refusal's number and place; 0 and 0). Prints how many there are and how many differ.
+use parts::read_byte;
+use parts::read_number;
+use parts::read_part;
+use parts::report;
+use record::ownership::Owner;
+use record::ownership::owner_of;
+use record::read::Outcome;
+use record::read::read_record;
+use record::refusal::Side;
+
+enum Turn {
+    Same,
+    Differs,
+    End,
+}
+
+// An answer as the oracle writes it.
+struct Answer {
+    kind: usize,
+    first: usize,
+    second: usize,
+}
+
+fn owner_answer(stream: &[u8], pool: &[u8], name: &[u8]) -> Answer {
+    let Owner::Owned(t) = owner_of(stream, pool, name) else {
+        return Answer {
+            kind: 0,
+            first: 0,
+            second: 0,
+        };
+    };
+    Answer {
+        kind: 1,
+        first: t.start as usize,
+        second: t.len as usize,
+    }
+}
+
+// A refused record answers its refusal, whatever the name.
+fn reply(stream: &[u8], pool: &[u8], name: &[u8]) -> Answer {
+    let outcome = read_record(
+        Side::Current,
+        b"char\x00\x00\x00\x00\x01u16\x00\x00\x00\x00\x00\x02u32\x00\x00\x00\x00\x00\x04u8\x00\x00\x00\x00\x00\x00\x01",
+        stream,
+        pool,
+    );
+    let Outcome::Refused(refusal, place) = outcome else {
+        return owner_answer(stream, pool, name);
+    };
+    Answer {
+        kind: 2,
+        first: refusal.number() as usize,
+        second: place,
+    }
+}
+
+fn same_answer(a: Answer, kind: usize, first: usize, second: usize) -> bool {
+    if a.kind != kind {
+        return false;
+    }
+    if a.first != first {
+        return false;
+    }
+    a.second == second
+}
+
+fn judge(
+    stream: &[u8],
+    pool: &[u8],
+    name: &[u8],
+    kind: usize,
+    first: usize,
+    second: usize,
+) -> Turn {
+    if same_answer(reply(stream, pool, name), kind, first, second) {
+        Turn::Same
+    } else {
+        Turn::Differs
+    }
+}
+
+fn one(fd: i32) -> Turn {
+    let mut stream = [0u8; 40000];
+    let mut pool = [0u8; 40000];
+    let mut name = [0u8; 1024];
+    let s = read_part(fd, &mut stream);
+    let p = read_part(fd, &mut pool);
+    let n = read_part(fd, &mut name);
+    let kind = read_byte(fd);
+    let first = read_number(fd);
+    let second = read_number(fd);
+    if !second.whole {
+        return Turn::End;
+    }
+    let a = s.len;
+    let b = p.len;
+    let c = n.len;
+    judge(
+        &stream[..a],
+        &pool[..b],
+        &name[..c],
+        kind.len,
+        first.len,
+        second.len,
+    )
+}
+
+fn replay(fd: i32) {
+    let mut turns: u64 = 0;
+    let mut wrong: u64 = 0;
+    while turns < 1000000 {
+        match one(fd) {
+            Turn::Same => {}
+            Turn::Differs => {
+                wrong += 1;
+            }
+            Turn::End => {
+                break;
+            }
+        }
+        turns += 1;
+    }
+    report(turns, wrong);
+}
+
+fn main() {
+    let fd = os::open_read(b"owners");
+    if fd < 0 {
+        os::fail(b"owners");
+        return;
+    }
+    replay(fd);
+    libc::close(fd);
+}

@@ -1,0 +1,140 @@
+//! The words that generated records are made of.
+
+use crate::rng::Rng;
+pub use crate::schema::POINTER_KINDS as POINTERS;
+
+/// The pointers that lead an ownership walk on.
+pub const REFERENCES: [&str; 5] = [
+    "struct_ptr",
+    "tagged_fam_ptr",
+    "simple_fam_ptr",
+    "struct_array_ptr",
+    "struct_ptr_array_ptr",
+];
+
+/// Words near the sixteen kinds, and far from them.
+pub const STRANGE_KINDS: [&str; 12] = [
+    "",
+    "Scalar",
+    "scalar ",
+    " scalar",
+    "padding ",
+    "Padding",
+    "padding u8",
+    "inline_array3d",
+    "inline_arra",
+    "struct_pt",
+    "strin",
+    "u8",
+];
+
+pub const PRIMITIVES: [&str; 4] = ["u8", "char", "u16", "u32"];
+
+/// Words near the four primitives, all of size 0.
+pub const STRANGE_TYPES: [&str; 7] = ["u64", "", "U8", "u8 ", "i8", "u1", "nobody"];
+
+pub const SLOTS: [&str; 3] = ["metadata", "runtime", "info"];
+
+/// Slot texts that stop a walk and root nothing.
+pub const OTHER_SLOTS: [&str; 6] = ["", "other", "Metadata", "metadata ", "inf", "runtime2"];
+
+/// Texts without `release_parts`.
+pub const BAD_RELEASES: [&str; 16] = [
+    "",
+    "00.8.0",
+    "0.08.0",
+    "0.8.00",
+    "4294967296.0.0",
+    "0.4294967296.0",
+    "0.0.4294967296",
+    "0.8",
+    "0.8.0.0",
+    "0..8",
+    ".8.0",
+    " 0.8.0",
+    "0.8.0 ",
+    "+1.8.0",
+    "a.b.c",
+    "99999999999999999999.0.0",
+];
+
+/// Releases of the copy and of the current record, the first below the second.
+pub const RISING_RELEASES: [(&str, &str); 12] = [
+    ("0.8.0", "0.9.0"),
+    ("0.9.0", "0.10.0"),
+    ("0.7.2", "0.8.0"),
+    ("0.9.9", "0.10.0"),
+    ("0.0.0", "0.0.1"),
+    ("1.2.3", "1.2.4"),
+    ("1.2.9", "1.10.0"),
+    ("1.99.99", "2.0.0"),
+    ("9.0.0", "10.0.0"),
+    ("4294967295.0.0", "4294967295.0.1"),
+    ("0.0.4294967295", "0.1.0"),
+    ("0.8.0", "4294967295.4294967295.4294967295"),
+];
+
+/// Current releases that pass beside a copy without one.
+pub const LATE_RELEASES: [&str; 4] = ["0.8.0", "0.8.1", "0.10.0", "1.0.0"];
+
+/// Current releases that a copy without one refuses.
+pub const EARLY_RELEASES: [&str; 12] = [
+    "0.7.9",
+    "0.0.0",
+    "0.7.4294967295",
+    "0.1.10",
+    "0.6.0",
+    "0.5.2",
+    "0.7.10",
+    "0.0.4294967295",
+    "0.3.3",
+    "0.2.80",
+    "0.0.8",
+    "0.4.4",
+];
+
+/// Texts of first releases, none of them a current release above.
+pub const OLD_DATES: [&str; 8] = [
+    "0.5.0", "0.6.1", "0.7.0", "0.09.0", "never", "", "0.8.0 ", "00.9.0",
+];
+
+const FRONTS: [&str; 14] = [
+    "n", "t", "tile", "skip", "gap", "pos", "plate", "well", "focus", "stack", "a b", "x.y", "_",
+    "N",
+];
+
+/// A name no other draw with another number gives. Rarely it is long.
+pub fn name(rng: &mut Rng, number: usize) -> String {
+    let front = match rng.below(200) {
+        0 => "long".repeat(rng.between(10, 61)),
+        _ => rng.word(&FRONTS),
+    };
+    format!("{front}{number}")
+}
+
+/// Integers at and about the limits of 8, 32 and 64 bits.
+pub fn integer(rng: &mut Rng) -> i64 {
+    const EDGES: [i64; 12] = [
+        0,
+        1,
+        -1,
+        5,
+        255,
+        256,
+        4_294_967_295,
+        4_294_967_296,
+        -4_294_967_296,
+        i64::MAX,
+        i64::MIN,
+        i64::MIN + 1,
+    ];
+    match rng.chance(60) {
+        true => rng.below(20) as i64,
+        false => *rng.pick(&EDGES),
+    }
+}
+
+/// A date that is not the current release.
+pub fn old_date(rng: &mut Rng) -> String {
+    rng.word(&OLD_DATES)
+}

@@ -1,0 +1,27 @@
+//! The comparison part of metadata-gen, built unchanged, as the judge of its
+//! port: answers of the check, the list and the owner call, and the records to
+//! ask them of.
+
+include!(concat!(env!("OUT_DIR"), "/metadata_gen.rs"));
+
+pub mod answers;
+pub mod commands;
+pub mod extent;
+pub mod generate;
+mod items;
+pub mod json;
+pub mod keys_gen;
+pub mod model;
+pub mod operands;
+pub mod parts;
+pub mod reader;
+pub mod rng;
+pub mod samples;
+pub mod shrink;
+pub mod stats;
+pub mod vectors;
+pub mod verdicts;
+pub mod visit;
+
+pub use answers::{Answer, Owner, check, list, owner};
+pub use model::Side;

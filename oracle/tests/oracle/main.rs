@@ -1,0 +1,10 @@
+//! Tests of the oracle. Those of a numbered finding begin with its letter and
+//! number.
+
+mod common;
+mod files;
+mod generator;
+mod lists;
+mod passes;
+mod reader;
+mod verdicts;
