@@ -2,7 +2,7 @@
 use mathlib.Core.Path.{_≡_, refl, sym, ap, subst, _∙_}
 use mathlib.Core.List.{List, [], _∷_, List·Memᴰ, List·Memᴰ·head, List·Memᴰ·tail, List·Memᴰ·cases-cons, List·Memᴰ·not-nil}
 use mathlib.Core.Option.{Option, none, some}
-use mathlib.Core.Bool.{Bool, true, false, cond}
+use mathlib.Core.Bool.{Bool, true, false}
 use mathlib.Core.Logic.{_⊎_, inl, inr}
 use Prim.Native.Nat.{ℕ, zero, suc, _+_, _*_, _≤_, _<_}
 use native.Mathlib.Omega.{arith}
@@ -13,22 +13,19 @@ use borrow.Author.Tests.{eq-eqb, ne-eqb, eqb-true, eqb-false, ltb-true, ltb-fals
 use Rattle.record.specs.Base.{Str}
 use Rattle.record.specs.Stretch.{textOf}
 use Rattle.record.specs.Schema.{Field, Key}
-use Rattle.record.specs.Kind.{kindOf}
 use Rattle.record.specs.Commands.{fieldAt}
 use Rattle.record.specs.Lists.{optOf, fieldOf}
 use Rattle.record.specs.Steps.{fieldKeyAt}
-use Rattle.record.specs.Owner.{referenced, referencedAs, typeFields, Edge, Leads, here, along}
+use Rattle.record.specs.Owner.{referenced, typeFields, Edge, Leads, here, along}
 use Rattle.record.specs.References.{typesAt}
 use Rattle.record.specs.Marks.{bodyAt, bodyOf, PlacesFrom, referenceAt, entered, targetAt, placePast, Clear, unseen, Ready, Named, Full, Fresh, Walked, TypeWalked, Beyond, FieldWalked}
 use Rattle.record.specs.declared.text.Text.{Text}
 use Rattle.record.specs.declared.operands.OptText.{OptText}
 use Rattle.record.specs.declared.operands.OptText.the-variants.{Absent, Given}
-use Rattle.record.specs.declared.kind.Kind.{Kind}
-use Rattle.record.specs.declared.kind.Kind.the-variants as K
-use Rattle.record.specs.declared.command as D
 use Rattle.record.specs.declared.command.Cursor.{Cursor}
 use Rattle.record.specs.declared.marks.PlaceStep.{PlaceStep}
 use Rattle.record.specs.declared.marks.PlaceStep.the-variants.{NoPlace, APlace}
+use Rattle.record.proofs.ReferenceLaws.{referenced-key}
 use Rattle.record.proofs.PlaceLaws.{entered-is, is-entered}
 
 -- clear ------------------------------------------------------------------------------------------------------------------
@@ -69,31 +66,10 @@ unseen-set (x ∷ xs) zero v h e r =
     simp (eq-eqb x 0 e, ne-eqb v 0 ne) (omega arith)
 unseen-set (x ∷ xs) (suc i) v h e r = let q = unseen-set xs i v (omega arith) e r in omega arith
 
--- what a field refers to does not depend on its plugin key
-key-free : (k : Kind) (f g : Field) → f .typ ≡ g .typ → f .element ≡ g .element → referencedAs k f ≡ referencedAs k g
-unfolding referencedAs
-key-free K.Scalar f g t e = refl
-key-free K.Enum f g t e = refl
-key-free K.TypeAlias f g t e = refl
-key-free K.Bitfield f g t e = refl
-key-free K.InlineArray f g t e = refl
-key-free K.InlineArray2d f g t e = refl
-key-free K.CstrPtr f g t e = refl
-key-free K.StructPtr f g t e = t
-key-free K.StructArrayPtr f g t e = e
-key-free K.StructPtrArrayPtr f g t e = e
-key-free K.TaggedFamPtr f g t e = t
-key-free K.SimpleFamPtr f g t e = t
-key-free K.OpaquePtr f g t e = refl
-key-free K.FnPtr f g t e = refl
-key-free K.Padding f g t e = refl
-key-free K.Text f g t e = refl
-key-free K.Other f g t e = refl
-
 module _ (s p : Str) where
   target-is : (q : ℕ) (k : Option Key) → entered (typesAt s p) (referenced (fieldOf p (fieldAt (drop q s)) k)) ≡ targetAt s p q
-  unfolding targetAt referenceAt referenced
-  target-is q k = ap (entered (typesAt s p)) (key-free (kindOf (textOf p (fieldAt (drop q s) .kind))) _ _ refl refl)
+  unfolding targetAt referenceAt
+  target-is q k = ap (entered (typesAt s p)) (referenced-key p (fieldAt (drop q s)) k none)
 
   -- one reference, and then where it leads
   leads-after : {a b c : Str} → Edge (typesAt s p) a b → Leads (typesAt s p) b c → Leads (typesAt s p) a c

@@ -1,10 +1,10 @@
--- From the marks of the roots to the owner of a name. Assumes nothing.
+-- From the marks of a record to the owner of a name. Assumes nothing.
 use mathlib.Core.Path.{_≡_, refl, sym, ap, subst, _∙_}
 use mathlib.Core.List.{List, [], _∷_}
 use mathlib.Core.Option.{Option, none, some}
-use mathlib.Core.Bool.{Bool, true, false, cond, false≢true}
-use mathlib.Core.Logic.{_⊎_, inl, inr}
-use Prim.Native.Nat.{ℕ, zero, suc, _+_, _≤_, _<_}
+use mathlib.Core.Bool.{Bool, true, false, false≢true}
+use mathlib.Core.Logic.{inl, inr}
+use Prim.Native.Nat.{ℕ, suc, _+_, _≤_, _<_}
 use native.Mathlib.Omega.{arith}
 use lib.ListN.{length, getD, List·getD-eq-default}
 use lib.Dec.{eqb, leb, ltb}
@@ -14,10 +14,10 @@ use Rattle.record.specs.Stretch.{textOf}
 use Rattle.record.specs.Schema.{Struct}
 use Rattle.record.specs.Lists.{optOf, structOf}
 use Rattle.record.specs.Steps.{structsAt, fieldsAt, structFound}
-use Rattle.record.specs.Owner.{Types, hasSlot, structInSlot, withName, rootsIn, ownershipOrder, roots, ownerOf, Edge, Leads, here, along, First, now, later}
-use Rattle.record.specs.References.{typesAt, structCommandsAt, commandInSlot, commandFound, InSlot}
-use Rattle.record.specs.Marks.{referenceAt, targetAt, Clear, Named, Full, Fresh, Walked, TypeWalked}
-use Rattle.record.specs.Ownership.{Through, Claimed, Within, Resolved, OwnerMarks, OwnersMarked, Referred, MarkedName, NamedBy, Claims, Takes, OwnerIn, withStretch, stretchesIn, ownedBy, stretchOf, ownerAt, ownerMeant, Answered, OwnerFound}
+use Rattle.record.specs.Owner.{Types, hasSlot, structInSlot, withName, rootsIn, ownershipOrder, roots, ownerOf, Leads, here, along, First, now, later}
+use Rattle.record.specs.References.{typesAt, structCommandsAt, commandFound, InSlot}
+use Rattle.record.specs.Marks.{referenceAt, targetAt}
+use Rattle.record.specs.Ownership.{Within, Resolved, OwnerMarks, OwnersMarked, MarkedName, NamedBy, Claims, OwnerIn, withStretch, stretchesIn, ownedBy, stretchOf, ownerAt, Answered, OwnerFound}
 use Rattle.record.specs.declared.text.Text.{Text}
 use Rattle.record.specs.declared.operands.OptText.{OptText}
 use Rattle.record.specs.declared.command as D
@@ -29,108 +29,8 @@ use Rattle.record.specs.declared.ownership.Owner.the-variants.{Nobody, O
 use Rattle.record.proofs.Basics.{eqs→eq, eqs-refl}
 use Rattle.record.proofs.ListLaws.{find-hit, find-miss}
 use Rattle.record.proofs.Walk.{owner-is-first}
+use Rattle.record.proofs.RootLaws.{none≢some}
 use Rattle.record.proofs.PlaceLaws.{entered-is, is-entered}
-use Rattle.record.proofs.MarkLaws.{marked-stays, full-stays, walked-none, walked-into}
-
-none≢some : {A : Type 0} {a : A} → none ≡ some a → ⊥
-none≢some e = let z : _≡_ {A = ℕ} 0 1 = cc in omega arith
-
--- a root's walk ----------------------------------------------------------------------------------------------------------
-
-module _ (s p slot : Str) (mark : ℕ) (r : StructStep) (i : InSlot s p slot r) (m : List ℕ) where
-  pub root-none : r ≡ NoStruct → Claimed s p mark slot m m
-  root-none e = record { walked = walked-none s p; full = λ root f. absurd (none≢some (sym (i .struct ∙ ap (structFound s p) e) ∙ f)) }
-
-  pub root-walked : (root : D.Struct.Struct) (k : Cursor) (w : Str) (after : List ℕ) → r ≡ AStruct root k → w ≡ textOf p (root .name) → TypeWalked s p mark w m after → Claimed s p mark slot m after
-  root-walked root k w after e h t = record {
-    walked = walked-into s p (λ n l. record { root = there; fills = fills; leads = subst (λ (x : Str). Leads (typesAt s p) x n) h l }) (t .walked);
-    full = λ x f. subst (Full s p after) (h ∙ ap (λ (y : Struct). y .name) (let z : there ≡ x = same x f in z)) (t .full);
-  }
-    where
-      there : Struct
-      there = structOf p root (fieldsAt s p (k .at))
-
-      fills : structInSlot slot (structsAt s p 0) ≡ some there
-      fills = i .struct ∙ ap (structFound s p) e
-
-      same : (x : Struct) → structInSlot slot (structsAt s p 0) ≡ some x → there ≡ x
-      same x f = let g : some there ≡ some x = sym fills ∙ f in cc
-
-pub ruleset root-laws = (root-none, root-walked)
-
--- the roots one after the other ------------------------------------------------------------------------------------------
-
--- after the first k roots: what a marked field leads to is full, and no mark is above k
-record Settled (s p : Str) (m : List ℕ) (k : ℕ) : Type 0 where
-  closed : (q : ℕ) → (getD m q 0 ≡ 0 → ⊥) → (n : Str) → targetAt s p q ≡ some n → Full s p m n
-  most : (q : ℕ) → getD m q 0 ≤ k
-
-module _ (s p : Str) where
-  settled-none : {m : List ℕ} → Clear m → Settled s p m 0
-  settled-none c = record { closed = λ q h. absurd (h (c .none q)); most = λ q. let e = c .none q in omega arith }
-
-  -- where references lead from a full name, all is full
-  full-along : {m : List ℕ} {k : ℕ} → Settled s p m k → {a b : Str} → Full s p m a → Leads (typesAt s p) a b → Full s p m b
-  full-along g f (here e) = subst (Full s p _) e f
-  full-along g f (along l e) = let n = full-along g f l .all _ e in g .closed (n .place) (n .marked) _ (n .leads)
-
-  module _ {m after : List ℕ} {k : ℕ} {slot : Str} (g : Settled s p m k) (c : Claimed s p (suc k) slot m after) where
-    settled-next : Settled s p after (suc k)
-    settled-next = record { closed = λ q h. closed q (c .walked .closed q h); most = λ q. most q (c .walked .each q) }
-      where
-        closed : (q : ℕ) → (getD m q 0 ≡ 0 → ⊥) ⊎ ((n : Str) → targetAt s p q ≡ some n → Full s p after n) → (n : Str) → targetAt s p q ≡ some n → Full s p after n
-        closed q (inl h) n t = full-stays s p (c .walked) n (g .closed q h n t)
-        closed q (inr f) n t = f n t
-
-        most : (q : ℕ) → (getD after q 0 ≡ getD m q 0) ⊎ Fresh s p (suc k) (Through s p slot) m after q → getD after q 0 ≤ suc k
-        most q (inl e) = let l = g .most q in omega arith
-        most q (inr f) = let e = f .is in omega arith
-
-    resolved-next : Resolved s p after (suc k) slot
-    resolved-next = record {
-      sound = λ q n e t. sound q n e t (c .walked .each q);
-      complete = λ x n t e.
-          let f = full-along settled-next (c .full (t .root) (t .fills)) (t .leads) .all n e in
-          record { place = f .place; leads = f .leads; marked = f .marked; most = settled-next .most (f .place) };
-    }
-      where
-        sound : (q : ℕ) (n : Str) → getD after q 0 ≡ suc k → targetAt s p q ≡ some n → (getD after q 0 ≡ getD m q 0) ⊎ Fresh s p (suc k) (Through s p slot) m after q → Through s p slot n
-        sound q n e t (inl h) = absurd (let l = g .most q in omega arith)
-        sound q n e t (inr f) = f .into n t
-
-  -- a later root leaves it so
-  resolved-stays : {m after : List ℕ} {j k : ℕ} {slot : Str} {R : Str → Type 0} → j < k → Walked s p k R m after → Resolved s p m j slot → Resolved s p after j slot
-  resolved-stays {m} {after} {j} {k} {slot} {R} l w r = record {
-    sound = λ q n e t. sound q n e t (w .each q);
-    complete = λ x n t e. let f = r .complete x n t e in complete n f (w .each (f .place));
-  }
-    where
-      sound : (q : ℕ) (n : Str) → getD after q 0 ≡ j → targetAt s p q ≡ some n → (getD after q 0 ≡ getD m q 0) ⊎ Fresh s p k R m after q → Through s p slot n
-      sound q n e t (inl h) = r .sound q n (sym h ∙ e) t
-      sound q n e t (inr f) = absurd (let h = f .is in omega arith)
-
-      complete : (n : Str) (f : Within s p m j n) → (getD after (f .place) 0 ≡ getD m (f .place) 0) ⊎ Fresh s p k R m after (f .place) → Within s p after j n
-      complete n f (inl h) = record { place = f .place; leads = f .leads; marked = marked-stays s p w (f .place) (f .marked); most = let g = f .most in omega arith }
-      complete n f (inr g) = absurd (f .marked (g .was))
-
-  pub marks-short : (before : List ℕ) → length before < length s → OwnersMarked s p before before
-  marks-short before h = record { within = λ l. absurd (omega arith); beyond = λ l. refl }
-
-  pub marks-filled : (before a b c d : List ℕ) → length s ≤ length before → Clear a → Claimed s p 1 (bytes "metadata") a b → Claimed s p 2 (bytes "runtime") b c → Claimed s p 3 (bytes "info") c d → OwnersMarked s p before d
-  marks-filled before a b c d h clear one two three = record { within = λ l. marks; beyond = λ l. absurd (omega arith) }
-    where
-      first : Settled s p b 1
-      first = settled-next (settled-none clear) one
-
-      second : Settled s p c 2
-      second = settled-next first two
-
-      marks : OwnerMarks s p d
-      marks = record {
-        metadata = resolved-stays (omega arith) (three .walked) (resolved-stays (omega arith) (two .walked) (resolved-next (settled-none clear) one));
-        runtime = resolved-stays (omega arith) (three .walked) (resolved-next first two);
-        info = resolved-next second three;
-      }
 
 -- a field with a mark that refers to the name ----------------------------------------------------------------------------
 
@@ -193,7 +93,7 @@ module _ (s p : Str) (m : List ℕ) (n slot : Str) (mark : ℕ) (r : StructStep)
     claimed c = record {
       filled = r;
       fills = i;
-      owned = λ t g. record { root = root; after = k; stands = e; stretch = let z : root .name ≡ t = cc in z; claims = c };
+      owned = λ t g. record { root = root; after = k; stands = e; stretch = cc; claims = c };
       nobody = λ g. absurd (Nobody≢Owned (sym g));
     }
 
@@ -202,7 +102,7 @@ module _ (s p : Str) (m : List ℕ) (n slot : Str) (mark : ℕ) (r : StructStep)
       filled = r;
       fills = i;
       owned = λ t g. absurd (Nobody≢Owned g);
-      nobody = λ g y j h d. c (subst (Claims s p m n mark) (let z : y ≡ root = other y j h in z) d);
+      nobody = λ g y j h d. c (subst (Claims s p m n mark) (other y j h) d);
     }
       where
         other : (y : D.Struct.Struct) (j : Cursor) → r ≡ AStruct y j → y ≡ root
@@ -285,7 +185,7 @@ module _ (s p n : Str) where
 
       answer-taken : Leads (typesAt s p) (textOf p (root .name)) n → AnswerIn s p n (slot ∷ slots) (Owned (root .name))
       answer-taken l = record {
-        first = λ t g. rw (roots-now) (now (ap (textOf p) (is t g)) l);
+        first = λ t g. rw roots-now (now (ap (textOf p) (is t g)) l);
         leads = λ t g. subst (λ (x : Text). Leads (typesAt s p) (textOf p x) n) (is t g) l;
         stretch = λ t g. find-hit _ _ (root .name) _ stretches-now (rw (is t g) (eqs-refl (textOf p t))) ∙ ap some (is t g);
         nobody = λ g. absurd (Nobody≢Owned (sym g));
@@ -296,7 +196,7 @@ module _ (s p n : Str) where
 
       answer-other : (r : Owner) → (Leads (typesAt s p) (textOf p (root .name)) n → ⊥) → AnswerIn s p n slots r → AnswerIn s p n (slot ∷ slots) r
       answer-other r d a = record {
-        first = λ t g. rw (roots-now) (later d (a .first t g));
+        first = λ t g. rw roots-now (later d (a .first t g));
         leads = a .leads;
         stretch = λ t g. find-miss _ _ (root .name) _ stretches-now (differ t (a .leads t g) (eqs (textOf p (root .name)) (textOf p t)) refl) ∙ a .stretch t g;
         nobody = λ g x h. a .nobody g x (first-later d (rw roots-now at h));
@@ -339,7 +239,7 @@ module _ (s p n : Str) where
     claims-lead root k e (inr g) =
         let t = c .sound (g .place) n (g .is) (g .leads) in
         let q : some (structOf p root (fieldsAt s p (k .at))) ≡ some (t .root) = sym (through root k e) ∙ t .fills in
-        subst (λ (x : Str). Leads (typesAt s p) x n) (let z : t .root .name ≡ textOf p (root .name) = named (t .root) q in z) (t .leads)
+        subst (λ (x : Str). Leads (typesAt s p) x n) (named (t .root) q) (t .leads)
       where
         named : (x : Struct) → some (structOf p root (fieldsAt s p (k .at))) ≡ some x → x .name ≡ textOf p (root .name)
         named x q = let y : x ≡ structOf p root (fieldsAt s p (k .at)) = cc in ap (λ (z : Struct). z .name) y
@@ -395,6 +295,7 @@ module _ (s p n : Str) where
       owns : ownerOf (typesAt s p) n ≡ some (textOf p t)
       owns = owner-is-first (typesAt s p) n (textOf p t) .1 (a .first t refl)
 
+  -- the three slots, one after the other
   module _ (m : List ℕ) (g : OwnerMarks s p m) (a : Owner) (one : OwnerIn s p m n (bytes "metadata") 1 a) where
     none-first : Within s p m 0 n → ⊥
     none-first h = h .marked (let l = h .most in omega arith)
@@ -404,33 +305,30 @@ module _ (s p n : Str) where
     answer-first t e = answered (Owned t) (root-taken m (bytes "metadata") 0 (g .metadata) a one _ t e)
 
     module _ (e : a ≡ Nobody) (b : Owner) (two : OwnerIn s p m n (bytes "runtime") 2 b) where
+      none-second : Within s p m 1 n → ⊥
+      none-second = none-so-far m (bytes "metadata") 0 (g .metadata) a one none-first e
+
+      past-first : (slots : List Str) (r : Owner) → AnswerIn s p n slots r → AnswerIn s p n (bytes "metadata" ∷ slots) r
+      past-first = root-left m (bytes "metadata") 0 (g .metadata) a one none-first e
+
       pub answer-second : (t : Text) → b ≡ Owned t → Answered s p n (Owned t)
       unfolding ownershipOrder
-      answer-second t h =
-          answered (Owned t)
-          (root-left m (bytes "metadata") 0 (g .metadata) a one none-first e _ (Owned t)
-          (root-taken m (bytes "runtime") 1 (g .runtime) b two _ t h))
+      answer-second t h = answered (Owned t) (past-first _ (Owned t) (root-taken m (bytes "runtime") 1 (g .runtime) b two _ t h))
 
       module _ (h : b ≡ Nobody) (c : Owner) (three : OwnerIn s p m n (bytes "info") 3 c) where
-        last : (x : Owner) → c ≡ x → AnswerIn s p n (bytes "info" ∷ []) x
+        last : (r : Owner) → c ≡ r → AnswerIn s p n (bytes "info" ∷ []) r
         last Nobody y =
-            root-left m (bytes "info") 2 (g .info) c three
-            (none-so-far m (bytes "runtime") 1 (g .runtime) b two (none-so-far m (bytes "metadata") 0 (g .metadata) a one none-first e) h)
-            y [] Nobody answer-end
+            root-left m (bytes "info") 2 (g .info) c three (none-so-far m (bytes "runtime") 1 (g .runtime) b two none-second h) y [] Nobody answer-end
         last (Owned t) y = root-taken m (bytes "info") 2 (g .info) c three [] t y
 
         pub answer-third : Answered s p n c
         unfolding ownershipOrder
-        answer-third =
-            answered c
-            (root-left m (bytes "metadata") 0 (g .metadata) a one none-first e _ c
-            (root-left m (bytes "runtime") 1 (g .runtime) b two (none-so-far m (bytes "metadata") 0 (g .metadata) a one none-first e) h _ c (last c refl)))
+        answer-third = answered c (past-first _ c (root-left m (bytes "runtime") 1 (g .runtime) b two none-second h _ c (last c refl)))
 
 -- the call ---------------------------------------------------------------------------------------------------------------
 
-module _ (s p : Str) (before after : List ℕ) (f : OwnersMarked s p before after) (h : length s ≤ length before) where
-  pub marks-are : OwnerMarks s p after
-  marks-are = f .within h
+pub marks-are : (s p : Str) (before after : List ℕ) → OwnersMarked s p before after → length s ≤ length before → OwnerMarks s p after
+marks-are s p before after f h = f .within h
 
 module _ (room : ℕ) (s p n : Str) where
   pub found-beyond : room < length s → OwnerFound room s p n Nobody

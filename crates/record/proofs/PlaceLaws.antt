@@ -12,13 +12,13 @@ use lib.Dec.{T, eqb}
 use borrow.Author.Tests.{eqb-true, ne-eqb}
 use Rattle.record.specs.Base.{Str, first}
 use Rattle.record.specs.Stretch.{textOf}
-use Rattle.record.specs.Schema.{Field, Key, Struct, Family}
-use Rattle.record.specs.Commands.{start, stepAt, commandOf, commandsAt, fieldAt, variantAt}
-use Rattle.record.specs.Lists.{optOf, fieldOf, variantOf, listed, aKey, keys, fields, variants}
-use Rattle.record.specs.Steps.{fieldKeyAt, keysAt, fieldsAt, structsAt, variantsAt, familiesAt, structIn, structFound, familyIn, familyFound}
+use Rattle.record.specs.Schema.{Field, Struct, Family}
+use Rattle.record.specs.Commands.{start, stepAt, commandsAt, fieldAt, variantAt}
+use Rattle.record.specs.Lists.{optOf, fieldOf, variantOf, listed, keys, fields, variants}
+use Rattle.record.specs.Steps.{keysAt, fieldsAt, structsAt, variantsAt, familiesAt, structIn, structFound, familyIn, familyFound}
 use Rattle.record.specs.Owner.{Types, referenced, hasSlot, variantFields, fieldsIn, typeFields}
 use Rattle.record.specs.References.{typesAt, Refers}
-use Rattle.record.specs.Marks.{aVariant, between, bodyAt, bodyOf, bodyLeft, PlacesFrom, referenceAt, entered, targetAt}
+use Rattle.record.specs.Marks.{aVariant, between, bodyAt, bodyLeft, PlacesFrom, referenceAt, entered, targetAt}
 use Rattle.record.specs.declared.text.Text.{Text}
 use Rattle.record.specs.declared.operands.OptText.{OptText}
 use Rattle.record.specs.declared.operands.OptText.the-variants.{Absent, Given}
@@ -32,13 +32,13 @@ use Rattle.record.specs.declared.lists.StructStep.{StructStep}
 use Rattle.record.specs.declared.lists.StructStep.the-variants.{NoStruct, AStruct}
 use Rattle.record.specs.declared.lists.FamilyStep.{FamilyStep}
 use Rattle.record.specs.declared.lists.FamilyStep.the-variants.{NoFamily, AFamily}
-use Rattle.record.specs.declared.marks.Body.{Body}
 use Rattle.record.specs.declared.marks.PlaceStep.{PlaceStep}
 use Rattle.record.specs.declared.marks.PlaceStep.the-variants.{NoPlace, APlace}
 use Rattle.record.proofs.command.Command.{the-type}
 use Rattle.record.proofs.CommandLaws.{step-end}
 use Rattle.record.proofs.Tags.{absent}
 use Rattle.record.proofs.Stream.{step-found, commands-stop}
+use Rattle.record.proofs.ReferenceLaws.{struct-at-front}
 use Rattle.record.proofs.ListLaws.{byteOf, other, listed-stop, listed-here, listed-over, listed-end, Onward}
 
 -- where the fields begin -------------------------------------------------------------------------------------------------
@@ -73,7 +73,7 @@ module _ (s p : Str) where
 
 module _ (s p n : Str) (o : Cursor) (front : o ≡ start) (r : StructStep) (found : structIn n (structsAt s p (o .at)) ≡ structFound s p r) where
   struct-at : structIn n (structsAt s p 0) ≡ structFound s p r
-  struct-at = ap (λ (k : Cursor). structIn n (structsAt s p (k .at))) (sym front) ∙ found
+  struct-at = struct-at-front s p n o r front found
 
   pub body-struct : (e : D.Struct.Struct) (k : Cursor) → r ≡ AStruct e k → typeFields (typesAt s p) n ≡ bodyAt false s p (k .at)
   unfolding typeFields fieldsIn bodyAt fieldsAt fields

@@ -8,15 +8,15 @@ use Prim.Native.Nat.{ℕ}
 use types.Run.{OneOf}
 use denote.Enum.Declared.{tagOf}
 use lib.ListN.{drop, getD}
-use Rattle.record.specs.Base.{Str, eqs, isText, isSome, find}
+use Rattle.record.specs.Base.{Str, eqs, isText, isSome}
 use Rattle.record.specs.Stretch.{textOf}
-use Rattle.record.specs.Schema.{Key, Struct}
+use Rattle.record.specs.Schema.{Field, Key, Struct}
 use Rattle.record.specs.Kind.{kindOf}
-use Rattle.record.specs.Commands.{start, stepAt, commandsAt, commandOf, structAt}
-use Rattle.record.specs.Lists.{optOf, fieldOf, structOf, listed, anything}
+use Rattle.record.specs.Commands.{start, stepAt, commandOf, structAt}
+use Rattle.record.specs.Lists.{optOf, fieldOf, structOf, anything}
 use Rattle.record.specs.Steps.{structsAt, fieldsAt, structIn, structFound}
 use Rattle.record.specs.Owner.{referenced, referencedAs, structInSlot, slotted, hasSlot}
-use Rattle.record.specs.References.{typesAt, Refers, slotIn, structCommandsAt, commandInSlot, commandFound, InSlot}
+use Rattle.record.specs.References.{typesAt, Refers, slotIn, structCommandsAt, commandInSlot, InSlot}
 use Rattle.record.specs.declared.operands.OptText.{OptText}
 use Rattle.record.specs.declared.operands.OptText.the-variants.{Absent, Given}
 use Rattle.record.specs.declared.text.Text.{Text}
@@ -32,8 +32,7 @@ use Rattle.record.specs.declared.lists.StructStep.{StructStep}
 use Rattle.record.specs.declared.lists.StructStep.the-variants.{NoStruct, AStruct}
 use Rattle.record.proofs.command.Command.{the-type}
 use Rattle.record.proofs.kind.Kind.{the-type as kinds}
-use Rattle.record.proofs.Tags.{not-one-of}
-use Rattle.record.proofs.ListLaws.{byteOf, other, operands-are, listed-stop, listed-here, listed-over, Onward, onward-here, find-none, find-hit, find-miss}
+use Rattle.record.proofs.ListLaws.{byteOf, other, operands-are, listed-stop, listed-here, listed-over, onward-here, find-none, find-hit, find-miss}
 use Rattle.record.proofs.StepLaws.{structs-skip, structs-found, structs-end}
 
 -- referenced_type --------------------------------------------------------------------------------------------------------
@@ -102,19 +101,45 @@ module _ (p : Str) (f : D.Field.Field) (w : Str) (v : Kind) (named : w ≡ textO
 
 pub ruleset reference-laws = (refers-type, refers-element, refers-nowhere)
 
+-- what a field refers to does not depend on its plugin key
+key-free : (k : Kind) (f g : Field) → f .typ ≡ g .typ → f .element ≡ g .element → referencedAs k f ≡ referencedAs k g
+unfolding referencedAs
+key-free K.Scalar f g t e = refl
+key-free K.Enum f g t e = refl
+key-free K.TypeAlias f g t e = refl
+key-free K.Bitfield f g t e = refl
+key-free K.InlineArray f g t e = refl
+key-free K.InlineArray2d f g t e = refl
+key-free K.CstrPtr f g t e = refl
+key-free K.StructPtr f g t e = t
+key-free K.StructArrayPtr f g t e = e
+key-free K.StructPtrArrayPtr f g t e = e
+key-free K.TaggedFamPtr f g t e = t
+key-free K.SimpleFamPtr f g t e = t
+key-free K.OpaquePtr f g t e = refl
+key-free K.FnPtr f g t e = refl
+key-free K.Padding f g t e = refl
+key-free K.Text f g t e = refl
+key-free K.Other f g t e = refl
+
+pub referenced-key : (p : Str) (f : D.Field.Field) (k j : Option Key) → referenced (fieldOf p f k) ≡ referenced (fieldOf p f j)
+unfolding referenced
+referenced-key p f k j = key-free (kindOf (textOf p (f .kind))) _ _ refl refl
+
 -- slot_of, has_slot ------------------------------------------------------------------------------------------------------
 
-module _ (s p n : Str) (o : Cursor) (front : o ≡ start) (r : StructStep) (found : structIn n (structsAt s p (o .at)) ≡ structFound s p r) where
-  at-front : structIn n (structsAt s p 0) ≡ structFound s p r
-  at-front = ap (λ (k : Cursor). structIn n (structsAt s p (k .at))) (sym front) ∙ found
+-- a look-up from the front is one of the whole list
+pub struct-at-front : (s p n : Str) (o : Cursor) (r : StructStep) → o ≡ start → structIn n (structsAt s p (o .at)) ≡ structFound s p r → structIn n (structsAt s p 0) ≡ structFound s p r
+struct-at-front s p n o r e h = ap (λ (k : Cursor). structIn n (structsAt s p (k .at))) (sym e) ∙ h
 
+module _ (s p n : Str) (o : Cursor) (front : o ≡ start) (r : StructStep) (found : structIn n (structsAt s p (o .at)) ≡ structFound s p r) where
   pub slot-none : r ≡ NoStruct → optOf p Absent ≡ slotIn (structIn n (structsAt s p 0))
   unfolding slotIn
-  slot-none m = rw (at-front, m)
+  slot-none m = rw (struct-at-front s p n o r front found, m)
 
   pub slot-there : (e : D.Struct.Struct) (k : Cursor) → r ≡ AStruct e k → optOf p (e .«generation_slot») ≡ slotIn (structIn n (structsAt s p 0))
   unfolding slotIn
-  slot-there e k m = rw (at-front, m)
+  slot-there e k m = rw (struct-at-front s p n o r front found, m)
 
 pub ruleset slot-laws = (slot-none, slot-there)
 

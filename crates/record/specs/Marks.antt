@@ -8,7 +8,7 @@ use Prim.Native.Nat.{ℕ, suc, _+_, _-_, _≤_, _<_}
 use lib.ListN.{length, getD, drop}
 use lib.Dec.{eqb}
 use Rattle.record.specs.Base.{Str, first}
-use Rattle.record.specs.Schema.{Field, Struct}
+use Rattle.record.specs.Schema.{Field}
 use Rattle.record.specs.Commands.{fieldAt, commandsAt}
 use Rattle.record.specs.Lists.{listed, fieldOf, keys, aKey}
 use Rattle.record.specs.Steps.{fieldKeyAt}

@@ -129,7 +129,7 @@ pub record Answered (s p n : Str) (r : Owner) : Type 0 where
   pub owner : ownerMeant p r ≡ ownerOf (typesAt s p) n
   pub stretch : r ≡ ownerAt s p n
 
--- the same where the stream has no more bytes than there is room for, and nobody else
+-- the same of a stream with no more bytes than there is room for; in a longer one nothing is owned
 pub record OwnerFound (room : ℕ) (s p n : Str) (r : Owner) : Type 0 where
   pub within : length s ≤ room → Answered s p n r
   pub beyond : room < length s → r ≡ Nobody

@@ -1,5 +1,5 @@
 use Rattle.record.specs.Base.{bytes}
-use Rattle.record.proofs.OwnerLaws.{marks-short, marks-filled}
+use Rattle.record.proofs.RootLaws.{marks-short, marks-filled}
 use borrow.Author.Needs.{needs}
 use Rattle.record.proofs.marks.mark_owners.Statement.{statement}
 use Rattle.record.proofs.marks.mark_owners.Tie as tie

@@ -1,4 +1,4 @@
-use Rattle.record.proofs.OwnerLaws.{root-laws}
+use Rattle.record.proofs.RootLaws.{root-laws}
 use borrow.Author.Needs.{needs}
 use Rattle.record.proofs.marks.mark_root.Statement.{statement}
 use Rattle.record.proofs.marks.mark_root.Tie as tie
