@@ -1,34 +1,37 @@
 #!/usr/bin/env python3
-"""verdicts.py: writes what crate compare says of each verdict from the table below: specs/Verdicts.antt, proofs/Words.antt. Run from the repository's top; then `rt fmt`.
+"""verdicts.py: writes what crate compare says of each verdict, from the table below. Of all: specs/Verdicts.antt and proofs/Words.antt. Of those
+that the code gives: src/verdict.rt, src/messages.rt, specs/Meaning.antt, proofs/VerdictLaws.antt, and the proof files of the functions in those
+two. Run from the repository's top; then `rt fmt`.
 
 A row: 01's number, 01's word, whether the code gives it yet, the arguments with their kinds, the message as layout.rs formats it.
 Kinds: `now` and `was` are texts of the current and of the released pool; u32, u64 and i64 are numbers; the others, each of a side where it has
 texts, are put together: `item` is what arrives in a release, `copy` the copy's release if it names one, `value` a constant's value, `layout` a
 layout's name, `described` a field's description, `standing` whether a family is standalone, `change` what a shipped layout gained."""
+import os
 import re
 
 ROWS = [
     (11, 'described', False, '',
      'the released schema says unreleased and describes a layout - one release has shipped or none has'),
-    (12, 'now unreadable', False, 'now:now',
-     "[schema] firmware_release is '{now}', which is not a firmware release like 0.8.0"),
-    (13, 'before naming', False, 'now:now',
-     'the released schema names no firmware_release, so it was taken before 0.8.0, and this schema says {now}'),
+    (12, 'now unreadable', False, 'current:now',
+     "[schema] firmware_release is '{current}', which is not a firmware release like 0.8.0"),
+    (13, 'before naming', False, 'current:now',
+     'the released schema names no firmware_release, so it was taken before 0.8.0, and this schema says {current}'),
     (14, 'was unreadable', False, 'was:was',
      "the released schema's firmware_release is '{was}', which is not a firmware release like 0.8.0"),
-    (15, 'not later', False, 'was:was now:now',
-     'the released schema names {was} and this schema names {now}, so there is no released layout to compare against - '
+    (15, 'not later', False, 'was:was current:now',
+     'the released schema names {was} and this schema names {current}, so there is no released layout to compare against - '
      'raise [schema] firmware_release, or refresh the copy with ci/update-released-schema.sh'),
-    (16, 'value undated', False, 'owner:now name:now now:now release:now',
-     '{owner}::{name} is not in the copy of the last release, so it reaches the plugin API in {now} - '
+    (16, 'value undated', False, 'owner:now name:now current:now release:now',
+     '{owner}::{name} is not in the copy of the last release, so it reaches the plugin API in {current} - '
      "it declares no first_release, and {owner}'s is {release}"),
-    (17, 'late', False, 'what:item/now now:now names:now',
-     '{what} is not in the copy of the last release, so it reaches the plugin API in {now} - its first_release says {names}'),
+    (17, 'late', False, 'what:item/now current:now names:now',
+     '{what} is not in the copy of the last release, so it reaches the plugin API in {current} - its first_release says {names}'),
     (18, 'redated', False, 'what:item/now was:was names:now',
      '{what} named {was} in the last release and names {names} now - the release something reached the plugin API in is a fact about '
      'firmware already shipped, and a plugin built against it set its min_fw_version from that'),
-    (19, 'backdated', False, 'what:item/now copy:copy/was now:now',
-     '{what} was already in the plugin API of {copy} and names {now}, the release under development - it reached the plugin API before '
+    (19, 'backdated', False, 'what:item/now copy:copy/was current:now',
+     '{what} was already in the plugin API of {copy} and names {current}, the release under development - it reached the plugin API before '
      'that, and the copy says no more of it than that it was there'),
     (20, 'constant gone', False, 'name:was',
      'constant {name} was in the last release and is gone - the firmware, its plugins and every host built against it name it still, '
@@ -56,8 +59,8 @@ ROWS = [
     (30, 'width changed', True, 'owner:was name:was was:u32 is:u32',
      '{owner}::{name} was {was} bit(s) wide in the last release and is {is} now - a released member keeps its bits, because hosts read '
      'them there'),
-    (31, 'bits late', False, 'what:item/now now:now release:now',
-     '{what} is not in the copy of the last release, so it arrives in {now}, and its release is {release}'),
+    (31, 'bits late', False, 'what:item/now current:now release:now',
+     '{what} is not in the copy of the last release, so it arrives in {current}, and its release is {release}'),
     (32, 'bits redated', False, 'what:item/now was:was release:now',
      '{what} arrived in {was} according to the last release, not {release} - the release something arrived in is a fact about firmware '
      'already shipped'),
@@ -90,9 +93,9 @@ ROWS = [
     (44, 'unlisted', False, 'constant:now is:u32 name:now',
      '{constant} was raised to {is} with no [[versions]] entry for {name} generation {is} - a generation says nothing until something '
      'says which release it ships in'),
-    (45, 'leapt', False, 'constant:now was:u32 is:u32 copy:copy/was now:now',
+    (45, 'leapt', False, 'constant:now was:u32 is:u32 copy:copy/was current:now',
      '{constant} was {was} in the last release and is {is} now - a generation rises by one per release, so that a host holding a '
-     "device's bytes can name every layout in between.  The copy compared against is of {copy}, and this schema is {now} - a copy left "
+     "device's bytes can name every layout in between.  The copy compared against is of {copy}, and this schema is {current} - a copy left "
      'unrefreshed across a development cycle reads as a rise of more than one, and ci/update-released-schema.sh refreshes it'),
     (46, 'fell', False, 'constant:now was:u32 is:u32',
      '{constant} was {was} in the last release and is {is} now - a generation rises by one per release, so that a host holding a '
@@ -122,6 +125,9 @@ class Row:
 
 
 TABLE = [Row(*row) for row in ROWS]
+IN_CODE = [r for r in TABLE if r.in_code]
+for r in IN_CODE:
+    assert not set(r.kinds.values()) - {'now', 'was', 'u32', 'u64', 'i64'}, 'no code is written yet for an argument of %s' % r.words
 assert [r.number for r in TABLE] == list(range(11, 47))
 
 C = 'crates/compare/'
@@ -185,15 +191,14 @@ changePieces (some f) = bytes "gained " ∷ f ∷ []
 ''' % (' '.join(r.word for r in TABLE), ''.join('wordNumber %s = %d\n' % (r.word, r.number) for r in TABLE))
     for r in TABLE:
         types = [(PLAIN.get(k) or SPLIT[k])[0] for k in r.kinds.values()]
-        text = '[]'
+        text, spliced = '[]', False
         for p in reversed(r.pieces()):
-            if p[0] != '{':
-                text = 'bytes "%s" ∷ %s' % (p, text)
-            elif r.kinds[p[1:-1]] in SPLIT:
-                text = '%s ++ (%s)' % (SPLIT[r.kinds[p[1:-1]]][1] % p[1:-1], text)
+            name = p[1:-1] if p[0] == '{' else None
+            if name and r.kinds[name] in SPLIT:
+                text, spliced = '%s ++ (%s)' % (SPLIT[r.kinds[name]][1] % name, text), True
             else:
-                text = '%s ∷ %s' % (PLAIN[r.kinds[p[1:-1]]][1] % p[1:-1], text if '++' not in text or text[0] == 'b' else '(%s)' % text)
-        text = re.sub(r'∷ (\w+Pieces \w+ \+\+ \(.*\))$', r'∷ (\1)', text)
+                piece = PLAIN[r.kinds[name]][1] % name if name else 'bytes "%s"' % p
+                text, spliced = '%s ∷ %s' % (piece, '(%s)' % text if spliced else text), False
         o += '''
 -- %d
 unfoldable pub %s : %s
@@ -215,5 +220,210 @@ unfolding wordNumber
     open(C + 'proofs/Words.antt', 'w').write(o)
 
 
+# the code: the field's type, the template's argument, and the argument's meaning in the definition. The kinds that are put together have none yet
+FIELD = {'now': 'Text', 'was': 'Text', 'u32': 'u32', 'u64': 'u64', 'i64': 'u64'}
+ARG = {'now': 'Arg::Now(%s)', 'was': 'Arg::Was(%s)', 'u32': 'Arg::Number(%s as u64)', 'u64': 'Arg::Number(%s)', 'i64': 'Arg::Signed(%s)'}
+MEANT = {'now': '(textOf pool %s)', 'was': '(textOf old %s)', 'u32': '%s', 'u64': '%s', 'i64': '%s'}
+
+
+def snake(r):
+    return 'write_' + r.words.replace(' ', '_')
+
+
+def pattern(r, inside):
+    return 'Verdict::%s { %s }' % (r.variant, inside) if inside else 'Verdict::%s' % r.variant
+
+
+def constructor(r):
+    return '(%s)' % ' '.join([r.variant] + list(r.kinds)) if r.kinds else r.variant
+
+
+def code():
+    """src/verdict.rt and src/messages.rt"""
+    o = '''// What a pass answers: nothing, or the first violation with what its message names. A number of 64 bits is two's complement.
+// Written by tools/verdicts.py.
+use record::text::Text;
+ghost use mathlib.Core.Path.{_≡_};
+ghost use Rattle.compare.specs.Meaning.{numberFor};
+
+pub enum Verdict {
+    Passed,
+'''
+    for r in IN_CODE:
+        o += '    %s,\n' % (r.variant + (' {\n' + ''.join('        %s: %s,\n' % (n, FIELD[k]) for n, k in r.kinds.items()) + '    }' if r.kinds else ''))
+    o += '''}
+
+impl Verdict {
+    // 01's number, and 0 for none.
+    pub fn number(self) -> u32
+        ensures { λ r. ⌜ r ≡ numberFor self ⌝ }
+    {
+        match self {
+            Verdict::Passed => 0,
+'''
+    for r in IN_CODE:
+        o += '            %s => %d,\n' % (pattern(r, ', '.join('%s: _' % n for n in r.kinds)), r.number)
+    open(C + 'src/verdict.rt', 'w').write(o + '        }\n    }\n}\n')
+    o = '''// The messages of the verdicts, written from their templates: a byte below 32 is the number of an argument. Written by tools/verdicts.py.
+use crate::verdict::Verdict;
+use record::text::Text;
+use record::writer::Arg;
+use record::writer::Written;
+use record::writer::write;
+ghost use Rattle.record.specs.Stretch.{textOf};
+ghost use Rattle.record.specs.Write.{Writes};
+ghost use Rattle.compare.specs.Verdicts.{messageOf, %s};
+ghost use Rattle.compare.specs.Meaning.{meaning};
+''' % ', '.join(r.name for r in IN_CODE)
+    for r in IN_CODE:
+        meant = ' '.join(({'now': '(textOf (now (pool .entry)) %s)', 'was': '(textOf (now (old .entry)) %s)'}.get(k, '%s') % n) for n, k in r.kinds.items())
+        o += '''
+// %d
+fn %s(out: &mut [u8], %spool: &[u8], old: &[u8]) -> Written
+    ensures { λ r. ⌜ Writes (now (out .entry)) (messageOf (%s)) (now (out .exit)) r ⌝ }
+{
+    let no = Arg::Nothing;
+    write(out, b"%s", [%s], pool, old)
+}
+''' % (r.number, snake(r), ''.join('%s: %s, ' % (n, FIELD[k]) for n, k in r.kinds.items()), ' '.join([r.name] + ([meant] if meant else [])),
+       template(r), ', '.join([ARG[k] % n for n, k in r.kinds.items()] + ['no'] * (6 - len(r.kinds))))
+    o += '''
+// Puts the message of a verdict at the front of out, if it fits.
+pub fn write_verdict(out: &mut [u8], v: Verdict, pool: &[u8], old: &[u8]) -> Written
+    ensures { λ r. ⌜ Writes (now (out .entry)) (messageOf (meaning (now (pool .entry)) (now (old .entry)) v)) (now (out .exit)) r ⌝ }
+{
+    match v {
+        Verdict::Passed => Written::Whole(0),
+'''
+    for r in IN_CODE:
+        o += '        %s => %s(out, %spool, old),\n' % (pattern(r, ', '.join(r.kinds)), snake(r), ''.join('%s, ' % n for n in r.kinds))
+    open(C + 'src/messages.rt', 'w').write(o + '    }\n}\n')
+
+
+def template(r):
+    at = {n: i for i, n in enumerate(r.kinds)}
+    return ''.join('\\x%02x' % at[p[1:-1]] if p[0] == '{' else p for p in r.pieces())
+
+
+def meaning():
+    """specs/Meaning.antt"""
+    o = '''-- What the code's verdicts mean, over the two pools, and their numbers. Written by tools/verdicts.py. Assumes nothing.
+use Prim.Native.Nat.{ℕ}
+use Rattle.record.specs.Base.{Str}
+use Rattle.record.specs.Stretch.{textOf}
+use Rattle.compare.specs.Verdicts as D
+use Rattle.compare.specs.Verdicts.{%s}
+use Rattle.compare.specs.declared.verdict.Verdict.{Verdict}
+use Rattle.compare.specs.declared.verdict.Verdict.the-variants.{Passed, %s}
+
+unfoldable pub meaning : Str → Str → Verdict → D.Verdict
+meaning pool old Passed = D.pass
+%s
+abbrev pub numberFor : Verdict → ℕ
+numberFor Passed = 0
+%s''' % (', '.join(r.name for r in IN_CODE), ', '.join(r.variant for r in IN_CODE),
+       ''.join('meaning pool old %s = %s\n' % (constructor(r), ' '.join([r.name] + [MEANT[k] % n for n, k in r.kinds.items()])) for r in IN_CODE),
+       ''.join('numberFor %s = %d\n' % (constructor(r), r.number) for r in IN_CODE))
+    open(C + 'specs/Meaning.antt', 'w').write(o)
+
+
+def laws():
+    """proofs/VerdictLaws.antt"""
+    tags = ' ∷ '.join(str(i + 1) for i in range(len(IN_CODE))) + ' ∷ []'
+    o = '''-- The code's verdicts: a violation is what comes of it and of anything after it, and its number is the definition's. Written by
+-- tools/verdicts.py. Assumes nothing.
+use mathlib.Core.Path.{_≡_, refl}
+use mathlib.Core.List.{[], _∷_}
+use types.Run.{OneOf}
+use denote.Enum.Declared.{tagOf}
+use Rattle.record.specs.Base.{Str}
+use Rattle.record.proofs.Tags.{not-one-of}
+use Rattle.compare.specs.Verdicts as D
+use Rattle.compare.specs.Verdicts.{wordNumber, verdictNumber, %(names)s}
+use Rattle.compare.specs.Pass.{_then_}
+use Rattle.compare.specs.Meaning.{meaning, numberFor}
+use Rattle.compare.proofs.verdict.Verdict.{the-type}
+use Rattle.compare.specs.declared.verdict.Verdict.{Verdict}
+use Rattle.compare.specs.declared.verdict.Verdict.the-variants.{Passed, %(variants)s}
+
+-- what the else of a test for Passed knows
+abbrev pub violated : Verdict → Type 0
+violated v = OneOf (%(tags)s) (tagOf the-type v)
+
+pub stays : (pool old : Str) (v : Verdict) (w : D.Verdict) → violated v → (meaning pool old v then w) ≡ meaning pool old v
+unfolding meaning _then_ %(opens)s
+stays pool old Passed w h = absurd (not-one-of (%(tags)s) 0 tt h)
+%(stays)s
+pub number-is : (pool old : Str) (v : Verdict) → numberFor v ≡ verdictNumber (meaning pool old v)
+unfolding meaning verdictNumber wordNumber %(opens)s
+number-is pool old Passed = refl
+%(numbers)s''' % dict(
+        names=', '.join(r.name for r in IN_CODE), variants=', '.join(r.variant for r in IN_CODE), tags=tags, opens=' '.join(r.name for r in IN_CODE),
+        stays=''.join('stays pool old %s w h = refl\n' % constructor(r) for r in IN_CODE),
+        numbers=''.join('number-is pool old %s = refl\n' % constructor(r) for r in IN_CODE))
+    open(C + 'proofs/VerdictLaws.antt', 'w').write(o)
+
+
+def numbered(name, n, between='-'):
+    return name if n == 1 else '%s%s%d' % (name, between, n)
+
+
+def proofs():
+    """proofs/verdict/Verdict/number/Proof.antt and proofs/messages/*/Proof.antt"""
+    arms = range(1, len(IN_CODE) + 2)
+    proof('verdict/Verdict/number', [(numbered('enum-told', i), 'c', 'search needs') for i in arms]
+          + [(numbered('returns', i), 'c', 'rw (c .%s .given .1)' % numbered('enum-told', i, '')) for i in arms], [], {})
+    for r in IN_CODE:
+        proof('messages/' + snake(r), [('slice-aggregate-write', 'c', 'search needs'), ('write-requires', 'c κs', 'search needs'), ('same-length', 'c', 'search needs'),
+                         ('returns', 'c', 'c .before .before .write .ensures')],
+              ['use Rattle.record.specs.Base.{bytes}', 'use Rattle.record.specs.Fill.{joined, pickOf, filled}',
+               'use Rattle.compare.specs.Verdicts.{messageOf, %s}' % r.name], {'returns': 'bytes joined pickOf filled messageOf ' + r.name})
+    needs, ends, unfolding = [], [], {'returns': 'meaning messageOf'}
+    counts = {'enum-told': 0, 'enum-known-v': 0}
+
+    def count(name):
+        counts[name] += 1
+        return counts[name]
+
+    needs.append((numbered('enum-told', count('enum-told')), 'c', 'search needs'))
+    ends.append(('returns', 'c', 'rw (c .enum-told .given .1) (writes-whole _ [] _ 0 refl (omega arith) (front-none _))'))
+    for i, r in enumerate(IN_CODE):
+        call = snake(r).replace('_', '-')
+        if r.kinds:
+            k = count('enum-known-v')
+            needs.append((numbered('enum-known-v', k), 'c', 'search needs'))
+            fact = 'c .before .before .before .before .before .%s .given .1' % numbered('v', k, '')
+        else:
+            k = count('enum-told')
+            needs.append((numbered('enum-told', k), 'c', 'search needs'))
+            fact = 'c .before .before .before .before .enum-told%d .given .1' % k
+        needs.append((call + '-requires', 'c κs', 'search needs'))
+        ends.append((numbered('same-length', i + 1), 'c', 'search needs'))
+        ends.append(('returns-%d' % (i + 2), 'c', 'rw (%s) (c .before .before .%s .ensures)' % (fact, call)))
+        unfolding['returns-%d' % (i + 2)] = 'meaning'
+    proof('messages/write_verdict', needs + ends,
+          ['use mathlib.Core.Path.{refl}', 'use mathlib.Core.List.{[]}', 'use native.Mathlib.Omega.{arith}',
+           'use Rattle.record.proofs.WriterLaws.{writes-whole, front-none}', 'use Rattle.compare.specs.Verdicts.{messageOf}',
+           'use Rattle.compare.specs.Meaning.{meaning}'], unfolding)
+
+
+def proof(function, needs, uses, unfolding):
+    module = 'Rattle.compare.proofs.' + function.replace('/', '.')
+    o = '\n'.join(uses + ['use borrow.Author.Needs.{needs}', 'use %s.Statement.{statement}' % module, 'use %s.Tie as tie' % module]) + '\n'
+    for name, arguments, answer in needs:
+        o += '\n%s : tie.Need-%s\n' % (name, name)
+        o += 'unfolding %s\n' % unfolding[name] if name in unfolding else ''
+        o += '%s %s = %s\n' % (name, arguments, answer)
+    spec = function.split('/')[-1].replace('_', '-') + '-spec'
+    o += '\npub %s : {M : Type 1} → statement M\n%s = tie.close (tie.spec %s)\n' % (spec, spec, ' '.join(n for n, _, _ in needs))
+    folder = C + 'proofs/' + function
+    os.makedirs(folder, exist_ok=True)
+    open(folder + '/Proof.antt', 'w').write(o)
+
+
 definition()
 numbers()
+code()
+meaning()
+laws()
+proofs()

@@ -127,7 +127,8 @@ nothing-lost first os g gs s e =
     let f = follow first os s e in
     record { schema = lastOf s (f .schemas); is-read = f .is-last; kept = kept-all s (f .schemas) (f .linked) (g s e) (each Kinds f gs) }
 
--- second sentence: where the number is the same in both, each type under it has the same fields
+-- second sentence: where the number is the same in both, each type under it has the same fields. 01: every record "holds it as an integer", so the
+-- first, and the type "is itself described in the first"
 pub nothing-moved : (first : Rec) (os : List Offer) → All (Sound Names) (chain first os)
     → (root k t : Str) → All (Sound (Governed root k t)) (chain first os)
     → (s : Schema) → reading Released first ≡ read s → (n : ℕ) → Holds (s .constants) k n → (fs : List Place) → Laid (types s) t fs

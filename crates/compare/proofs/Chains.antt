@@ -14,14 +14,14 @@ use Rattle.record.proofs.Basics.{both}
 use Rattle.layout.specs.Layout.{TypeLayout, types}
 use Rattle.layout.proofs.Origin.{From, of-struct, of-family, of-variant, from-types}
 use Rattle.compare.specs.Verdicts.{Verdict, pass, described}
-use Rattle.compare.specs.Pass.{empty}
+use Rattle.compare.specs.Pass.{required, empty}
 use Rattle.compare.specs.Unreleased.{checkUnreleased}
 use Rattle.compare.specs.Enums.{checkEnums}
 use Rattle.compare.specs.Bitfields.{checkBitfields}
 use Rattle.compare.specs.Fields.{checkFields, changed}
 use Rattle.compare.specs.Standalone.{checkStandalone}
 use Rattle.compare.specs.Generations.{checkGenerations}
-use Rattle.compare.specs.Compare.{nowOf, passList, firstOf, compare}
+use Rattle.compare.specs.Compare.{passList, firstOf, compare}
 use Rattle.compare.specs.Chain.{Kinds, Names, Holds, Laid, Kept, Governed}
 use Rattle.compare.specs.Offers.{lastOf}
 use Rattle.compare.proofs.Passes.{then-pass, ensured, empty-nil}
@@ -37,7 +37,7 @@ pub record Passed (cur rel : Schema) : Type 0 where
   pub bitfields : checkBitfields (cur .bitfields) (rel .bitfields) ≡ pass
   pub fields : checkFields (types cur) (types rel) ≡ pass
   pub standalone : checkStandalone (cur .families) (rel .families) (types cur) (types rel) ≡ pass
-  pub generations : checkGenerations (nowOf cur) (rel .release) (typesIn cur) (cur .constants) (cur .versions) (rel .constants) (changed (types cur) (types rel)) ≡ pass
+  pub generations : checkGenerations (required (cur .release)) (rel .release) (cur .versions) (typesIn cur) (cur .constants) (rel .constants) (changed (types cur) (types rel)) ≡ pass
 
 -- a copy flagged unreleased describes nothing
 pub record Bare (rel : Schema) : Type 0 where

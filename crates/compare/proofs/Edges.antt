@@ -21,10 +21,12 @@ use Rattle.record.specs.declared.release.ReleaseParts.the-variants.{NotARelease
 use Rattle.layout.specs.Sorted.{insert, insertAll, sorted}
 use Rattle.layout.specs.Layout.{variantName, layStruct, layFamily, layVariant, layFamilies, flattened, types, typeIn}
 use Rattle.compare.specs.Verdicts
-use Rattle.compare.specs.Pass.{_then_, ensure, each, onFound, empty}
+use Rattle.compare.specs.Pass.{_then_, ensure, required, each, onFound, empty}
 use Rattle.compare.specs.ReleaseOrder
 use Rattle.compare.specs.FirstReleases
-use Rattle.compare.specs.Versioned
+use Rattle.record.specs.Versioned
+use Rattle.record.specs.Generation
+use Rattle.record.specs.Keys
 use Rattle.compare.specs.Constants
 use Rattle.compare.specs.Enums
 use Rattle.compare.specs.Bitfields
@@ -32,7 +34,7 @@ use Rattle.compare.specs.BitfieldReleases
 use Rattle.compare.specs.Fields
 use Rattle.compare.specs.Standalone
 use Rattle.compare.specs.Generations
-use Rattle.compare.specs.Compare.{nowOf, passList, firstOf, compare}
+use Rattle.compare.specs.Compare.{passList, firstOf, compare}
 
 -- a field of a kind, with perhaps a type, an element, a count and a size
 fld : String → String → Option Str → Option Str → Option ℕ → Option ℕ → Field
@@ -118,18 +120,18 @@ unfolding shape unread sch base more entry isText isSome before signed lastOr fi
     claimRoots withName rootsIn ownershipOrder roots rootOf ownerOf joined insert insertAll sorted
     variantName layStruct layFamily layVariant layFamilies flattened types typeIn
     Verdicts.wordNumber Verdicts.verdictNumber Verdicts.notLater Verdicts.beforeNaming Verdicts.unraised Verdicts.unlisted Verdicts.leapt Verdicts.fell
-    _then_ ensure each onFound empty
+    _then_ ensure required each onFound empty
     ReleaseOrder.checkEarlier ReleaseOrder.checkCopy ReleaseOrder.checkReleaseOrder
-    FirstReleases.checkConstantArrival FirstReleases.checkConstantArrivals FirstReleases.checkEnumArrival FirstReleases.checkEnumArrivals FirstReleases.withKey FirstReleases.fieldKeys FirstReleases.pluginKeys FirstReleases.checkKeyArrivals FirstReleases.checkFirstReleases
-    Versioned.slotOrder Versioned.versioned Versioned.asGeneration Versioned.ofConstant Versioned.ofVersion Versioned.ofStruct Versioned.generation
+    FirstReleases.checkConstantArrival FirstReleases.checkConstantArrivals FirstReleases.checkEnumArrival FirstReleases.checkEnumArrivals Keys.withKey Keys.fieldKeys Keys.pluginKeys FirstReleases.checkKeyArrivals FirstReleases.checkFirstReleases
+    Versioned.slotOrder Versioned.versioned Generation.asGeneration Generation.ofConstant Generation.ofVersion Generation.ofStruct Generation.generationOf
     Constants.valueText Constants.lastConstant Constants.holdsIn Constants.isGeneration Constants.checkConstant Constants.checkConstantsIn Constants.checkConstants
     Enums.numberIn Enums.checkValue Enums.checkValues Enums.checkEnum Enums.checkEnums Bitfields.widthOf Bitfields.checkMember Bitfields.checkMembers Bitfields.checkBitfield Bitfields.checkBitfields
     BitfieldReleases.checkArrived BitfieldReleases.bitfieldRelease BitfieldReleases.memberRelease BitfieldReleases.checkMemberArrived
     BitfieldReleases.checkMembersArrived BitfieldReleases.checkBitfieldArrived BitfieldReleases.checkBitfieldReleases
     Fields.placeIn Fields.checkPlace Fields.checkPlaces Fields.checkType Fields.checkFields Fields.eqPlace Fields.eqPlaces Fields.sameAs Fields.changed
     Standalone.layoutsOf Standalone.checkSame Standalone.checkShipped Standalone.checkShippedAll Standalone.checkStanding Standalone.checkFamily Standalone.checkStandalone
-    Generations.owning Generations.standsAlone Generations.checkCovered Generations.checkAllCovered Generations.under Generations.firstUnder Generations.isListed Generations.checkRise Generations.checkValueOf Generations.checkAgainst
-    Generations.checkGeneration Generations.checkRoots Generations.checkGenerations nowOf passList firstOf compare
+    Generations.owning Generations.standsAlone Generations.checkCovered Generations.checkAllCovered Generations.under Generations.firstUnder Generations.isListed Generations.checkRise Generations.checkFrom Generations.checkAgainst
+    Generations.checkGeneration Generations.checkRoots Generations.checkGenerations passList firstOf compare
 gives is was n = eqb (Verdicts.verdictNumber (compare is was)) n
 
 at : String → Option Str

@@ -17,10 +17,11 @@ use Rattle.layout.specs.Layout.{TypeLayout, types, typeIn, variantName, layStru
 use Rattle.layout.proofs.Origin.{From, of-struct, of-family, of-variant, from-types}
 use Rattle.compare.specs.Verdicts.{pass, typeGone, shippedFamilyChanged, noConstant, noGeneration, unraised, unlisted, leapt, fell}
 use Rattle.compare.specs.Pass.{ensure, onFound}
-use Rattle.compare.specs.Versioned.{slotOrder, versioned, Generation, asGeneration, ofConstant, ofVersion, ofStruct, generation}
+use Rattle.record.specs.Versioned.{slotOrder, versioned}
+use Rattle.record.specs.Generation.{Held, asGeneration, ofConstant, ofVersion, ofStruct, generationOf}
 use Rattle.compare.specs.Fields.{checkType, checkFields, sameAs, changed}
 use Rattle.compare.specs.Standalone.{layoutsOf, checkSame, checkShipped, checkShippedAll, checkFamily, checkStandalone}
-use Rattle.compare.specs.Generations.{owning, standsAlone, under, firstUnder, isListed, checkRise, checkValueOf, checkAgainst, checkGeneration, checkRoots, checkGenerations}
+use Rattle.compare.specs.Generations.{owning, standsAlone, under, firstUnder, isListed, checkRise, checkFrom, checkAgainst, checkGeneration, checkRoots, checkGenerations}
 use Rattle.compare.specs.Chain.{Names, Carries, Holds, Laid}
 use Rattle.compare.proofs.Passes.{stop≢pass, then-pass, ensured, ensure-false, each-pass, found-stop, on-some, none-found}
 use Rattle.compare.proofs.Same.{eqPlaces→eq, key-only, slot-only, owning-plain, owning-variant}
@@ -58,19 +59,19 @@ roots-mem ss (x ∷ xs) {slot} {t} (List·Memᴰ·tail m) e = go (structInSlot x
     go none r = r
     go (some u) r = List·Memᴰ·tail r
 
-as-generation : (k : Str) (n : ℕ) {g : Generation} → asGeneration k (integer n) ≡ some g → (g .constant ≡ k) × (g .number ≡ n)
+as-generation : (k : Str) (n : ℕ) {g : Held} → asGeneration k (integer n) ≡ some g → (g .constant ≡ k) × (g .number ≡ n)
 unfolding asGeneration
 as-generation k n {g} h = go (ltb n (2 ^ 32)) h
   where
     go : (b : Bool) → cond b (some (record { constant = k; number = n })) none ≡ some g → (g .constant ≡ k) × (g .number ≡ n)
     go true e =
-        let q : _≡_ {A = Generation} (record { constant = k; number = n }) g = cc in
-        (ap (λ (x : Generation). x .constant) (sym q), ap (λ (x : Generation). x .number) (sym q))
+        let q : _≡_ {A = Held} (record { constant = k; number = n }) g = cc in
+        (ap (λ (x : Held). x .constant) (sym q), ap (λ (x : Held). x .number) (sym q))
     go false e = absurd (let z : _≡_ {A = ℕ} 0 1 = cc in omega arith)
 
-generation-is : (s : Schema) → Names s → {root k : Str} → Carries (s .structs) root k → {n : ℕ} → Holds (s .constants) k n → {g : Generation}
-    → generation (s .structs) (s .constants) root ≡ some g → (g .constant ≡ k) × (g .number ≡ n)
-unfolding generation ofStruct ofVersion ofConstant
+generation-is : (s : Schema) → Names s → {root k : Str} → Carries (s .structs) root k → {n : ℕ} → Holds (s .constants) k n → {g : Held}
+    → generationOf (s .structs) (s .constants) root ≡ some g → (g .constant ≡ k) × (g .number ≡ n)
+unfolding generationOf ofStruct ofVersion ofConstant
 generation-is s names {root} {k} c {n} h {g} e =
     as-generation k n (rw (by-name s names c, c .names, h .is-found, h .is-integer) at e)
 
@@ -94,15 +95,15 @@ rise-of now copy vs touched root k was is h = go (ltb is was) (eqb is was) refl 
 
 pub rise : (now : Str) (copy : Option Str) (cur rel : Schema) (moved : List TypeLayout) → Names cur → {root k : Str} → Carries (cur .structs) root k
     → {was is : ℕ} → Holds (rel .constants) k was → Holds (cur .constants) k is
-    → checkGenerations now copy (typesIn cur) (cur .constants) (cur .versions) (rel .constants) moved ≡ pass → Rise (firstUnder (typesIn cur) root moved) was is
-unfolding checkGenerations checkRoots checkGeneration checkAgainst checkValueOf versioned noConstant noGeneration
+    → checkGenerations now copy (cur .versions) (typesIn cur) (cur .constants) (rel .constants) moved ≡ pass → Rise (firstUnder (typesIn cur) root moved) was is
+unfolding checkGenerations checkRoots checkGeneration checkAgainst checkFrom versioned noConstant noGeneration
 rise now copy cur rel moved names {root} {k} c {was} {is} hw hi h =
     let all = then-pass _ _ h .1 in
     let mem : List·Memᴰ root (versioned (cur .structs)) = Memᴰ·cast (sym (c .struct-name)) (roots-mem (cur .structs) slotOrder (c .is-slot) (in-slot cur names c)) in
-    let at-root = each-pass (checkGeneration now copy (typesIn cur) (cur .constants) (cur .versions) (rel .constants) moved) (versioned (cur .structs)) all mem in
-    let g = found-stop (generation (cur .structs) (cur .constants) root) _ _ _ at-root in
+    let at-root = each-pass (checkGeneration now copy (cur .versions) (typesIn cur) (cur .constants) (rel .constants) moved) (versioned (cur .structs)) all mem in
+    let g = found-stop (generationOf (cur .structs) (cur .constants) root) _ _ _ at-root in
     let same = generation-is cur names c hi (g .1) in
-    let at-number : checkValueOf now copy (cur .versions) (firstUnder (typesIn cur) root moved) root (g .0) (integer was) ≡ pass =
+    let at-number : checkFrom now copy (cur .versions) (firstUnder (typesIn cur) root moved) root (g .0) (integer was) ≡ pass =
     rw (same .0, hw .is-found, hw .is-integer) at (g .2) in
     let at-rise = then-pass _ _ at-number .1 in
     subst (λ (n : ℕ). Rise (firstUnder (typesIn cur) root moved) was n) (same .1) (rise-of now copy (cur .versions) _ root _ was (g .0 .number) at-rise)

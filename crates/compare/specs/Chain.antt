@@ -12,7 +12,7 @@ use Rattle.record.specs.Shapes.{Place}
 use Rattle.record.specs.Owner.{typesIn, ownerOf}
 use Rattle.layout.specs.Layout.{TypeLayout, types, typeIn}
 use Rattle.compare.specs.Bitfields.{widthOf}
-use Rattle.compare.specs.Versioned.{slotOrder}
+use Rattle.record.specs.Versioned.{slotOrder}
 use Rattle.compare.specs.Generations.{owning}
 
 -- what a record holds -------------------------------------------------------------------------------------------------------------

@@ -7,7 +7,8 @@ use Rattle.record.specs.Schema.{Value, integer, words, Const, Struct}
 use Rattle.layout.specs.Sorted.{sorted}
 use Rattle.compare.specs.Verdicts.{Verdict, constantGone, constantChanged}
 use Rattle.compare.specs.Pass.{ensure, each, onFound}
-use Rattle.compare.specs.Versioned.{versioned, Generation, generation}
+use Rattle.record.specs.Versioned.{versioned}
+use Rattle.record.specs.Generation.{Held, generationOf}
 
 -- 01: constants compare as text, integers in decimal
 unfoldable pub valueText : Value → Str
@@ -18,13 +19,13 @@ valueText (words t) = t
 unfoldable pub lastConstant : Str → List Const → Option Const
 lastConstant n l = findLast (λ (c : Const). eqs (c .name) n) l
 
-unfoldable pub holdsIn : Str → Option Generation → Bool
+unfoldable pub holdsIn : Str → Option Held → Bool
 holdsIn n none = false
 holdsIn n (some g) = eqs (g .constant) n
 
 -- the constants that hold the generations: the one set meant to change
 unfoldable pub isGeneration : List Struct → List Const → Str → Bool
-isGeneration ss cs n = any (λ (root : Str). holdsIn n (generation ss cs root)) (versioned ss)
+isGeneration ss cs n = any (λ (root : Str). holdsIn n (generationOf ss cs root)) (versioned ss)
 
 -- the current structures and constants, and one that was
 unfoldable pub checkConstant : List Struct → List Const → Const → Verdict

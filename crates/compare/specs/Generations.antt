@@ -11,7 +11,8 @@ use Rattle.record.specs.Owner.{Types, ownerOf}
 use Rattle.layout.specs.Layout.{TypeLayout}
 use Rattle.compare.specs.Verdicts.{Verdict, pass, uncovered, noConstant, noGeneration, unraised, unlisted, leapt, fell}
 use Rattle.compare.specs.Pass.{_then_, ensure, each, onFound}
-use Rattle.compare.specs.Versioned.{versioned, Generation, generation}
+use Rattle.record.specs.Versioned.{versioned}
+use Rattle.record.specs.Generation.{Held, generationOf}
 
 -- which number covers a type -------------------------------------------------------------------------------------------------------
 
@@ -46,36 +47,35 @@ firstUnder ts root changed = find (under ts root) changed
 unfoldable pub isListed : Str → ℕ → List Version → Bool
 isListed root n vs = any (λ (v : Version). eqs (v .struct) root && eqb (v .version) n) vs
 
--- the current release and the copy's, the current version entries, the first changed type under the root, the root, its constant, and the
--- constant's number before and now
-unfoldable pub checkRise : Str → Option Str → List Version → Option TypeLayout → Str → Str → ℕ → ℕ → Verdict
-checkRise now copy vs touched root k was is =
-    cond (ltb is was) (fell k was is)
-    (cond (eqb is was) (onFound touched pass (λ (t : TypeLayout). unraised root was (t .name) k (was + 1)))
-    (cond (eqb is (was + 1)) (ensure (isListed root is vs) (unlisted k is root)) (leapt k was is copy now)))
+-- the current release and the copy's, and the current version entries
+module _ (now : Str) (copy : Option Str) (vs : List Version) where
+  -- the first changed type under the root, the root, its constant, and the constant's number before and now
+  unfoldable pub checkRise : Option TypeLayout → Str → Str → ℕ → ℕ → Verdict
+  checkRise touched root k was is =
+      cond (ltb is was) (fell k was is)
+      (cond (eqb is was) (onFound touched pass (λ (t : TypeLayout). unraised root was (t .name) k (was + 1)))
+      (cond (eqb is (was + 1)) (ensure (isListed root is vs) (unlisted k is root)) (leapt k was is copy now)))
 
--- a text is skipped
-unfoldable pub checkValueOf : Str → Option Str → List Version → Option TypeLayout → Str → Generation → Value → Verdict
-checkValueOf now copy vs touched root g (words t) = pass
-checkValueOf now copy vs touched root g (integer was) =
-    ensure (ltb was (2 ^ 32)) (noGeneration (g .constant) was)
-    then checkRise now copy vs touched root (g .constant) was (g .number)
+  -- a text is skipped
+  unfoldable pub checkFrom : Option TypeLayout → Str → Held → Value → Verdict
+  checkFrom touched root g (words t) = pass
+  checkFrom touched root g (integer was) =
+      ensure (ltb was (2 ^ 32)) (noGeneration (g .constant) was) then checkRise touched root (g .constant) was (g .number)
 
--- 01: an absent released generation constant is skipped
-unfoldable pub checkAgainst : Str → Option Str → List Version → Option TypeLayout → Str → Generation → Option Const → Verdict
-checkAgainst now copy vs touched root g none = pass
-checkAgainst now copy vs touched root g (some c) = checkValueOf now copy vs touched root g (c .value)
+  -- 01: an absent released generation constant is skipped
+  unfoldable pub checkAgainst : Option TypeLayout → Str → Held → Option Const → Verdict
+  checkAgainst touched root g none = pass
+  checkAgainst touched root g (some c) = checkFrom touched root g (c .value)
 
--- one root: the current release and the copy's, the current types, constants and version entries, the released constants, the changed types
-unfoldable pub checkGeneration : Str → Option Str → Types → List Const → List Version → List Const → List TypeLayout → Str → Verdict
-checkGeneration now copy ts cs vs cs₀ changed root =
-    onFound (generation (ts .structs) cs root) (noConstant root)
-    (λ (g : Generation). checkAgainst now copy vs (firstUnder ts root changed) root g (constantIn (g .constant) cs₀))
+  -- the current types and constants, the released constants, the changed types, and a root
+  unfoldable pub checkGeneration : Types → List Const → List Const → List TypeLayout → Str → Verdict
+  checkGeneration ts cs cs₀ changed root =
+      onFound (generationOf (ts .structs) cs root) (noConstant root)
+      (λ (g : Held). checkAgainst (firstUnder ts root changed) root g (constantIn (g .constant) cs₀))
 
-unfoldable pub checkRoots : Str → Option Str → Types → List Const → List Version → List Const → List TypeLayout → List Str → Verdict
-checkRoots now copy ts cs vs cs₀ changed roots = each (checkGeneration now copy ts cs vs cs₀ changed) roots
+  unfoldable pub checkRoots : Types → List Const → List Const → List TypeLayout → List Str → Verdict
+  checkRoots ts cs cs₀ changed roots = each (checkGeneration ts cs cs₀ changed) roots
 
--- first that every changed type is covered, then the roots
-unfoldable pub checkGenerations : Str → Option Str → Types → List Const → List Version → List Const → List TypeLayout → Verdict
-checkGenerations now copy ts cs vs cs₀ changed =
-    checkAllCovered ts changed then checkRoots now copy ts cs vs cs₀ changed (versioned (ts .structs))
+  -- first that every changed type is covered, then the roots
+  unfoldable pub checkGenerations : Types → List Const → List Const → List TypeLayout → Verdict
+  checkGenerations ts cs cs₀ changed = checkAllCovered ts changed then checkRoots ts cs cs₀ changed (versioned (ts .structs))

@@ -2,6 +2,7 @@
 use mathlib.Core.List.{List, [], _∷_}
 use mathlib.Core.Option.{Option, none, some}
 use mathlib.Core.Bool.{Bool, true, false}
+use Rattle.record.specs.Base.{Str, orElse}
 use Rattle.compare.specs.Verdicts.{Verdict, pass, stop}
 
 infixl 40 _then_
@@ -13,6 +14,10 @@ stop w m then v = stop w m
 unfoldable pub ensure : Bool → Verdict → Verdict
 ensure true v = pass
 ensure false v = v
+
+-- 01's "!": a text that a current record must have
+unfoldable pub required : Option Str → Str
+required t = orElse t []
 
 module _ {A : Type 0} where
   -- the first violation over a list

@@ -94,11 +94,11 @@ described = stop w·described (joined (bytes "the released schema says unrelease
 
 -- 12
 unfoldable pub nowUnreadable : Str → Verdict
-nowUnreadable now = stop w·now-unreadable (joined (bytes "[schema] firmware_release is '" ∷ now ∷ bytes "', which is not a firmware release like 0.8.0" ∷ []))
+nowUnreadable current = stop w·now-unreadable (joined (bytes "[schema] firmware_release is '" ∷ current ∷ bytes "', which is not a firmware release like 0.8.0" ∷ []))
 
 -- 13
 unfoldable pub beforeNaming : Str → Verdict
-beforeNaming now = stop w·before-naming (joined (bytes "the released schema names no firmware_release, so it was taken before 0.8.0, and this schema says " ∷ now ∷ []))
+beforeNaming current = stop w·before-naming (joined (bytes "the released schema names no firmware_release, so it was taken before 0.8.0, and this schema says " ∷ current ∷ []))
 
 -- 14
 unfoldable pub wasUnreadable : Str → Verdict
@@ -106,15 +106,15 @@ wasUnreadable was = stop w·was-unreadable (joined (bytes "the released schema's
 
 -- 15
 unfoldable pub notLater : Str → Str → Verdict
-notLater was now = stop w·not-later (joined (bytes "the released schema names " ∷ was ∷ bytes " and this schema names " ∷ now ∷ bytes ", so there is no released layout to compare against - raise [schema] firmware_release, or refresh the copy with ci/update-released-schema.sh" ∷ []))
+notLater was current = stop w·not-later (joined (bytes "the released schema names " ∷ was ∷ bytes " and this schema names " ∷ current ∷ bytes ", so there is no released layout to compare against - raise [schema] firmware_release, or refresh the copy with ci/update-released-schema.sh" ∷ []))
 
 -- 16
 unfoldable pub valueUndated : Str → Str → Str → Str → Verdict
-valueUndated owner name now release = stop w·value-undated (joined (owner ∷ bytes "::" ∷ name ∷ bytes " is not in the copy of the last release, so it reaches the plugin API in " ∷ now ∷ bytes " - it declares no first_release, and " ∷ owner ∷ bytes "'s is " ∷ release ∷ []))
+valueUndated owner name current release = stop w·value-undated (joined (owner ∷ bytes "::" ∷ name ∷ bytes " is not in the copy of the last release, so it reaches the plugin API in " ∷ current ∷ bytes " - it declares no first_release, and " ∷ owner ∷ bytes "'s is " ∷ release ∷ []))
 
 -- 17
 unfoldable pub late : Item → Str → Str → Verdict
-late what now names = stop w·late (joined (itemPieces what ++ (bytes " is not in the copy of the last release, so it reaches the plugin API in " ∷ now ∷ bytes " - its first_release says " ∷ names ∷ [])))
+late what current names = stop w·late (joined (itemPieces what ++ (bytes " is not in the copy of the last release, so it reaches the plugin API in " ∷ current ∷ bytes " - its first_release says " ∷ names ∷ [])))
 
 -- 18
 unfoldable pub redated : Item → Str → Str → Verdict
@@ -122,7 +122,7 @@ redated what was names = stop w·redated (joined (itemPieces what ++ (bytes " na
 
 -- 19
 unfoldable pub backdated : Item → Option Str → Str → Verdict
-backdated what copy now = stop w·backdated (joined (itemPieces what ++ (bytes " was already in the plugin API of " ∷ copyOf copy ∷ bytes " and names " ∷ now ∷ bytes ", the release under development - it reached the plugin API before that, and the copy says no more of it than that it was there" ∷ [])))
+backdated what copy current = stop w·backdated (joined (itemPieces what ++ (bytes " was already in the plugin API of " ∷ copyOf copy ∷ bytes " and names " ∷ current ∷ bytes ", the release under development - it reached the plugin API before that, and the copy says no more of it than that it was there" ∷ [])))
 
 -- 20
 unfoldable pub constantGone : Str → Verdict
@@ -170,7 +170,7 @@ widthChanged owner name was is = stop w·width-changed (joined (owner ∷ bytes 
 
 -- 31
 unfoldable pub bitsLate : Item → Str → Str → Verdict
-bitsLate what now release = stop w·bits-late (joined (itemPieces what ++ (bytes " is not in the copy of the last release, so it arrives in " ∷ now ∷ bytes ", and its release is " ∷ release ∷ [])))
+bitsLate what current release = stop w·bits-late (joined (itemPieces what ++ (bytes " is not in the copy of the last release, so it arrives in " ∷ current ∷ bytes ", and its release is " ∷ release ∷ [])))
 
 -- 32
 unfoldable pub bitsRedated : Item → Str → Str → Verdict
@@ -226,7 +226,7 @@ unlisted constant is name = stop w·unlisted (joined (constant ∷ bytes " was r
 
 -- 45
 unfoldable pub leapt : Str → ℕ → ℕ → Option Str → Str → Verdict
-leapt constant was is copy now = stop w·leapt (joined (constant ∷ bytes " was " ∷ decimal was ∷ bytes " in the last release and is " ∷ decimal is ∷ bytes " now - a generation rises by one per release, so that a host holding a device's bytes can name every layout in between.  The copy compared against is of " ∷ copyOf copy ∷ bytes ", and this schema is " ∷ now ∷ bytes " - a copy left unrefreshed across a development cycle reads as a rise of more than one, and ci/update-released-schema.sh refreshes it" ∷ []))
+leapt constant was is copy current = stop w·leapt (joined (constant ∷ bytes " was " ∷ decimal was ∷ bytes " in the last release and is " ∷ decimal is ∷ bytes " now - a generation rises by one per release, so that a host holding a device's bytes can name every layout in between.  The copy compared against is of " ∷ copyOf copy ∷ bytes ", and this schema is " ∷ current ∷ bytes " - a copy left unrefreshed across a development cycle reads as a rise of more than one, and ci/update-released-schema.sh refreshes it" ∷ []))
 
 -- 46
 unfoldable pub fell : Str → ℕ → ℕ → Verdict

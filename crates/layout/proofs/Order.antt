@@ -48,7 +48,7 @@ before-same : (a b : ℕ) (s t : Str) → a ≡ b → before s t ≡ true → be
 unfolding before
 before-same a b s t e h = rw (le-ltb a b (omega arith), eq-eqb a b e) h
 
-before-trans : (s t u : Str) → before s t ≡ true → before t u ≡ true → before s u ≡ true
+pub before-trans : (s t u : Str) → before s t ≡ true → before t u ≡ true → before s u ≡ true
 unfolding before
 before-trans [] [] u h k = k
 before-trans [] (b ∷ t) [] h k = absurd (false≢true k)
@@ -64,7 +64,7 @@ before-trans (a ∷ s) (b ∷ t) (c ∷ u) h k = go (heads a b s t h) (heads b c
     go (inr p) (inl q) r = before-less a c s u (let e = p .0 in omega arith)
     go (inr p) (inr q) r = before-same a c s u (p .0 ∙ q .0) (r (p .1) (q .1))
 
-before-irrefl : (s : Str) → before s s ≡ true → ⊥
+pub before-irrefl : (s : Str) → before s s ≡ true → ⊥
 unfolding before
 before-irrefl [] h = false≢true h
 before-irrefl (a ∷ s) h = go (heads a a s s h) (before-irrefl s)
@@ -73,7 +73,7 @@ before-irrefl (a ∷ s) h = go (heads a a s s h) (before-irrefl s)
     go (inl p) r = omega arith
     go (inr p) r = r (p .1)
 
-before-total : (s t : Str) → eqs s t ≡ false → before s t ≡ false → before t s ≡ true
+pub before-total : (s t : Str) → eqs s t ≡ false → before s t ≡ false → before t s ≡ true
 unfolding before eqs
 before-total [] [] e h = absurd (false≢true (sym e))
 before-total [] (b ∷ t) e h = absurd (false≢true (sym h))
@@ -92,6 +92,15 @@ before-total (a ∷ s) (b ∷ t) e h = go (order a b) e h (λ x y. before-total 
         below : (i j : ℕ) → j ≤ i → (i ≡ j → ⊥) → j < i
         below i j p q = omega arith
 
+-- what is before x, where a is not, is before a
+pub before-co : (b a x : Str) → before b x ≡ true → before a x ≡ false → before b a ≡ true
+before-co b a x p q = go (before b a) (eqs b a) refl refl
+  where
+    go : (t u : Bool) → before b a ≡ t → eqs b a ≡ u → t ≡ true
+    go true u e f = refl
+    go false true e f = absurd (false≢true (sym q ∙ ap (λ (y : Str). before y x) (sym (eqs→eq b a f)) ∙ p))
+    go false false e f = absurd (false≢true (sym q ∙ before-trans a b x (before-total b a f e) p))
+
 -- sorted strictly by name
 abbrev pub Sorted : {A : Type 0} → (A → Str) → List A → Type 0
 Sorted name [] = Unit {0}
@@ -106,14 +115,14 @@ pub scan : {A : Type 0} → (A → Str) → (Str → Bool) → Option A → List
 scan name p o [] = o
 scan name p o (x ∷ xs) = scan name p (better name p o x) xs
 
-not-after : (s t : Str) → before s t ≡ true → before t s ≡ false
+pub not-after : (s t : Str) → before s t ≡ true → before t s ≡ false
 not-after s t h = go (before t s) refl
   where
     go : (b : Bool) → before t s ≡ b → b ≡ false
     go true e = absurd (before-irrefl s (before-trans s t s h e))
     go false e = refl
 
-not-self : (s t : Str) → s ≡ t → before s t ≡ false
+pub not-self : (s t : Str) → s ≡ t → before s t ≡ false
 not-self s t q = go (before s t) refl
   where
     go : (b : Bool) → before s t ≡ b → b ≡ false

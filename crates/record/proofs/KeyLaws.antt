@@ -23,7 +23,7 @@ use Rattle.record.specs.declared.keys.KeysAt.{KeysAt}
 use Rattle.record.specs.declared.keys.KeysAt.the-variants.{Structs, Fields, Unstored}
 use Rattle.record.specs.declared.keys.PluginKeyStep.{PluginKeyStep}
 use Rattle.record.specs.declared.keys.PluginKeyStep.the-variants.{NoPluginKey, APluginKey}
-use Rattle.record.specs.Keys.{withKey, fieldKeys, structKeys, pluginKeys, keysFrom, AllKeys, PluginKeysFrom, InFields}
+use Rattle.record.specs.Keys.{withKey, fieldKeys, pluginKeys, keysFrom, AllKeys, PluginKeysFrom, InFields}
 
 -- fields ------------------------------------------------------------------------------------------------------------------
 
@@ -81,11 +81,11 @@ module _ (s : Str) (a b : KeysAt) where
 
 module _ (s : Str) (a : KeysAt) (c : Cursor) (o : Idle s a (Structs c)) (r : StructStep) (f : StructsFrom s (c .at) r) where
   pub structs-ended : (g : Cursor) → r ≡ NoStruct → g ≡ start → Idle s a (Unstored g)
-  unfolding keysFrom structKeys
+  unfolding keysFrom pluginKeys
   structs-ended g m i = record { same = λ p. o .same p ∙ rw (structs-over-now s (c .at) r f p m, i) }
 
   pub struct-opened : (e : D.Struct.Struct) (k : Cursor) → r ≡ AStruct e k → Idle s a (Fields k k)
-  unfolding keysFrom structKeys
+  unfolding keysFrom pluginKeys
   struct-opened e k m = record { same = λ p. o .same p ∙ rw (structs-now s (c .at) r f p e k m) }
 
 module _ (s : Str) (a : KeysAt) (i k : Cursor) (o : Idle s a (Fields i k)) (r : KeyStep) (f : InFields s (i .at) r) where

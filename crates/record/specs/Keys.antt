@@ -22,20 +22,17 @@ unfoldable pub fieldKeys : List Field → List Key → List Key
 fieldKeys [] l = l
 fieldKeys (f ∷ fs) l = withKey (f .key) (fieldKeys fs l)
 
-unfoldable pub structKeys : List Struct → List Key → List Key
-structKeys [] l = l
-structKeys (t ∷ ts) l = fieldKeys (t .fields) (structKeys ts l)
-
 -- the keys of structures' fields, then the unstored ones, as all have one id; those of families and variants are not looked at
 unfoldable pub pluginKeys : List Struct → List Key → List Key
-pluginKeys ss l = structKeys ss l
+pluginKeys [] l = l
+pluginKeys (t ∷ ts) l = fieldKeys (t .fields) (pluginKeys ts l)
 
 -- the walk ----------------------------------------------------------------------------------------------------------------
 
 -- what is left of the walk
 unfoldable pub keysFrom : Str → Str → KeysAt → List Key
-keysFrom s p (Structs k) = structKeys (structsAt s p (k .at)) (unstoredAt s p 0)
-keysFrom s p (Fields f k) = fieldKeys (fieldsAt s p (f .at)) (structKeys (structsAt s p (k .at)) (unstoredAt s p 0))
+keysFrom s p (Structs k) = pluginKeys (structsAt s p (k .at)) (unstoredAt s p 0)
+keysFrom s p (Fields f k) = fieldKeys (fieldsAt s p (f .at)) (pluginKeys (structsAt s p (k .at)) (unstoredAt s p 0))
 keysFrom s p (Unstored k) = unstoredAt s p (k .at)
 
 -- nothing is taken yet, in any record

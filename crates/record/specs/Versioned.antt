@@ -2,13 +2,18 @@
 use mathlib.Core.List.{List, [], _∷_}
 use Rattle.record.specs.Base.{Str, bytes}
 use Rattle.record.specs.Steps.{structFound}
-use Rattle.record.specs.Owner.{withName}
+use Rattle.record.specs.Schema.{Struct}
+use Rattle.record.specs.Owner.{withName, rootsIn}
 use Rattle.record.specs.References.{InSlot}
 use Rattle.record.specs.declared.versioned.Versioned.{Versioned}
 
 -- the order in which the check takes the slots
 unfoldable pub slotOrder : List Str
 slotOrder = bytes "info" ∷ bytes "metadata" ∷ bytes "runtime" ∷ []
+
+-- the names of the structures that fill them
+unfoldable pub versioned : List Struct → List Str
+versioned ss = rootsIn ss slotOrder
 
 -- each answer is the first structure with that slot text
 pub record InSlots (s p : Str) (r : Versioned) : Type 0 where

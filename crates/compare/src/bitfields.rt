@@ -1,0 +1,173 @@
+// The pass over the bit fields: a released member keeps its name and its bits.
+use crate::verdict::Verdict;
+use record::command::Bitfield;
+use record::command::Cursor;
+use record::command::Member;
+use record::lists::BitfieldStep;
+use record::lists::MemberStep;
+use record::lists::find_bitfield;
+use record::lists::find_member;
+use record::lists::next_bitfield;
+use record::lists::next_member;
+use record::operands::OptNumber;
+use record::text::Text;
+use record::text::bytes_of;
+ghost use mathlib.Core.Path.{_≡_};
+ghost use Rattle.record.specs.Base.{orElse};
+ghost use Rattle.record.specs.Stretch.{textOf};
+ghost use Rattle.record.specs.Lists.{numberOf, bitfieldOf, memberOf};
+ghost use Rattle.record.specs.Steps.{bitfieldsAt, membersAt};
+ghost use Rattle.compare.specs.Bitfields.{checkMember, checkMembers, checkBitfield, checkBitfields};
+ghost use Rattle.compare.specs.Sought.{spansOf, SpanFrom};
+ghost use Rattle.compare.specs.Meaning.{meaning};
+
+// A member's width: one bit where none is given.
+fn width(given: OptNumber) -> u32
+    ensures { λ r. ⌜ r ≡ orElse (numberOf given) 1 ⌝ }
+{
+    match given {
+        OptNumber::Missing => 1,
+        OptNumber::Number(n) => n,
+    }
+}
+
+// Whether a member has that bit and width.
+fn spans(m: Member, bit: u32, wide: u32) -> bool
+    ensures { λ r. ⌜ r ≡ spansOf m bit wide ⌝ }
+{
+    let given = m.width;
+    if width(given) != wide {
+        return false;
+    }
+    m.bit == bit
+}
+
+// The first member with that bit and width from a cursor on.
+fn find_span(stream: &[u8], from: Cursor, bit: u32, wide: u32) -> MemberStep
+    ensures { λ r. ⌜ SpanFrom bit wide (now (stream .entry)) (from .at) r ⌝ }
+{
+    let mut cursor = from;
+    loop {
+        let MemberStep::AMember(m, after) = next_member(stream, cursor) else {
+            return MemberStep::NoMember;
+        };
+        if spans(m, bit, wide) {
+            return MemberStep::AMember(m, after);
+        }
+        cursor = after;
+    }
+}
+
+// One released member against those that are now, from a cursor on.
+fn check_member(
+    stream: &[u8],
+    pool: &[u8],
+    old: &[u8],
+    is: Cursor,
+    owner: Text,
+    was: Member,
+) -> Verdict
+    ensures { λ r. ⌜ meaning (now (pool .entry)) (now (old .entry)) r ≡ checkMember (textOf (now (old .entry)) owner) (membersAt (now (stream .entry)) (now (pool .entry)) (is .at)) (memberOf (now (old .entry)) was) ⌝ }
+{
+    let name = was.name;
+    let given = was.width;
+    let wide = width(given);
+    let named = find_member(stream, pool, is, bytes_of(old, name));
+    if let MemberStep::AMember(m, _) = named {
+        if m.bit != was.bit {
+            return Verdict::BitMoved {
+                owner,
+                name,
+                was: was.bit,
+                is: m.bit,
+            };
+        }
+        let given_now = m.width;
+        let wide_now = width(given_now);
+        if wide_now != wide {
+            return Verdict::WidthChanged {
+                owner,
+                name,
+                was: wide,
+                is: wide_now,
+            };
+        }
+        return Verdict::Passed;
+    }
+    let MemberStep::AMember(m, _) = find_span(stream, is, was.bit, wide) else {
+        return Verdict::MemberGone { owner, name };
+    };
+    let is_now = m.name;
+    Verdict::MemberRenamed {
+        owner,
+        name,
+        is: is_now,
+    }
+}
+
+// The released members from a cursor on against those that are now.
+fn check_members(
+    stream: &[u8],
+    pool: &[u8],
+    past: &[u8],
+    old: &[u8],
+    is: Cursor,
+    owner: Text,
+    from: Cursor,
+) -> Verdict
+    ensures { λ r. ⌜ meaning (now (pool .entry)) (now (old .entry)) r ≡ checkMembers (textOf (now (old .entry)) owner) (membersAt (now (stream .entry)) (now (pool .entry)) (is .at)) (membersAt (now (past .entry)) (now (old .entry)) (from .at)) ⌝ }
+{
+    let mut cursor = from;
+    loop {
+        let MemberStep::AMember(was, after) = next_member(past, cursor) else {
+            return Verdict::Passed;
+        };
+        let verdict = check_member(stream, pool, old, is, owner, was);
+        if let Verdict::Passed = verdict {
+            cursor = after;
+        } else {
+            return verdict;
+        }
+    }
+}
+
+// One released bit field, whose members begin at a cursor.
+fn check_bitfield(
+    stream: &[u8],
+    pool: &[u8],
+    past: &[u8],
+    old: &[u8],
+    was: Bitfield,
+    from: Cursor,
+) -> Verdict
+    ensures { λ r. ⌜ meaning (now (pool .entry)) (now (old .entry)) r ≡ checkBitfield (bitfieldsAt (now (stream .entry)) (now (pool .entry)) 0) (bitfieldOf (now (old .entry)) was (membersAt (now (past .entry)) (now (old .entry)) (from .at))) ⌝ }
+{
+    let name = was.name;
+    let BitfieldStep::ABitfield(_, is) = find_bitfield(
+        stream,
+        pool,
+        Cursor::new(),
+        bytes_of(old, name),
+    ) else {
+        return Verdict::BitFieldGone { name };
+    };
+    check_members(stream, pool, past, old, is, name, from)
+}
+
+// The first bit field or member of the release that does not stand as it was.
+pub fn check_bitfields(stream: &[u8], pool: &[u8], past: &[u8], old: &[u8]) -> Verdict
+    ensures { λ r. ⌜ meaning (now (pool .entry)) (now (old .entry)) r ≡ checkBitfields (bitfieldsAt (now (stream .entry)) (now (pool .entry)) 0) (bitfieldsAt (now (past .entry)) (now (old .entry)) 0) ⌝ }
+{
+    let mut cursor = Cursor::new();
+    loop {
+        let BitfieldStep::ABitfield(was, after) = next_bitfield(past, cursor) else {
+            return Verdict::Passed;
+        };
+        let verdict = check_bitfield(stream, pool, past, old, was, after);
+        if let Verdict::Passed = verdict {
+            cursor = after;
+        } else {
+            return verdict;
+        }
+    }
+}

@@ -1,0 +1,136 @@
+// The pass over the enums: a released value keeps its name and its number.
+use crate::verdict::Verdict;
+use record::command::Cursor;
+use record::command::Enum;
+use record::command::Value;
+use record::lists::EnumStep;
+use record::lists::ValueStep;
+use record::lists::find_enum;
+use record::lists::find_value;
+use record::lists::next_enum;
+use record::lists::next_value;
+use record::text::Text;
+use record::text::bytes_of;
+ghost use mathlib.Core.Path.{_≡_};
+ghost use Rattle.record.specs.Stretch.{textOf};
+ghost use Rattle.record.specs.Lists.{enumOf, valueOf};
+ghost use Rattle.record.specs.Steps.{enumsAt, valuesAt};
+ghost use Rattle.compare.specs.Enums.{checkValue, checkValues, checkEnum, checkEnums};
+ghost use Rattle.compare.specs.Sought.{NumberFrom};
+ghost use Rattle.compare.specs.Meaning.{meaning};
+
+// The first value with that number from a cursor on.
+fn find_number(stream: &[u8], from: Cursor, number: u64) -> ValueStep
+    ensures { λ r. ⌜ NumberFrom number (now (stream .entry)) (from .at) r ⌝ }
+{
+    let mut cursor = from;
+    loop {
+        let ValueStep::AValue(v, after) = next_value(stream, cursor) else {
+            return ValueStep::NoValue;
+        };
+        if v.value == number {
+            return ValueStep::AValue(v, after);
+        }
+        cursor = after;
+    }
+}
+
+// One released value against the values that are now, from a cursor on.
+fn check_value(
+    stream: &[u8],
+    pool: &[u8],
+    old: &[u8],
+    is: Cursor,
+    owner: Text,
+    was: Value,
+) -> Verdict
+    ensures { λ r. ⌜ meaning (now (pool .entry)) (now (old .entry)) r ≡ checkValue (textOf (now (old .entry)) owner) (valuesAt (now (stream .entry)) (now (pool .entry)) (is .at)) (valueOf (now (old .entry)) was) ⌝ }
+{
+    let name = was.name;
+    let named = find_value(stream, pool, is, bytes_of(old, name));
+    if let ValueStep::AValue(v, _) = named {
+        if v.value == was.value {
+            return Verdict::Passed;
+        }
+        return Verdict::Renumbered {
+            owner,
+            name,
+            was: was.value,
+            is: v.value,
+        };
+    }
+    let ValueStep::AValue(v, _) = find_number(stream, is, was.value) else {
+        return Verdict::ValueGone { owner, name };
+    };
+    let is_now = v.name;
+    Verdict::Renamed {
+        owner,
+        name,
+        is: is_now,
+    }
+}
+
+// The released values from a cursor on against those that are now.
+fn check_values(
+    stream: &[u8],
+    pool: &[u8],
+    past: &[u8],
+    old: &[u8],
+    is: Cursor,
+    owner: Text,
+    from: Cursor,
+) -> Verdict
+    ensures { λ r. ⌜ meaning (now (pool .entry)) (now (old .entry)) r ≡ checkValues (textOf (now (old .entry)) owner) (valuesAt (now (stream .entry)) (now (pool .entry)) (is .at)) (valuesAt (now (past .entry)) (now (old .entry)) (from .at)) ⌝ }
+{
+    let mut cursor = from;
+    loop {
+        let ValueStep::AValue(was, after) = next_value(past, cursor) else {
+            return Verdict::Passed;
+        };
+        let verdict = check_value(stream, pool, old, is, owner, was);
+        if let Verdict::Passed = verdict {
+            cursor = after;
+        } else {
+            return verdict;
+        }
+    }
+}
+
+// One released enum, whose values begin at a cursor.
+fn check_enum(
+    stream: &[u8],
+    pool: &[u8],
+    past: &[u8],
+    old: &[u8],
+    was: Enum,
+    from: Cursor,
+) -> Verdict
+    ensures { λ r. ⌜ meaning (now (pool .entry)) (now (old .entry)) r ≡ checkEnum (enumsAt (now (stream .entry)) (now (pool .entry)) 0) (enumOf (now (old .entry)) was (valuesAt (now (past .entry)) (now (old .entry)) (from .at))) ⌝ }
+{
+    let ValueStep::AValue(_, _) = next_value(past, from) else {
+        return Verdict::Passed;
+    };
+    let name = was.name;
+    let EnumStep::AnEnum(_, is) = find_enum(stream, pool, Cursor::new(), bytes_of(old, name)) else {
+        return Verdict::EnumGone { name };
+    };
+    check_values(stream, pool, past, old, is, name, from)
+}
+
+// The first enum or value of the release that does not stand as it was.
+pub fn check_enums(stream: &[u8], pool: &[u8], past: &[u8], old: &[u8]) -> Verdict
+    ensures { λ r. ⌜ meaning (now (pool .entry)) (now (old .entry)) r ≡ checkEnums (enumsAt (now (stream .entry)) (now (pool .entry)) 0) (enumsAt (now (past .entry)) (now (old .entry)) 0) ⌝ }
+{
+    let mut cursor = Cursor::new();
+    loop {
+        let EnumStep::AnEnum(was, after) = next_enum(past, cursor) else {
+            return Verdict::Passed;
+        };
+        let verdict = check_enum(stream, pool, past, old, was, after);
+        if let Verdict::Passed = verdict {
+            cursor = after;
+        } else {
+            return verdict;
+        }
+    }
+}

@@ -1,0 +1,146 @@
+-- Along the commands of a stream: an induction, the bytes they take, and the elements of a list that is read off them. Assumes nothing.
+use Prim.Native.Nat.{ℕ, zero, suc, _+_, _-_, _*_, _≤_, _<_}
+use mathlib.Core.List.{List, [], _∷_, map, List·Memᴰ, List·Memᴰ·head, List·Memᴰ·tail, List·Memᴰ·not-nil}
+use mathlib.Core.Bool.{Bool, true, false}
+use mathlib.Core.Path.{_≡_, refl, sym, ap, ap₂, subst, _∙_}
+use native.Mathlib.Omega.{arith}
+use lib.Dec.{eqb, ltb}
+use borrow.Author.Tests.{eqb-true, eqb-false}
+use lib.ListN.{length, getD, drop}
+use Rattle.record.specs.Base.{Str, bytes}
+use Rattle.record.specs.Commands.{operands, wide, widths, widthWith, widthOf, commandOf, place, stepAt, commandsAt}
+use Rattle.record.specs.Lists.{listed}
+use Rattle.record.specs.declared.command.Cursor.{Cursor}
+use Rattle.record.specs.declared.command.Command.{Command}
+use Rattle.record.specs.declared.command.Command.the-variants as C
+use Rattle.record.specs.declared.command.Step.{Step}
+use Rattle.record.specs.declared.command.Step.the-variants.{Next, Stop}
+use Rattle.record.proofs.CommandLaws.{step-end}
+use Rattle.record.proofs.Stream.{taken, step-found, commands-stop, commands-next}
+use Rattle.record.proofs.ListLaws.{byteOf, byte-is, listed-stop, listed-here, listed-over, listed-end}
+
+module _ (s : Str) (P : ℕ → Type 0) (stop : (at : ℕ) → stepAt s at ≡ Stop → P at) (next : (at : ℕ) (c : Command) (k : Cursor) → stepAt s at ≡ Next c k → P (k .at) → P at) where
+  along-from : (n at : ℕ) → length s ≤ n + at → P at
+  along-from zero at h = stop at (sym (step-end s at (omega arith)))
+  along-from (suc n) at h = go (along-from n) (stepAt s at) refl
+    where
+      go : ((to : ℕ) → length s ≤ n + to → P to) → (t : Step) → stepAt s at ≡ t → P at
+      go ih (Next c k) e = next at c k e (ih (k .at) (let f = step-found s at c k e in let a = f .on in omega arith))
+      go ih Stop e = stop at e
+
+  -- what holds where the stream stops, and at a command if it holds after it, holds at every place
+  pub along : (at : ℕ) → P at
+  along at = along-from (length s) at (omega arith)
+
+-- a command takes four bytes at least -------------------------------------------------------------------------------------
+
+four-wide : (c : Command) → 4 ≤ widthOf (byteOf c)
+unfolding widthOf widthWith operands widths wide bytes
+four-wide (C.Head x) = omega arith
+four-wide (C.Constant x) = omega arith
+four-wide (C.TypeAlias x) = omega arith
+four-wide (C.Enum x) = omega arith
+four-wide (C.Value x) = omega arith
+four-wide (C.Bitfield x) = omega arith
+four-wide (C.Member x) = omega arith
+four-wide (C.Struct x) = omega arith
+four-wide (C.Family x) = omega arith
+four-wide (C.Variant x) = omega arith
+four-wide (C.Field x) = omega arith
+four-wide (C.PluginKey x) = omega arith
+four-wide (C.UnstoredKey x) = omega arith
+four-wide (C.Version x) = omega arith
+
+module _ (s : Str) (at : ℕ) (c : Command) (k : Cursor) (e : stepAt s at ≡ Next c k) where
+  -- the place after a command
+  pub step-wide : k .at ≡ at + widthOf (getD s at 0)
+  unfolding stepAt
+  step-wide =
+      let b = getD s at 0 in
+      ap (λ (j : Cursor). j .at)
+      (sym (taken (ltb at (length s)) (eqb b 15) (eqb (widthOf b) 0) (ltb (length s - at) (widthOf b)) (commandOf b (drop at s)) c (place (at + widthOf b)) k e .next))
+
+  pub step-four : at + 4 ≤ k .at
+  step-four =
+      let w = four-wide c in
+      let b : widthOf (getD s at 0) ≡ widthOf (byteOf c) = ap widthOf (byte-is s at c k e) in
+      let n = step-wide in
+      omega arith
+
+-- places and elements -----------------------------------------------------------------------------------------------------
+
+-- at a place of a command there is one
+pub record Stands (s : Str) (at : ℕ) : Type 0 where
+  pub command : Command
+  pub after : Cursor
+  pub step : stepAt s at ≡ Next command after
+
+pub place-stands : (s : Str) (a at : ℕ) → List·Memᴰ at (commandsAt s a) → Stands s at
+place-stands s a at =
+    along s (λ (b : ℕ). List·Memᴰ at (commandsAt s b) → Stands s at) (λ b e m. absurd (List·Memᴰ·not-nil (rw (commands-stop s b e) at m)))
+    (λ b c k e ih m. go b c k e ih (rw (commands-next s b c k e) at m)) a
+  where
+    go : (b : ℕ) (c : Command) (k : Cursor) → stepAt s b ≡ Next c k → (List·Memᴰ at (commandsAt s (k .at)) → Stands s at) → List·Memᴰ at (b ∷ commandsAt s (k .at)) → Stands s at
+    go b c k e ih (List·Memᴰ·head q) = record { command = c; after = k; step = ap (stepAt s) q ∙ e }
+    go b c k e ih (List·Memᴰ·tail m) = ih m
+
+-- an element of a list comes from a place of its number
+pub record Element {A : Type 0} (s : Str) (b : ℕ) (f : ℕ → List ℕ → A) (a : ℕ) (u : A) : Type 0 where
+  pub where-from : ℕ
+  pub after : ℕ
+  pub in-stream : List·Memᴰ where-from (commandsAt s a)
+  pub number : getD s where-from 0 ≡ b
+  pub is : u ≡ f where-from (commandsAt s after)
+  pub later : (v : ℕ) → List·Memᴰ v (commandsAt s after) → List·Memᴰ v (commandsAt s a)
+
+module _ {A : Type 0} (s : Str) (over : ℕ → Bool) (b : ℕ) (f : ℕ → List ℕ → A) (u : A) where
+  pub listed-element : (a : ℕ) → List·Memᴰ u (listed s over b f (commandsAt s a)) → Element s b f a u
+  listed-element =
+      along s (λ (a : ℕ). List·Memᴰ u (listed s over b f (commandsAt s a)) → Element s b f a u)
+      (λ a e m. absurd (List·Memᴰ·not-nil (rw (listed-stop s over b f a e) at m)))
+      (λ a c k e ih m. go a c k e ih m (eqb (byteOf c) b) (over (byteOf c)) refl refl)
+    where
+      tail-in : (a : ℕ) (c : Command) (k : Cursor) → stepAt s a ≡ Next c k → (v : ℕ) → List·Memᴰ v (commandsAt s (k .at)) → List·Memᴰ v (commandsAt s a)
+      tail-in a c k e v m = subst (λ (l : List ℕ). List·Memᴰ v l) (sym (commands-next s a c k e)) (List·Memᴰ·tail m)
+
+      head-in : (a : ℕ) (c : Command) (k : Cursor) → stepAt s a ≡ Next c k → List·Memᴰ a (commandsAt s a)
+      head-in a c k e = subst (λ (l : List ℕ). List·Memᴰ a l) (sym (commands-next s a c k e)) (List·Memᴰ·head refl)
+
+      further : (a : ℕ) (c : Command) (k : Cursor) → stepAt s a ≡ Next c k → Element s b f (k .at) u → Element s b f a u
+      further a c k e r =
+          record {
+            where-from = r .where-from;
+            after = r .after;
+            in-stream = tail-in a c k e (r .where-from) (r .in-stream);
+            number = r .number;
+            is = r .is;
+            later = λ v m. tail-in a c k e v (r .later v m);
+          }
+
+      here : (a : ℕ) (c : Command) (k : Cursor) → stepAt s a ≡ Next c k → byteOf c ≡ b → (List·Memᴰ u (listed s over b f (commandsAt s (k .at))) → Element s b f (k .at) u)
+          → List·Memᴰ u (f a (commandsAt s (k .at)) ∷ listed s over b f (commandsAt s (k .at))) → Element s b f a u
+      here a c k e h ih (List·Memᴰ·head q) =
+          record { where-from = a; after = k .at; in-stream = head-in a c k e; number = byte-is s a c k e ∙ h; is = q; later = tail-in a c k e }
+      here a c k e h ih (List·Memᴰ·tail m) = further a c k e (ih m)
+
+      go : (a : ℕ) (c : Command) (k : Cursor) → stepAt s a ≡ Next c k → (List·Memᴰ u (listed s over b f (commandsAt s (k .at))) → Element s b f (k .at) u)
+          → List·Memᴰ u (listed s over b f (commandsAt s a)) → (t o : Bool) → eqb (byteOf c) b ≡ t → over (byteOf c) ≡ o → Element s b f a u
+      go a c k e ih m true o p q = let h = eqb-true (byteOf c) b p in here a c k e h ih (rw (listed-here s over b f a c k e h) at m)
+      go a c k e ih m false true p q = further a c k e (ih (rw (listed-over s over b f a c k e (eqb-false (byteOf c) b p) q) at m))
+      go a c k e ih m false false p q = absurd (List·Memᴰ·not-nil (rw (listed-end s over b f a c k e (eqb-false (byteOf c) b p) q) at m))
+
+-- two lists of one number whose elements give the same
+module _ {A B C : Type 0} (s : Str) (over : ℕ → Bool) (b : ℕ) (f : ℕ → List ℕ → A) (g : ℕ → List ℕ → B) (x : A → C) (y : B → C)
+    (same : (at : ℕ) (c : Command) (k : Cursor) → stepAt s at ≡ Next c k → getD s at 0 ≡ b → x (f at (commandsAt s (k .at))) ≡ y (g at (commandsAt s (k .at)))) where
+  pub listed-same : (at : ℕ) → map x (listed s over b f (commandsAt s at)) ≡ map y (listed s over b g (commandsAt s at))
+  listed-same =
+      along s (λ (at : ℕ). map x (listed s over b f (commandsAt s at)) ≡ map y (listed s over b g (commandsAt s at)))
+      (λ at e. rw (listed-stop s over b f at e, listed-stop s over b g at e)) (λ at c k e ih. go at c k e ih (eqb (byteOf c) b) (over (byteOf c)) refl refl)
+    where
+      go : (at : ℕ) (c : Command) (k : Cursor) → stepAt s at ≡ Next c k → map x (listed s over b f (commandsAt s (k .at))) ≡ map y (listed s over b g (commandsAt s (k .at)))
+          → (t o : Bool) → eqb (byteOf c) b ≡ t → over (byteOf c) ≡ o → map x (listed s over b f (commandsAt s at)) ≡ map y (listed s over b g (commandsAt s at))
+      go at c k e ih true o p q =
+          let h = eqb-true (byteOf c) b p in
+          rw (listed-here s over b f at c k e h, listed-here s over b g at c k e h) (ap₂ (λ (z : C) (l : List C). z ∷ l) (same at c k e (byte-is s at c k e ∙ h)) ih)
+      go at c k e ih false true p q = let h = eqb-false (byteOf c) b p in rw (listed-over s over b f at c k e h q, listed-over s over b g at c k e h q) ih
+      go at c k e ih false false p q = let h = eqb-false (byteOf c) b p in rw (listed-end s over b f at c k e h q, listed-end s over b g at c k e h q)

@@ -1,0 +1,229 @@
+-- Names in parts: their bytes, their order, and the names of types. Assumes nothing.
+use Prim.Native.Nat.{ℕ, zero, suc, _+_, _-_, _≤_, _<_}
+use mathlib.Core.List.{List, [], _∷_, _++_, append-assoc, append-nil}
+use mathlib.Core.Bool.{Bool, true, false, _&&_, _||_, cond, false≢true}
+use mathlib.Core.Path.{_≡_, refl, sym, ap, subst, _∙_}
+use native.Mathlib.Omega.{arith}
+use lib.ListN.{length, take, drop, getD, length-append, length-take, length-drop, List·getD-append, drop-of-length-le}
+use lib.Seq.{getD-append-add, length-take-le, take-all, getD-drop}
+use lib.Dec.{eqb, ltb}
+use mir.Val.{Fits}
+use mir.Syntax.{w8}
+use borrow.Author.Tests.{eq-eqb, ne-eqb, le-ltb}
+use Rattle.record.specs.Base.{Str, eqs, before}
+use Rattle.record.specs.Stretch.{textOf}
+use Rattle.record.specs.Operands.{textAt}
+use Rattle.record.specs.declared.text.Text.{Text}
+use Rattle.record.proofs.Basics.{eqs→eq}
+use Rattle.layout.specs.Words.{Skipped}
+use Rattle.layout.specs.Layout.{variantName}
+use Rattle.layout.specs.Handles.{nameAt, familyPart, placePart, typeName}
+use Rattle.layout.specs.Names.{joined, frontOf, colonsOf, backOf, Parts}
+use Rattle.layout.proofs.WordLaws.{before-next, before-below, before-above, before-longer, before-shorter, before-end, before-skip}
+
+-- the text at a place -----------------------------------------------------------------------------------------------------
+
+text-short : (p : Str) (t : Text) → t .len ≤ 255 → length (textOf p t) ≤ 255
+unfolding textOf
+text-short p t h = simp (length-take, length-drop) (omega arith)
+
+module _ (s p : Str) (at : ℕ) where
+  pub name-past : length s ≤ at → [] ≡ nameAt s p at
+  unfolding nameAt textOf textAt
+  name-past h = rw (drop-of-length-le s {i = at} h)
+
+  name-short : ((k : ℕ) → Fits w8 (getD s k 0)) → length (nameAt s p at) ≤ 255
+  unfolding nameAt textAt
+  name-short f = text-short p (textAt (drop at s) 1) (let g = f (at + 3) in rw getD-drop (omega arith))
+
+  pub name-is : (t : Text) (x : Str) → ((k : ℕ) → Fits w8 (getD s k 0)) → t ≡ textAt (take (length s - at) (drop at s)) 1 → x ≡ textOf p t
+      → (x ≡ nameAt s p at) × (length x ≤ 255)
+  unfolding nameAt
+  name-is t x h e f =
+      let d : take (length s - at) (drop at s) ≡ drop at s = take-all (length s - at) (drop at s) (rw length-drop (omega arith)) in
+      let g : x ≡ nameAt s p at = f ∙ rw (e, d) in
+      (g, rw g (name-short h))
+
+-- bytes of a name in parts ------------------------------------------------------------------------------------------------
+
+abbrev colons : Str
+colons = 58 ∷ 58 ∷ []
+
+module _ (f : Str) (k : ℕ) (b : Str) (i : ℕ) where
+  pub byte-front : i < length f → getD f i 0 ≡ getD (joined f k b) i 0
+  unfolding joined
+  byte-front h = sym (List·getD-append f (take k colons ++ b) 0 i h)
+
+  split : length f ≤ i → getD (joined f k b) i 0 ≡ getD (take k colons ++ b) (i - length f) 0
+  unfolding joined
+  split h =
+      let e : length f + (i - length f) ≡ i = omega arith in
+      subst (λ (n : ℕ). getD (f ++ (take k colons ++ b)) n 0 ≡ getD (take k colons ++ b) (i - length f) 0) e (getD-append-add f (take k colons ++ b) (i - length f) 0)
+
+colon : (k j : ℕ) (b : Str) → k ≤ 2 → j < k → 58 ≡ getD (take k colons ++ b) j 0
+colon zero j b h l = absurd (omega arith)
+colon (suc k) zero b h l = refl
+colon (suc zero) (suc j) b h l = absurd (omega arith)
+colon (suc (suc k)) (suc zero) b h l = refl
+colon (suc (suc k)) (suc (suc j)) b h l = absurd (omega arith)
+
+after-colons : (k j : ℕ) (b : Str) → k ≤ 2 → k ≤ j → getD b (j - k) 0 ≡ getD (take k colons ++ b) j 0
+after-colons k j b h l =
+    let n : length (take k colons) ≡ k = length-take-le k colons h in
+    let e : length (take k colons) + (j - k) ≡ j = omega arith in
+    sym (subst (λ (m : ℕ). getD (take k colons ++ b) m 0 ≡ getD b (j - k) 0) e (getD-append-add (take k colons) b (j - k) 0))
+
+module _ (f : Str) (k : ℕ) (b : Str) (i : ℕ) where
+  pub byte-colon : k ≤ 2 → length f ≤ i → i - length f < k → 58 ≡ getD (joined f k b) i 0
+  byte-colon h l m = colon k (i - length f) b h m ∙ sym (split f k b i l)
+
+  pub byte-back : (r : ℕ) → k ≤ 2 → length f ≤ i → k ≤ i - length f → r ≡ getD b (i - length f - k) 0 → r ≡ getD (joined f k b) i 0
+  byte-back r h l m e = e ∙ after-colons k (i - length f) b h m ∙ sym (split f k b i l)
+
+pub ruleset byte-laws = (byte-front, byte-colon, byte-back)
+
+pub joined-length : (f : Str) (k : ℕ) (b : Str) → Parts f k b → length f + k + length b ≡ length (joined f k b)
+unfolding joined
+joined-length f k b h =
+    let n : length (take k colons) ≡ k = length-take-le k colons (h .few) in
+    sym (simp length-append (omega arith))
+
+-- order of names in parts -------------------------------------------------------------------------------------------------
+
+front-long : (f : Str) (k : ℕ) (b : Str) (i : ℕ) → i ≤ length f → i ≤ length (joined f k b)
+unfolding joined
+front-long f k b i h = rw length-append (omega arith)
+
+-- what the fronts agree in, the names do
+pub joined-skip : (f : Str) (k : ℕ) (b g : Str) (l : ℕ) (d : Str) (i : ℕ) → Skipped f g i
+    → before (joined f k b) (joined g l d) ≡ before (drop i (joined f k b)) (drop i (joined g l d))
+joined-skip f k b g l d i s =
+    before-skip (joined f k b) (joined g l d) i
+    (record {
+      agree = λ j h. let p = s .in-first in let q = s .in-second in sym (byte-front f k b j (omega arith)) ∙ s .agree j h ∙ byte-front g l d j (omega arith);
+      in-first = front-long f k b i (s .in-first);
+      in-second = front-long g l d i (s .in-second);
+    })
+
+-- two names compared from an index on
+module _ (x y : Str) (n m i : ℕ) (p : n ≡ length x) (q : m ≡ length y) where
+  pub turn-longer : i < n → m ≤ i → before (drop i x) (drop i y) ≡ false
+  turn-longer h k = before-longer x y i (omega arith) (omega arith)
+
+  pub turn-below : (u v : ℕ) → i < n → i < m → u ≡ getD x i 0 → v ≡ getD y i 0 → u < v → before (drop i x) (drop i y) ≡ true
+  turn-below u v h k a b c = before-below x y i (omega arith) (omega arith) (omega arith)
+
+  pub turn-above : (u v : ℕ) → i < n → i < m → u ≡ getD x i 0 → v ≡ getD y i 0 → v < u → before (drop i x) (drop i y) ≡ false
+  turn-above u v h k a b c = before-above x y i (omega arith) (omega arith) (omega arith)
+
+  pub turn-next : (u v : ℕ) → i < n → i < m → u ≡ getD x i 0 → v ≡ getD y i 0 → v ≤ u → u ≤ v → before (drop i x) (drop i y) ≡ before (drop (i + 1) x) (drop (i + 1) y)
+  turn-next u v h k a b c d = before-next x y i (omega arith) (omega arith) (omega arith) (omega arith)
+
+  pub turn-shorter : n ≤ i → i < m → before (drop i x) (drop i y) ≡ true
+  turn-shorter h k = before-shorter x y i (omega arith) (omega arith)
+
+  pub turn-end : n ≤ i → m ≤ i → before (drop i x) (drop i y) ≡ false
+  turn-end h k = before-end x y i (omega arith) (omega arith)
+
+pub ruleset turn-laws = (turn-longer, turn-shorter, turn-end)
+
+-- equal fronts leave it to the rest
+same-front : (f x y : Str) → before (f ++ x) (f ++ y) ≡ before x y
+unfolding before
+same-front [] x y = refl
+same-front (a ∷ f) x y = rw (le-ltb a a (omega arith), eq-eqb a a refl) (same-front f x y)
+
+-- different fronts of one length decide
+other-front : (f g x y : Str) → length f ≡ length g → eqs f g ≡ false → before (f ++ x) (g ++ y) ≡ before f g
+unfolding before eqs
+other-front [] [] x y e h = absurd (false≢true (sym h))
+other-front [] (b ∷ g) x y e h = absurd (omega arith)
+other-front (a ∷ f) [] x y e h = absurd (omega arith)
+other-front (a ∷ f) (b ∷ g) x y e h = go (eqb a b) h (other-front f g x y (omega arith))
+  where
+    go : (t : Bool) → (t && eqs f g) ≡ false → (eqs f g ≡ false → before (f ++ x) (g ++ y) ≡ before f g)
+        → (ltb a b || (t && before (f ++ x) (g ++ y))) ≡ (ltb a b || (t && before f g))
+    go true k ih = ap (λ (z : Bool). ltb a b || z) (ih k)
+    go false k ih = refl
+
+module _ (f : Str) (k : ℕ) (b g : Str) (l : ℕ) (d : Str) where
+  pub parts-other : (t r : Bool) → length f ≡ length g → t ≡ eqs f g → t ≡ false → r ≡ before f g → r ≡ before (joined f k b) (joined g l d)
+  unfolding joined
+  parts-other t r e h z w = w ∙ sym (other-front f g (take k colons ++ b) (take l colons ++ d) e (sym h ∙ z))
+
+  pub parts-same : (t r : Bool) → t ≡ eqs f g → t ≡ true → k ≡ l → r ≡ before b d → r ≡ before (joined f k b) (joined g l d)
+  unfolding joined
+  parts-same t r h z e w = w ∙ sym (rw (eqs→eq f g (sym h ∙ z), e) (same-front g (take l colons ++ b) (take l colons ++ d) ∙ same-front (take l colons) b d))
+
+pub ruleset parts-laws = (parts-other, parts-same)
+
+-- names of types ----------------------------------------------------------------------------------------------------------
+
+pub colons-none : (h i : ℕ) → i ≡ familyPart h → i ≡ 0 → 0 ≡ colonsOf h
+unfolding colonsOf
+colons-none h i e z = rw (← e, z)
+
+pub colons-two : (h i : ℕ) → i ≡ familyPart h → (i ≡ 0 → ⊥) → 2 ≡ colonsOf h
+unfolding colonsOf
+colons-two h i e z = rw (← e, ne-eqb i 0 z)
+
+module _ (s p : Str) (h : ℕ) where
+  pub front-plain : (x : Str) (i at : ℕ) → i ≡ familyPart h → i ≡ 0 → at ≡ placePart h → x ≡ nameAt s p at → x ≡ frontOf s p h
+  unfolding frontOf
+  front-plain x i at e z f g = g ∙ rw (f, ← e, z)
+
+  pub front-family : (x : Str) (i : ℕ) → i ≡ familyPart h → (i ≡ 0 → ⊥) → x ≡ nameAt s p (i - 1) → x ≡ frontOf s p h
+  unfolding frontOf
+  front-family x i e z g = g ∙ rw (← e, ne-eqb i 0 z)
+
+  pub back-none : (i : ℕ) → i ≡ familyPart h → i ≡ 0 → [] ≡ backOf s p h
+  unfolding backOf
+  back-none i e z = rw (← e, z)
+
+  pub back-own : (x : Str) (i at : ℕ) → i ≡ familyPart h → (i ≡ 0 → ⊥) → at ≡ placePart h → x ≡ nameAt s p at → x ≡ backOf s p h
+  unfolding backOf
+  back-own x i at e z f g = g ∙ rw (f, ← e, ne-eqb i 0 z)
+
+  -- a type's name is its parts
+  pub type-parts : typeName s p h ≡ joined (frontOf s p h) (colonsOf h) (backOf s p h)
+  unfolding typeName variantName joined frontOf colonsOf backOf
+  type-parts = go (eqb (familyPart h) 0)
+    where
+      go : (t : Bool)
+          → cond t (nameAt s p (placePart h)) (variantName (nameAt s p (familyPart h - 1)) (nameAt s p (placePart h)))
+          ≡ cond t (nameAt s p (placePart h)) (nameAt s p (familyPart h - 1)) ++ (take (cond t 0 2) colons ++ cond t [] (nameAt s p (placePart h)))
+      go true = sym (append-nil (nameAt s p (placePart h)))
+      go false = refl
+
+  module _ (f b : Str) (k : ℕ) (u : f ≡ frontOf s p h) (v : k ≡ colonsOf h) (w : b ≡ backOf s p h) where
+    pub parts-type : joined f k b ≡ typeName s p h
+    parts-type = rw (u, v, w) (sym type-parts)
+
+    pub under-is : (y : Str) (r : Bool) → r ≡ before (joined f k b) y → r ≡ before (typeName s p h) y
+    under-is y r e = e ∙ ap (λ (x : Str). before x y) parts-type
+
+    pub over-is : (x : Str) (r : Bool) → r ≡ before x (joined f k b) → r ≡ before x (typeName s p h)
+    over-is x r e = e ∙ ap (before x) parts-type
+
+pub ruleset part-laws = (front-plain, front-family, colons-none, colons-two, back-none, back-own)
+
+-- in one family the own names decide
+pub own-names : (s p : Str) (g h i j a b : ℕ) (x y : Str) (r : Bool) → i ≡ familyPart g → j ≡ familyPart h → i ≡ j
+    → a ≡ placePart g → b ≡ placePart h → x ≡ nameAt s p a → y ≡ nameAt s p b → r ≡ before x y → r ≡ before (typeName s p g) (typeName s p h)
+unfolding typeName variantName
+own-names s p g h i j a b x y r e f o q t u v w =
+    let m : familyPart g ≡ familyPart h = sym e ∙ o ∙ f in
+    w ∙ rw (u, v, q, t, m) (go (eqb (familyPart h) 0))
+  where
+    c : Str
+    c = nameAt s p (placePart g)
+
+    d : Str
+    d = nameAt s p (placePart h)
+
+    z : Str
+    z = nameAt s p (familyPart h - 1)
+
+    go : (t : Bool) → before c d ≡ before (cond t c (variantName z c)) (cond t d (variantName z d))
+    go true = refl
+    go false = sym (same-front z (58 ∷ 58 ∷ c) (58 ∷ 58 ∷ d) ∙ same-front colons c d)

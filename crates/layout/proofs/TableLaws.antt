@@ -1,0 +1,199 @@
+-- The table of types is the map by name of the handles; and how a search in it goes. Assumes nothing.
+use Prim.Native.Nat.{ℕ, zero, suc, _+_, _-_, _≤_, _<_}
+use mathlib.Core.List.{List, [], _∷_, _++_, map, List·Memᴰ, List·Memᴰ·head, List·Memᴰ·tail, append-nil}
+use mathlib.Core.Option.{Option, none, some}
+use mathlib.Core.Bool.{Bool, true, false, false≢true}
+use mathlib.Core.Path.{_≡_, refl, sym, ap, subst, _∙_}
+use native.Mathlib.Omega.{arith}
+use lib.Dec.{ltb}
+use lib.ListN.{length, take, drop, getD, length-take}
+use lib.Seq.{take-at, take-append-le, length-take-le}
+use borrow.Author.Tests.{ltb-true, ltb-false}
+use Rattle.record.specs.Base.{Str, eqs, before, find}
+use Rattle.record.specs.Scalars.{Scalar}
+use Rattle.record.specs.Reading.{Rec, rec, schemaOf}
+use Rattle.record.proofs.Basics.{eqs→eq, eqs-refl}
+use Rattle.layout.specs.declared.table.TypeFound.{TypeFound}
+use Rattle.layout.specs.declared.table.TypeFound.the-variants.{NoType, At}
+use Rattle.layout.specs.Sorted.{sorted}
+use Rattle.layout.specs.Layout.{TypeLayout, flattened, types, typeIn}
+use Rattle.layout.specs.Handles.{typeName, handlesOf, layoutOf, fronted}
+use Rattle.layout.specs.Names.{joined, frontOf, colonsOf, backOf}
+use Rattle.layout.specs.Sort.{arranged, lasts}
+use Rattle.layout.specs.Table.{Typed, TypesTable, foundIn, FoundType}
+use Rattle.layout.proofs.Origin.{sorted-mem}
+use Rattle.layout.proofs.Order.{before-trans, before-co, before-total, not-self, Sorted, sorted-sorted}
+use Rattle.layout.proofs.Runs.{lasts-are, map-sorted}
+use Rattle.layout.proofs.Flattened.{handles-laid, handles-typed}
+use Rattle.layout.proofs.NameLaws.{parts-type}
+
+-- the table ---------------------------------------------------------------------------------------------------------------
+
+at-mem : (l : List ℕ) (i : ℕ) → i < length l → List·Memᴰ (getD l i 0) l
+at-mem [] i h = absurd (omega arith)
+at-mem (x ∷ l) zero h = List·Memᴰ·head refl
+at-mem (x ∷ l) (suc i) h = List·Memᴰ·tail (at-mem l i (omega arith))
+
+upward-of : (key : ℕ → Str) (l : List ℕ) → Sorted key l → (i j : ℕ) → i < j → j < length l → before (key (getD l i 0)) (key (getD l j 0)) ≡ true
+upward-of key [] o i j h k = absurd (omega arith)
+upward-of key (x ∷ l) o i zero h k = absurd (omega arith)
+upward-of key (x ∷ l) o zero (suc j) h k = o .0 (getD l j 0) (at-mem l j (omega arith))
+upward-of key (x ∷ l) o (suc i) (suc j) h k = upward-of key l (o .1) i j (omega arith) (omega arith)
+
+module _ (s p : Str) (small : length s ≤ 32768) where
+  abbrev key : ℕ → Str
+  key = typeName s p
+
+  sorted-laid : (w : List Scalar) → map (layoutOf (rec s p w)) (sorted key (handlesOf s)) ≡ types (schemaOf (rec s p w))
+  unfolding layoutOf types
+  sorted-laid w = map-sorted (layoutOf (rec s p w)) (λ (t : TypeLayout). t .name) (handlesOf s) ∙ ap (sorted (λ (t : TypeLayout). t .name)) (handles-laid s p w small)
+
+  table-of : TypesTable s p (sorted key (handlesOf s))
+  table-of =
+      record {
+        layouts = sorted-laid;
+        upward = upward-of key (sorted key (handlesOf s)) (sorted-sorted key (handlesOf s));
+        typed = λ i h. handles-typed s small (getD (sorted key (handlesOf s)) i 0) (sorted-mem key (handlesOf s) (at-mem (sorted key (handlesOf s)) i h));
+      }
+
+  -- from what was filled, sorted and kept
+  pub table-is : (o t x : List ℕ) (n r : ℕ) → n ≡ length (handlesOf s) → t ≡ fronted o (handlesOf s) → take r x ≡ lasts key (arranged key (take n t)) → r ≤ length x
+      → TypesTable s p (take r (x ++ drop n t))
+  unfolding fronted
+  table-is o t x n r i f g h =
+      let a : take n t ≡ handlesOf s = ap (take n) f ∙ take-at (handlesOf s) (drop (length (handlesOf s)) o) n (sym i) in
+      let b : take r (x ++ drop n t) ≡ sorted key (handlesOf s) = take-append-le r x (drop n t) h ∙ g ∙ ap (λ (l : List ℕ). lasts key (arranged key l)) a ∙ lasts-are key (handlesOf s) in
+      subst (λ (l : List ℕ). TypesTable s p l) (sym b) table-of
+
+-- the front of a table that is lent
+pub cut-long : (t : List ℕ) (n : ℕ) → n ≤ length t → n ≡ length (take n t)
+cut-long t n h = sym (length-take-le n t h)
+
+pub cuts-agree : (a b : List ℕ) (n : ℕ) → n ≤ length a → n ≤ length b → length (take n a) ≡ length (take n b)
+cuts-agree a b n h k = length-take-le n a h ∙ cut-long b n k
+
+pub cut-small : (t : List ℕ) (n : ℕ) → n ≤ 8192 → n ≤ length t → length (take n t) ≤ 65536
+cut-small t n h k = let e = cut-long t n k in omega arith
+
+pub cut-few : (t : List ℕ) (n r : ℕ) → r ≤ length (take n t) → n ≤ 8192 → r ≤ 8192
+cut-few t n r h k = let e = length-take n t in omega arith
+
+pub kept-sorted : (key : ℕ → Str) (a b x : List ℕ) (r : ℕ) → b ≡ arranged key a → take r x ≡ lasts key b → take r x ≡ lasts key (arranged key a)
+kept-sorted key a b x r e f = f ∙ ap (lasts key) e
+
+-- a search ----------------------------------------------------------------------------------------------------------------
+
+-- before lo all names go before the one sought, and from hi on none does
+pub record Seeking (s p : Str) (t : List ℕ) (n : Str) (lo hi : ℕ) : Type 0 where
+  pub low : (i : ℕ) → i < lo → before (typeName s p (getD t i 0)) n ≡ true
+  pub high : (i : ℕ) → hi ≤ i → i < length t → before (typeName s p (getD t i 0)) n ≡ false
+  pub apart : lo ≤ hi
+  pub within : hi ≤ length t
+
+pub seek-start : (s p : Str) (t : List ℕ) (n : Str) (m : ℕ) → m ≡ length t → Seeking s p t n 0 m
+seek-start s p t n m e = record { low = λ i h. absurd (omega arith); high = λ i h k. absurd (omega arith); apart = omega arith; within = omega arith }
+
+module _ (s p : Str) (w : List Scalar) (n : Str) where
+  abbrev R : Rec
+  R = rec s p w
+
+  none-found : (t : List ℕ) → ((i : ℕ) → i < length t → eqs (typeName s p (getD t i 0)) n ≡ false) → typeIn n (map (layoutOf R) t) ≡ none
+  unfolding typeIn find layoutOf
+  none-found [] h = refl
+  none-found (x ∷ t) h = rw (h 0 (omega arith)) (none-found t (λ i k. h (suc i) (omega arith)))
+
+  one-found : (t : List ℕ) (i : ℕ) → i < length t → ((j : ℕ) → j < i → eqs (typeName s p (getD t j 0)) n ≡ false) → eqs (typeName s p (getD t i 0)) n ≡ true
+      → typeIn n (map (layoutOf R) t) ≡ some (layoutOf R (getD t i 0))
+  unfolding typeIn find layoutOf
+  one-found [] i h f e = absurd (omega arith)
+  one-found (x ∷ t) zero h f e = rw e
+  one-found (x ∷ t) (suc i) h f e = rw (f 0 (omega arith)) (one-found t i (omega arith) (λ j k. f (suc j) (omega arith)) e)
+
+-- names of which one goes before the other differ
+apart-before : (a b : Str) → before a b ≡ true → eqs a b ≡ false
+apart-before a b h = go (eqs a b) refl
+  where
+    go : (t : Bool) → eqs a b ≡ t → t ≡ false
+    go true e = absurd (false≢true (sym (not-self a b (eqs→eq a b e)) ∙ h))
+    go false e = refl
+
+apart-after : (a b : Str) → before b a ≡ true → eqs a b ≡ false
+apart-after a b h = go (eqs a b) refl
+  where
+    go : (t : Bool) → eqs a b ≡ t → t ≡ false
+    go true e = absurd (false≢true (sym (not-self b a (sym (eqs→eq a b e))) ∙ h))
+    go false e = refl
+
+-- names of which neither goes before the other are the same
+same-between : (a b : Str) → before a b ≡ false → before b a ≡ false → eqs a b ≡ true
+same-between a b h k = go (eqs a b) refl
+  where
+    go : (t : Bool) → eqs a b ≡ t → t ≡ true
+    go true e = refl
+    go false e = absurd (false≢true (sym k ∙ before-total a b e h))
+
+module _ (s p : Str) (t : List ℕ) (n : Str) (lo hi : ℕ) (k : Seeking s p t n lo hi) (y : TypesTable s p t) where
+  abbrev name : ℕ → Str
+  name i = typeName s p (getD t i 0)
+
+  pub seek-up : (mid : ℕ) (b : Bool) → lo ≤ mid → mid < hi → b ≡ before (typeName s p (getD t mid 0)) n → b ≡ true → Seeking s p t n (mid + 1) hi
+  seek-up mid b u v e z = record { low = λ i h. go i (omega arith) (ltb i mid) refl; high = k .high; apart = omega arith; within = k .within }
+    where
+      go : (i : ℕ) → i ≤ mid → (c : Bool) → ltb i mid ≡ c → before (name i) n ≡ true
+      go i h true f = let w = k .within in before-trans (name i) (name mid) n (y .upward i mid (ltb-true i mid f) (omega arith)) (sym e ∙ z)
+      go i h false f =
+          let g = ltb-false i mid f in
+          let m : i ≡ mid = omega arith in
+          ap (λ (j : ℕ). before (name j) n) m ∙ sym e ∙ z
+
+  pub seek-down : (mid : ℕ) (b : Bool) → lo ≤ mid → mid < hi → b ≡ before (typeName s p (getD t mid 0)) n → b ≡ false → Seeking s p t n lo mid
+  seek-down mid b u v e z =
+      let w = k .within in
+      record { low = k .low; high = λ i h l. go i h l (ltb mid i) (before (name i) n) refl refl; apart = u; within = omega arith }
+    where
+      go : (i : ℕ) → mid ≤ i → i < length t → (c d : Bool) → ltb mid i ≡ c → before (name i) n ≡ d → d ≡ false
+      go i h l c false f g = refl
+      go i h l true true f g = absurd (false≢true (sym (sym e ∙ z) ∙ before-trans (name mid) (name i) n (y .upward mid i (ltb-true mid i f) l) g))
+      go i h l false true f g =
+          let q = ltb-false mid i f in
+          let m : i ≡ mid = omega arith in
+          absurd (false≢true (sym (ap (λ (j : ℕ). before (name j) n) m ∙ sym e ∙ z) ∙ g))
+
+  lower : (i : ℕ) → i < lo → eqs (name i) n ≡ false
+  lower i h = apart-before (name i) n (k .low i h)
+
+  pub seek-past : hi ≤ lo → length t ≤ lo → FoundType s p t n NoType
+  seek-past h l =
+      record { layout = λ w. ap (typeIn n) (sym (y .layouts w)) ∙ none-found s p w n t (λ i q. lower i (omega arith)); inside = omega arith }
+
+  pub seek-other : (b : Bool) → hi ≤ lo → lo < length t → b ≡ before n (typeName s p (getD t lo 0)) → b ≡ true → FoundType s p t n NoType
+  seek-other b h l e z =
+      record { layout = λ w. ap (typeIn n) (sym (y .layouts w)) ∙ none-found s p w n t (λ i q. go i q (ltb i lo) (ltb lo i) refl refl); inside = omega arith }
+    where
+      go : (i : ℕ) → i < length t → (c d : Bool) → ltb i lo ≡ c → ltb lo i ≡ d → eqs (name i) n ≡ false
+      go i q true d f g = lower i (ltb-true i lo f)
+      go i q false true f g = apart-after (name i) n (before-trans n (name lo) (name i) (sym e ∙ z) (y .upward lo i (ltb-true lo i g) q))
+      go i q false false f g =
+          let a = ltb-false i lo f in
+          let c = ltb-false lo i g in
+          let m : i ≡ lo = omega arith in
+          ap (λ (j : ℕ). eqs (name j) n) m ∙ apart-after (name lo) n (sym e ∙ z)
+
+  pub seek-found : (b : Bool) → hi ≤ lo → lo < length t → b ≡ before n (typeName s p (getD t lo 0)) → b ≡ false → FoundType s p t n (At lo)
+  seek-found b h l e z =
+      record {
+        layout = λ w. ap (typeIn n) (sym (y .layouts w)) ∙ one-found s p w n t lo l lower (same-between (name lo) n (k .high lo h l) (sym e ∙ z));
+        inside = omega arith;
+      }
+
+pub ruleset seek-laws = (seek-past, seek-other, seek-found)
+
+-- names in parts ----------------------------------------------------------------------------------------------------------
+
+pub found-whole : (s p : Str) (t : List ℕ) (n : Str) (r : TypeFound) → FoundType s p t (joined n 0 []) r → FoundType s p t n r
+unfolding joined
+found-whole s p t n r f = subst (λ (m : Str). FoundType s p t m r) (append-nil n) f
+
+pub found-parts : (s p past old : Str) (t : List ℕ) (f b : Str) (h k : ℕ) (r : TypeFound) → f ≡ frontOf past old h → k ≡ colonsOf h → b ≡ backOf past old h
+    → FoundType s p t (joined f k b) r → FoundType s p t (typeName past old h) r
+found-parts s p past old t f b h k r u v w g = subst (λ (m : Str). FoundType s p t m r) (parts-type past old h f b k u v w) g

@@ -1,0 +1,92 @@
+// The types of a record as numbers, in flattening order: all structures, then each family followed by its variants.
+use record::command::Command;
+use record::command::Cursor;
+use record::command::Step;
+ghost use Prim.Native.Nat.{_+_, _≤_};
+ghost use mathlib.Core.Path.{_≡_};
+ghost use lib.ListN.{length};
+ghost use Rattle.layout.specs.Handles.{structsFrom, familiesFrom, handlesOf, fronted};
+
+// A place as a part of a handle.
+fn narrow(at: usize) -> u32
+    requires { ⌜ at ≤ 32767 ⌝ }
+    ensures { λ r. ⌜ (r ≡ at) × (r ≤ 32767) ⌝ }
+{
+    at as u32
+}
+
+// The structures' handles at the front of the table, and how many they are; there is room for the families' after them.
+fn fill_structs(stream: &[u8], out: &mut [u32]) -> usize
+    requires { ⌜ (length (now stream) ≤ 32768) × (8192 ≤ length (now out)) ⌝ }
+    ensures { λ r. ⌜ (r ≡ length (structsFrom (now (stream .entry)) 0)) × (now (out .exit) ≡ fronted (now (out .entry)) (structsFrom (now (stream .entry)) 0)) × (r + length (familiesFrom (now (stream .entry)) 0 0) ≤ 8192) ⌝ }
+{
+    let mut cursor = Cursor::new();
+    let mut n = 0;
+    loop {
+        let at = cursor.at;
+        let Step::Next(command, after) = cursor.next(stream) else {
+            return n;
+        };
+        if let Command::Struct(_) = command {
+            out[n] = narrow(at);
+            n += 1;
+            cursor = after;
+        } else {
+            cursor = after;
+        }
+    }
+}
+
+// The families' handles, each followed by its variants'; `family` is one more than the place of the family whose variants may follow.
+fn fill_families(stream: &[u8], out: &mut [u32]) -> usize
+    requires { ⌜ (length (now stream) ≤ 32768) × (length (familiesFrom (now stream) 0 0) ≤ length (now out)) ⌝ }
+    ensures { λ r. ⌜ (r ≡ length (familiesFrom (now (stream .entry)) 0 0)) × (now (out .exit) ≡ fronted (now (out .entry)) (familiesFrom (now (stream .entry)) 0 0)) ⌝ }
+{
+    let mut cursor = Cursor::new();
+    let mut family: u32 = 0;
+    let mut n = 0;
+    loop {
+        let at = cursor.at;
+        let Step::Next(command, after) = cursor.next(stream) else {
+            return n;
+        };
+        match command {
+            Command::Family(_) => {
+                let place = narrow(at);
+                family = place + 1;
+                out[n] = place;
+                n += 1;
+                cursor = after;
+            }
+            Command::Variant(_) => {
+                if family == 0 {
+                    cursor = after;
+                } else {
+                    out[n] = 65536 * family + narrow(at);
+                    n += 1;
+                    cursor = after;
+                }
+            }
+            Command::Field(_) => {
+                cursor = after;
+            }
+            Command::PluginKey(_) => {
+                cursor = after;
+            }
+            _ => {
+                family = 0;
+                cursor = after;
+            }
+        }
+    }
+}
+
+// The handles of a record's types at the front of the table, the rest as it was; and how many they are.
+pub fn fill_handles(stream: &[u8], out: &mut [u32]) -> usize
+    requires { ⌜ (length (now stream) ≤ 32768) × (8192 ≤ length (now out)) ⌝ }
+    ensures { λ r. ⌜ (r ≡ length (handlesOf (now (stream .entry)))) × (now (out .exit) ≡ fronted (now (out .entry)) (handlesOf (now (stream .entry)))) × (r ≤ 8192) ⌝ }
+{
+    let n = fill_structs(stream, out);
+    let m = fill_families(stream, &mut out[n..]);
+    n + m
+}

@@ -1,0 +1,170 @@
+// The names of types, by their handles, and their byte order. A name in parts is a front, up to two colons and a back.
+use crate::words::same_text;
+use crate::words::skip;
+use crate::words::text_before;
+use record::le::byte_at;
+use record::operands::text_at;
+use record::text::bytes_of;
+ghost use Prim.Native.Nat.{_≤_};
+ghost use mathlib.Core.Path.{_≡_};
+ghost use lib.ListN.{length, getD};
+ghost use Rattle.record.specs.Base.{before};
+ghost use Rattle.layout.specs.Handles.{nameAt, familyPart, placePart, typeName};
+ghost use Rattle.layout.specs.Names.{joined, frontOf, colonsOf, backOf, Parts};
+
+// The place of a type's command.
+pub fn place_part(handle: u32) -> usize
+    ensures { λ r. ⌜ r ≡ placePart handle ⌝ }
+{
+    (handle % 65536) as usize
+}
+
+// One more than the place of a variant's family; 0 for a structure and a family.
+pub fn family_part(handle: u32) -> usize
+    ensures { λ r. ⌜ r ≡ familyPart handle ⌝ }
+{
+    (handle / 65536) as usize
+}
+
+// The text that the command at a place begins with.
+pub fn name_at<'a>(stream: &[u8], pool: &'a [u8], at: usize) -> &'a [u8]
+    ensures { λ r. ⌜ (now r ≡ nameAt (now (stream .entry)) (now (pool .entry)) at) × (length (now r) ≤ 255) ⌝ }
+{
+    if stream.len() <= at {
+        return &pool[..0];
+    }
+    let t = text_at(&stream[at..], 1);
+    bytes_of(pool, t)
+}
+
+// The front of a type's name: a variant's family, or the whole name.
+pub fn front<'a>(stream: &[u8], pool: &'a [u8], handle: u32) -> &'a [u8]
+    ensures { λ r. ⌜ (now r ≡ frontOf (now (stream .entry)) (now (pool .entry)) handle) × (length (now r) ≤ 255) ⌝ }
+{
+    let family = family_part(handle);
+    if family == 0 {
+        return name_at(stream, pool, place_part(handle));
+    }
+    name_at(stream, pool, family - 1)
+}
+
+// How many colons follow the front.
+pub fn colons(handle: u32) -> usize
+    ensures { λ r. ⌜ (r ≡ colonsOf handle) × (r ≤ 2) ⌝ }
+{
+    if family_part(handle) == 0 {
+        return 0;
+    }
+    2
+}
+
+// What follows the colons: a variant's own name.
+pub fn back<'a>(stream: &[u8], pool: &'a [u8], handle: u32) -> &'a [u8]
+    ensures { λ r. ⌜ (now r ≡ backOf (now (stream .entry)) (now (pool .entry)) handle) × (length (now r) ≤ 255) ⌝ }
+{
+    if family_part(handle) == 0 {
+        return &pool[..0];
+    }
+    name_at(stream, pool, place_part(handle))
+}
+
+// A byte of a name in parts; past its end 0.
+fn joined_byte(f: &[u8], k: usize, b: &[u8], i: usize) -> u8
+    requires { ⌜ k ≤ 2 ⌝ }
+    ensures { λ r. ⌜ r ≡ getD (joined (now (f .entry)) k (now (b .entry))) i 0 ⌝ }
+{
+    if i < f.len() {
+        return f[i];
+    }
+    let j = i - f.len();
+    if j < k {
+        return 58;
+    }
+    byte_at(b, j - k)
+}
+
+fn joined_len(f: &[u8], k: usize, b: &[u8]) -> usize
+    requires { ⌜ Parts (now f) k (now b) ⌝ }
+    ensures { λ r. ⌜ r ≡ length (joined (now (f .entry)) k (now (b .entry))) ⌝ }
+{
+    f.len() + k + b.len()
+}
+
+// Whether one name in parts goes before another: the first byte in which they differ decides.
+fn joined_before(f: &[u8], k: usize, b: &[u8], g: &[u8], l: usize, d: &[u8]) -> bool
+    requires { ⌜ Parts (now f) k (now b) × Parts (now g) l (now d) ⌝ }
+    ensures { λ r. ⌜ r ≡ before (joined (now (f .entry)) k (now (b .entry))) (joined (now (g .entry)) l (now (d .entry))) ⌝ }
+{
+    let n = joined_len(f, k, b);
+    let m = joined_len(g, l, d);
+    let mut i = skip(f, g);
+    while i < n {
+        if m <= i {
+            return false;
+        }
+        let x = joined_byte(f, k, b, i);
+        let y = joined_byte(g, l, d, i);
+        if x < y {
+            return true;
+        }
+        if y < x {
+            return false;
+        }
+        i += 1;
+    }
+    if i < m {
+        return true;
+    }
+    false
+}
+
+// The same, by words where the fronts are of one length: if they differ they decide, else what follows.
+pub fn parts_before(f: &[u8], k: usize, b: &[u8], g: &[u8], l: usize, d: &[u8]) -> bool
+    requires { ⌜ Parts (now f) k (now b) × Parts (now g) l (now d) ⌝ }
+    ensures { λ r. ⌜ r ≡ before (joined (now (f .entry)) k (now (b .entry))) (joined (now (g .entry)) l (now (d .entry))) ⌝ }
+{
+    if f.len() == g.len() {
+        if same_text(f, g) {
+            if k == l {
+                return text_before(b, d);
+            }
+        } else {
+            return text_before(f, g);
+        }
+    }
+    joined_before(f, k, b, g, l, d)
+}
+
+// Whether a type's name goes before a name in parts.
+pub fn type_under(stream: &[u8], pool: &[u8], handle: u32, g: &[u8], l: usize, d: &[u8]) -> bool
+    requires { ⌜ Parts (now g) l (now d) ⌝ }
+    ensures { λ r. ⌜ r ≡ before (typeName (now (stream .entry)) (now (pool .entry)) handle) (joined (now (g .entry)) l (now (d .entry))) ⌝ }
+{
+    let f = front(stream, pool, handle);
+    let b = back(stream, pool, handle);
+    parts_before(f, colons(handle), b, g, l, d)
+}
+
+// Whether a name in parts goes before a type's.
+pub fn type_over(stream: &[u8], pool: &[u8], handle: u32, g: &[u8], l: usize, d: &[u8]) -> bool
+    requires { ⌜ Parts (now g) l (now d) ⌝ }
+    ensures { λ r. ⌜ r ≡ before (joined (now (g .entry)) l (now (d .entry))) (typeName (now (stream .entry)) (now (pool .entry)) handle) ⌝ }
+{
+    let f = front(stream, pool, handle);
+    let b = back(stream, pool, handle);
+    parts_before(g, l, d, f, colons(handle), b)
+}
+
+// Whether one type's name goes before another's; in one family, and of two that are no variants, the own names decide.
+pub fn type_before(stream: &[u8], pool: &[u8], g: u32, h: u32) -> bool
+    ensures { λ r. ⌜ r ≡ before (typeName (now (stream .entry)) (now (pool .entry)) g) (typeName (now (stream .entry)) (now (pool .entry)) h) ⌝ }
+{
+    if family_part(g) == family_part(h) {
+        let a = name_at(stream, pool, place_part(g));
+        let b = name_at(stream, pool, place_part(h));
+        return text_before(a, b);
+    }
+    let f = front(stream, pool, h);
+    let b = back(stream, pool, h);
+    type_under(stream, pool, g, f, colons(h), b)
+}

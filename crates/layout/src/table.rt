@@ -1,0 +1,89 @@
+// The sorted table of a record's types, and look-ups by name in it.
+use crate::handles::fill_handles;
+use crate::names::back;
+use crate::names::colons;
+use crate::names::front;
+use crate::names::type_over;
+use crate::names::type_under;
+use crate::sort::keep_last;
+use crate::sort::sort_handles;
+ghost use Prim.Native.Nat.{_≤_};
+ghost use mathlib.Core.Path.{_≡_};
+ghost use lib.ListN.{length, take};
+ghost use Rattle.layout.specs.Handles.{typeName};
+ghost use Rattle.layout.specs.Names.{joined, Parts};
+ghost use Rattle.layout.specs.Sort.{arranged, lasts};
+ghost use Rattle.layout.specs.Table.{TypesTable, FoundType};
+
+// Handles in byte order of their names, the last of each name at the front; and how many those are.
+fn arrange(stream: &[u8], pool: &[u8], handles: &mut [u32], scratch: &mut [u32]) -> usize
+    requires { ⌜ (length (now scratch) ≡ length (now handles)) × (length (now handles) ≤ 65536) ⌝ }
+    ensures { λ r. ⌜ (take r (now (handles .exit)) ≡ lasts (typeName (now (stream .entry)) (now (pool .entry))) (arranged (typeName (now (stream .entry)) (now (pool .entry))) (now (handles .entry)))) × (r ≤ length (now (handles .entry))) ⌝ }
+{
+    sort_handles(stream, pool, handles, scratch);
+    keep_last(stream, pool, handles)
+}
+
+// The table of a record's types at the front of `types`; and how many they are.
+pub fn type_table(stream: &[u8], pool: &[u8], types: &mut [u32], scratch: &mut [u32]) -> usize
+    requires { ⌜ (length (now stream) ≤ 32768) × (8192 ≤ length (now types)) × (8192 ≤ length (now scratch)) ⌝ }
+    ensures { λ r. ⌜ TypesTable (now (stream .entry)) (now (pool .entry)) (take r (now (types .exit))) × (r ≤ 8192) ⌝ }
+{
+    let n = fill_handles(stream, types);
+    arrange(stream, pool, &mut types[..n], &mut scratch[..n])
+}
+
+// A type of the table, by its index.
+pub enum TypeFound {
+    NoType,
+    At(usize),
+}
+
+// The type of a name in parts.
+fn find_parts(stream: &[u8], pool: &[u8], types: &[u32], f: &[u8], k: usize, b: &[u8]) -> TypeFound
+    requires { ⌜ TypesTable (now stream) (now pool) (now types) × Parts (now f) k (now b) ⌝ }
+    ensures { λ r. ⌜ FoundType (now (stream .entry)) (now (pool .entry)) (now (types .entry)) (joined (now (f .entry)) k (now (b .entry))) r ⌝ }
+{
+    let mut lo = 0;
+    let mut hi = types.len();
+    while lo < hi {
+        let mid = lo + (hi - lo) / 2;
+        if type_under(stream, pool, types[mid], f, k, b) {
+            lo = mid + 1;
+        } else {
+            hi = mid;
+        }
+    }
+    if types.len() <= lo {
+        return TypeFound::NoType;
+    }
+    if type_over(stream, pool, types[lo], f, k, b) {
+        return TypeFound::NoType;
+    }
+    TypeFound::At(lo)
+}
+
+// The type of a name.
+pub fn find_type(stream: &[u8], pool: &[u8], types: &[u32], name: &[u8]) -> TypeFound
+    requires { ⌜ TypesTable (now stream) (now pool) (now types) ⌝ }
+    ensures { λ r. ⌜ FoundType (now (stream .entry)) (now (pool .entry)) (now (types .entry)) (now (name .entry)) r ⌝ }
+{
+    find_parts(stream, pool, types, name, 0, &name[..0])
+}
+
+// The type that has the name of another record's type.
+pub fn find_same(
+    stream: &[u8],
+    pool: &[u8],
+    types: &[u32],
+    past: &[u8],
+    old: &[u8],
+    handle: u32,
+) -> TypeFound
+    requires { ⌜ TypesTable (now stream) (now pool) (now types) ⌝ }
+    ensures { λ r. ⌜ FoundType (now (stream .entry)) (now (pool .entry)) (now (types .entry)) (typeName (now (past .entry)) (now (old .entry)) handle) r ⌝ }
+{
+    let f = front(past, old, handle);
+    let b = back(past, old, handle);
+    find_parts(stream, pool, types, f, colons(handle), b)
+}
