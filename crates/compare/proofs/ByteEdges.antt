@@ -15,7 +15,6 @@ use Rattle.record.specs.Commands.{operands, wide, widths, widthWith, widthOf, c
 use Rattle.record.specs.Lists.{listed, heads, constants, aliases, values, enums, members, bitfields, keys, fields, structs, variants, families, unstored, versions}
 use Rattle.record.specs.Judge.{ifAbsent, flagFault, operandFault, faultsFrom, follows, mayStand, parentAfter, ready, judgedWith, judgedAt}
 use Rattle.record.specs.Letters.{isLetter, oddLetter}
-use Rattle.record.specs.Shapes.{limit}
 use Rattle.record.specs.Reading.{rec, releaseOf, unreleasedOf, schemaFrom, openedAt, opened, large, vast, onto, continued, parse, parsed, streamLimit, poolLimit, vastOr, sizesOf, concluded, reading}
 use Rattle.compare.specs.Answer.{refusalOf, verdictOf, answered, check}
 use Rattle.compare.proofs.Edges.{Case, failing, gives}
@@ -79,7 +78,7 @@ says : Str → Str → ℕ → ℕ → ℕ → String → Bool
 unfolding gives first u16At u32At u64At textOf textAt optText optTextAt flagAt optNumberAt
     operands wide widths widthWith widthOf commandOf stepAt commandsFrom commandsAt
     listed heads constants aliases values enums members bitfields keys fields structs variants families unstored versions
-    ifAbsent flagFault operandFault faultsFrom follows mayStand parentAfter ready judgedWith judgedAt isLetter oddLetter limit
+    ifAbsent flagFault operandFault faultsFrom follows mayStand parentAfter ready judgedWith judgedAt isLetter oddLetter
     releaseOf unreleasedOf schemaFrom openedAt opened large vast onto continued parse parsed streamLimit poolLimit vastOr sizesOf concluded reading
     refusalOf verdictOf answered check
 says is was number side place text =

@@ -1,6 +1,6 @@
 -- Along the commands of a stream: an induction, the bytes they take, and the elements of a list that is read off them. Assumes nothing.
-use Prim.Native.Nat.{ℕ, zero, suc, _+_, _-_, _*_, _≤_, _<_}
-use mathlib.Core.List.{List, [], _∷_, map, List·Memᴰ, List·Memᴰ·head, List·Memᴰ·tail, List·Memᴰ·not-nil}
+use Prim.Native.Nat.{ℕ, zero, suc, _+_, _-_, _≤_}
+use mathlib.Core.List.{List, _∷_, map, List·Memᴰ, List·Memᴰ·head, List·Memᴰ·tail, List·Memᴰ·not-nil}
 use mathlib.Core.Bool.{Bool, true, false}
 use mathlib.Core.Path.{_≡_, refl, sym, ap, ap₂, subst, _∙_}
 use native.Mathlib.Omega.{arith}
@@ -34,7 +34,7 @@ module _ (s : Str) (P : ℕ → Type 0) (stop : (at : ℕ) → stepAt s at ≡ S
 
 -- a command takes four bytes at least -------------------------------------------------------------------------------------
 
-four-wide : (c : Command) → 4 ≤ widthOf (byteOf c)
+pub four-wide : (c : Command) → 4 ≤ widthOf (byteOf c)
 unfolding widthOf widthWith operands widths wide bytes
 four-wide (C.Head x) = omega arith
 four-wide (C.Constant x) = omega arith

@@ -10,16 +10,15 @@ use borrow.Author.Tests.{eq-eqb, ne-eqb, eqb-true, eqb-false}
 use lib.ListN.{length, getD, drop}
 use Rattle.record.specs.Base.{Str}
 use Rattle.record.specs.Scalars.{Scalar}
-use Rattle.record.specs.Schema.{Schema, Field, Struct, Family, Variant}
-use Rattle.record.specs.Stretch.{textOf}
-use Rattle.record.specs.Commands.{structAt, familyAt, variantAt, widthOf, stepAt, commandsAt}
+use Rattle.record.specs.Schema.{Schema, Field, Family, Variant}
+use Rattle.record.specs.Commands.{structAt, familyAt, variantAt, stepAt, commandsAt}
 use Rattle.record.specs.Lists.{listed, anything, aField, structOf, familyOf, variantOf, fields, structs, variants, families}
 use Rattle.record.specs.Steps.{fieldsAt}
 use Rattle.record.specs.Shapes.{places, prefix}
 use Rattle.record.specs.Reading.{Rec, rec, schemaFrom, schemaOf}
 use Rattle.record.specs.declared.command.Cursor.{Cursor}
 use Rattle.record.specs.declared.command.Command.{Command}
-use Rattle.record.specs.declared.command.Step.the-variants.{Next, Stop}
+use Rattle.record.specs.declared.command.Step.the-variants.{Next}
 use Rattle.record.proofs.Stream.{step-found}
 use Rattle.record.proofs.ListLaws.{byteOf, byte-is, listed-stop, listed-here, listed-over}
 use Rattle.layout.specs.Layout.{TypeLayout, variantName, layStruct, layFamily, layVariant, layFamilies, flattened}

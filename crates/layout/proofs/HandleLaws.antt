@@ -1,5 +1,5 @@
 -- The handles along the stream, a table while it is filled, and the room that it needs. Assumes nothing.
-use Prim.Native.Nat.{ℕ, zero, suc, _+_, _-_, _*_, _≤_, _<_}
+use Prim.Native.Nat.{ℕ, suc, _+_, _-_, _*_, _≤_, _<_}
 use mathlib.Core.List.{List, [], _∷_, _++_, append-assoc, append-nil}
 use mathlib.Core.Bool.{Bool, true, false, _||_, cond}
 use mathlib.Core.Path.{_≡_, refl, sym, ap, ap₂, subst, _∙_}
@@ -7,14 +7,14 @@ use native.Mathlib.Omega.{arith}
 use native.Mathlib.Numerals.{add-one}
 use types.Run.{OneOf}
 use denote.Enum.Declared.{tagOf}
-use lib.ListN.{length, take, drop, getD, set, length-append, length-set, length-drop, take-append-drop, drop-of-length-le}
+use lib.ListN.{length, take, drop, set, length-append, length-set, length-drop, take-append-drop, drop-of-length-le}
 use lib.Seq.{take-suc-set, drop-set-lt, length-take-le, drop-drop, take-at, drop-at, take-all}
 use borrow.Rule.Slice.PartMut.{putMid}
-use lib.Dec.{eqb}
+use lib.Dec.{T, eqb}
 use borrow.Author.Tests.{ne-eqb, eqb-true, eqb-false}
 use Rattle.record.specs.Base.{Str}
 use Rattle.record.specs.Commands.{stepAt, commandsAt}
-use Rattle.record.specs.Lists.{listed, anything, aField}
+use Rattle.record.specs.Lists.{anything, aField}
 use Rattle.record.specs.declared.command as D
 use Rattle.record.specs.declared.command.Cursor.{Cursor}
 use Rattle.record.specs.declared.command.Command.{Command}
@@ -22,9 +22,11 @@ use Rattle.record.specs.declared.command.Command.the-variants as C
 use Rattle.record.specs.declared.command.Step.{Step}
 use Rattle.record.specs.declared.command.Step.the-variants.{Next, Stop}
 use Rattle.record.proofs.command.Command.{the-type}
+use Rattle.record.proofs.CommandLaws.{none-width}
+use Rattle.record.proofs.Tags.{absent}
 use Rattle.record.proofs.Stream.{step-found}
-use Rattle.record.proofs.ListLaws.{byteOf, other, listed-stop, listed-here, listed-over, listed-end}
-use Rattle.layout.proofs.Along.{along, step-four}
+use Rattle.record.proofs.ListLaws.{byteOf, byte-is, other, listed-stop, listed-here, listed-over, listed-end}
+use Rattle.layout.proofs.Along.{along, four-wide, step-four}
 use Rattle.layout.specs.Handles.{structHandles, variantHandles, joinedHandles, familyHandles, handlesOf, structsFrom, familiesFrom, fronted}
 
 -- a step along the stream -------------------------------------------------------------------------------------------------
@@ -157,11 +159,25 @@ module _ (s : Str) (at : ℕ) (r : Step) (c : Command) (k : Cursor) (i : r ≡ s
     pub open-none : (x : D.Variant.Variant) → c ≡ C.Variant x → family ≡ 0 → familiesFrom s family at ≡ familiesFrom s family (k .at)
     open-none x h z = let b : byteOf c ≡ 10 = ap byteOf h in open-closed s at c k e family (λ q. omega arith) z
 
-    pub open-field : (x : D.Field.Field) → c ≡ C.Field x → familiesFrom s family at ≡ familiesFrom s family (k .at)
-    open-field x h = let b : byteOf c ≡ 11 = ap byteOf h in open-between s at c k e family (λ q. omega arith) (λ q. omega arith) (ap aField b)
+    pub open-passed : OneOf (10 ∷ 11 ∷ []) (tagOf the-type c) → familiesFrom s family at ≡ familiesFrom s family (k .at)
+    open-passed h =
+        let ks : List ℕ = 10 ∷ 11 ∷ [] in
+        open-between s at c k e family (other ks 8 c tt h) (other ks 9 c tt h) (go (eqb (byteOf c) 11) (eqb (byteOf c) 12) refl refl)
+      where
+        last : byteOf c ≡ 15 → ⊥
+        last q = let f = step-found s at c k e in f .going (byte-is s at c k e ∙ q)
 
-    pub open-key : (x : D.PluginKey.PluginKey) → c ≡ C.PluginKey x → familiesFrom s family at ≡ familiesFrom s family (k .at)
-    open-key x h = let b : byteOf c ≡ 12 = ap byteOf h in open-between s at c k e family (λ q. omega arith) (λ q. omega arith) (ap aField b)
+        -- all other numbers are no command's
+        go : (x y : Bool) → eqb (byteOf c) 11 ≡ x → eqb (byteOf c) 12 ≡ y → (x || y) ≡ true
+        go true y p q = refl
+        go false true p q = refl
+        go false false p q =
+            let no : (j : ℕ) → T (absent (10 ∷ 11 ∷ []) j) → byteOf c ≡ suc j → ⊥ = λ j t. other (10 ∷ 11 ∷ []) j c t h in
+            let z =
+            none-width (byteOf c) (no 0 tt) (no 1 tt) (no 2 tt) (no 3 tt) (no 4 tt) (no 5 tt) (no 6 tt) (no 7 tt) (no 8 tt) (no 9 tt) (eqb-false (byteOf c) 11 p)
+            (eqb-false (byteOf c) 12 q) (no 12 tt) (no 13 tt) last in
+            let w = four-wide c in
+            absurd (omega arith)
 
     pub open-over : OneOf (0 ∷ 1 ∷ 2 ∷ 3 ∷ 4 ∷ 5 ∷ 6 ∷ 7 ∷ 12 ∷ 13 ∷ []) (tagOf the-type c) → familiesFrom s family at ≡ familiesFrom s 0 (k .at)
     open-over h =
@@ -186,7 +202,7 @@ module _ (s : Str) (at : ℕ) (r : Step) (i : r ≡ stepAt s at) (m : r ≡ Stop
 
 pub ruleset struct-laws = (structs-here, structs-over)
 
-pub ruleset open-laws = (open-family, open-variant, open-none, open-field, open-key, open-over)
+pub ruleset open-laws = (open-family, open-variant, open-none, open-passed, open-over)
 
 -- a table while it is filled: what is there of it, what is yet to come, and the old rest ------------------------------------
 

@@ -1,10 +1,10 @@
--- The merge of two arranged lists is the arranged list of both. No fact of the lists is needed: an insertion goes through a merge.
-use Prim.Native.Nat.{ℕ, zero, suc, _+_, _-_, _≤_, _<_}
+-- The merge of two arranged lists is the arranged list of both. No fact of the lists is needed: an insertion goes through a merge. Assumes nothing.
+use Prim.Native.Nat.{ℕ, suc, _+_}
 use mathlib.Core.List.{List, [], _∷_, _++_}
 use mathlib.Core.Bool.{Bool, true, false, cond, false≢true}
-use mathlib.Core.Path.{_≡_, refl, sym, ap, subst, _∙_}
+use mathlib.Core.Path.{_≡_, refl, sym, ap, _∙_}
 use native.Mathlib.Omega.{arith}
-use lib.ListN.{length, length-append}
+use lib.ListN.{length}
 use Rattle.record.specs.Base.{Str, before}
 use Rattle.layout.specs.Sort.{put, arranged, mergeWith, merge}
 use Rattle.layout.proofs.Order.{before-trans, before-co}

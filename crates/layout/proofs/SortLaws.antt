@@ -1,13 +1,13 @@
 -- A turn of each loop of the sort, and of the loop that keeps the last of each name. Assumes nothing.
 use Prim.Native.Nat.{ℕ, zero, suc, _+_, _-_, _≤_, _<_}
 use mathlib.Core.List.{List, [], _∷_, _++_, append-assoc, append-nil}
-use mathlib.Core.Bool.{Bool, true, false, cond, false≢true}
+use mathlib.Core.Bool.{Bool, true, false, false≢true}
 use mathlib.Core.Path.{_≡_, refl, sym, ap, subst, _∙_}
 use native.Mathlib.Omega.{arith}
 use native.Mathlib.Numerals.{add-one}
 use native.Mathlib.Nat.{zero-add}
-use lib.ListN.{length, take, drop, getD, set, length-append, length-set, length-drop, length-take, take-append-drop, drop-of-length-le}
-use lib.Seq.{take-all, take-suc-set, drop-set-lt, length-take-le, drop-drop, drop-cons, take-add, take-append-le, take-at, take-take, take-nil, drop-nil}
+use lib.ListN.{length, take, drop, getD, set, length-append, length-set, length-drop, drop-of-length-le}
+use lib.Seq.{take-all, take-suc-set, drop-set-lt, length-take-le, drop-drop, drop-cons, take-at, take-take, take-nil}
 use lib.Dec.{ltb}
 use borrow.Author.Tests.{ltb-true, ltb-false}
 use borrow.Rule.Slice.PartMut.{putMid, midOf, same-len-mid}

@@ -1,7 +1,7 @@
 -- The table of types is the map by name of the handles; and how a search in it goes. Assumes nothing.
-use Prim.Native.Nat.{ℕ, zero, suc, _+_, _-_, _≤_, _<_}
+use Prim.Native.Nat.{ℕ, zero, suc, _+_, _≤_, _<_}
 use mathlib.Core.List.{List, [], _∷_, _++_, map, List·Memᴰ, List·Memᴰ·head, List·Memᴰ·tail, append-nil}
-use mathlib.Core.Option.{Option, none, some}
+use mathlib.Core.Option.{none, some}
 use mathlib.Core.Bool.{Bool, true, false, false≢true}
 use mathlib.Core.Path.{_≡_, refl, sym, ap, subst, _∙_}
 use native.Mathlib.Omega.{arith}
@@ -12,17 +12,17 @@ use borrow.Author.Tests.{ltb-true, ltb-false}
 use Rattle.record.specs.Base.{Str, eqs, before, find}
 use Rattle.record.specs.Scalars.{Scalar}
 use Rattle.record.specs.Reading.{Rec, rec, schemaOf}
-use Rattle.record.proofs.Basics.{eqs→eq, eqs-refl}
+use Rattle.record.proofs.Basics.{eqs→eq}
 use Rattle.layout.specs.declared.table.TypeFound.{TypeFound}
 use Rattle.layout.specs.declared.table.TypeFound.the-variants.{NoType, At}
 use Rattle.layout.specs.Sorted.{sorted}
-use Rattle.layout.specs.Layout.{TypeLayout, flattened, types, typeIn}
+use Rattle.layout.specs.Layout.{TypeLayout, types, typeIn}
 use Rattle.layout.specs.Handles.{typeName, handlesOf, layoutOf, fronted}
 use Rattle.layout.specs.Names.{joined, frontOf, colonsOf, backOf}
 use Rattle.layout.specs.Sort.{arranged, lasts}
-use Rattle.layout.specs.Table.{Typed, TypesTable, foundIn, FoundType}
+use Rattle.layout.specs.Table.{TypesTable, FoundType}
 use Rattle.layout.proofs.Origin.{sorted-mem}
-use Rattle.layout.proofs.Order.{before-trans, before-co, before-total, not-self, Sorted, sorted-sorted}
+use Rattle.layout.proofs.Order.{before-trans, before-total, not-self, Sorted, sorted-sorted}
 use Rattle.layout.proofs.Runs.{lasts-are, map-sorted}
 use Rattle.layout.proofs.Flattened.{handles-laid, handles-typed}
 use Rattle.layout.proofs.NameLaws.{parts-type}

@@ -67,10 +67,7 @@ fn fill_families(stream: &[u8], out: &mut [u32]) -> usize
                     cursor = after;
                 }
             }
-            Command::Field(_) => {
-                cursor = after;
-            }
-            Command::PluginKey(_) => {
+            Command::Field(_) | Command::PluginKey(_) => {
                 cursor = after;
             }
             _ => {

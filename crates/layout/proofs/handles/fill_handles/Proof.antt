@@ -2,44 +2,31 @@ use Rattle.layout.proofs.HandleLaws.{all-count, all-filled}
 use borrow.Author.Needs.{needs}
 use Rattle.layout.proofs.handles.fill_handles.Statement.{statement}
 use Rattle.layout.proofs.handles.fill_handles.Tie as tie
-use Rattle.layout.proofs.handles.fill_handles.Reads as reads
-use Rattle.layout.proofs.handles.fill_handles.Lts as lts
-use Rattle.layout.proofs.handles.fill_families.Reads as fill-families-reads
-use Rattle.layout.proofs.handles.fill_structs.Reads as fill-structs-reads
 
--- src/handles.rt:89:9
 fill-structs-requires : tie.Need-fill-structs-requires
 fill-structs-requires c κs = search needs
 
--- src/handles.rt:90:35
 mul-fill-families : tie.Need-mul-fill-families
 mul-fill-families c = search needs
 
--- src/handles.rt:90:35
 sub-fill-families : tie.Need-sub-fill-families
 sub-fill-families c = search needs
 
--- src/handles.rt:90:35
 part-fill-families-start : tie.Need-part-fill-families-start
 part-fill-families-start c = search needs
 
--- src/handles.rt:90:35
 part-fill-families-end : tie.Need-part-fill-families-end
 part-fill-families-end c = search needs
 
--- src/handles.rt:90:9
 fill-families-requires : tie.Need-fill-families-requires
 fill-families-requires c κs = search needs
 
--- src/handles.rt:91:5
 add-result : tie.Need-add-result
 add-result c = search needs
 
--- src/handles.rt:85:1
 same-length : tie.Need-same-length
 same-length c = search needs
 
--- src/handles.rt:85:1
 returns : tie.Need-returns
 returns c = (
   search all-count,

@@ -1,16 +1,12 @@
+use Prim.Native.Nat.{_-_}
 use Rattle.layout.proofs.HandleLaws.{Filling, fill-start, fill-count, fill-end, fill-laws, room-laws, place-small, structs-stop, struct-laws, structs-fit, families-fit}
-use Prim.Native.Nat.{_-_, _≤_}
+use Prim.Native.Nat.{_-_}
 use lib.ListN.{length}
 use Rattle.record.proofs.Stream.{nearer}
 use Rattle.layout.specs.Handles.{structsFrom}
 use borrow.Author.Needs.{needs}
 use Rattle.layout.proofs.handles.fill_structs.Statement.{statement}
 use Rattle.layout.proofs.handles.fill_structs.Tie as tie
-use Rattle.layout.proofs.handles.fill_structs.Reads as reads
-use Rattle.layout.proofs.handles.fill_structs.Lts as lts
-use Rattle.layout.proofs.handles.narrow.Reads as narrow-reads
-use Rattle.record.proofs.command.Cursor.new.Reads as new-reads
-use Rattle.record.proofs.command.Cursor.next.Reads as next-reads
 
 abbrev Inv-loop : tie.InvT-loop
 Inv-loop stream out₀ cursor₀ n₀ out cursor n = Filling (structsFrom stream 0) (structsFrom stream (cursor .at)) out₀ out n
@@ -18,67 +14,51 @@ Inv-loop stream out₀ cursor₀ n₀ out cursor n = Filling (structsFrom stream
 abbrev μ-loop : tie.MeasureT-loop
 μ-loop stream out₀ cursor₀ n₀ out cursor n = length stream - cursor .at
 
--- src/handles.rt:23:9
 new-requires : tie.Need-new-requires Inv-loop μ-loop
 new-requires c κs = search needs
 
--- src/handles.rt:25:5
 loop-holds : tie.Need-loop-holds Inv-loop μ-loop
 loop-holds c = rw (c .new .ensures) (search (fill-start, structs-fit))
 
--- src/handles.rt:27:42
 next-requires : tie.Need-next-requires Inv-loop μ-loop
 next-requires c κs = search needs
 
--- src/handles.rt:27:24
 enum-known-command : tie.Need-enum-known-command Inv-loop μ-loop
 enum-known-command c = search needs
 
--- src/handles.rt:28:13
 enum-told : tie.Need-enum-told Inv-loop μ-loop
 enum-told c = search needs
 
--- src/handles.rt:28:13
 same-length : tie.Need-same-length Inv-loop μ-loop
 same-length c = search needs
 
--- src/handles.rt:28:13
 returns : tie.Need-returns Inv-loop μ-loop
 returns c = (search (fill-count, structs-stop), search (fill-end, structs-stop), search (families-fit, fill-count, structs-stop))
 
--- src/handles.rt:31:22
 enum-told-2 : tie.Need-enum-told-2 Inv-loop μ-loop
 enum-told-2 c = search needs
 
--- src/handles.rt:31:22
 narrow-requires : tie.Need-narrow-requires Inv-loop μ-loop
 narrow-requires c κs = search place-small
 
--- src/handles.rt:31:13
 mul-out : tie.Need-mul-out Inv-loop μ-loop
 mul-out c = search needs
 
--- src/handles.rt:31:13
 slice-write-out : tie.Need-slice-write-out Inv-loop μ-loop
 slice-write-out c = search room-laws
 
--- src/handles.rt:32:13
 add-n : tie.Need-add-n Inv-loop μ-loop
 add-n c = search needs
 
--- src/handles.rt:25:5
 loop-less : tie.Need-loop-less Inv-loop μ-loop
 loop-less c = search nearer
 
--- src/handles.rt:25:5
 loop-again : tie.Need-loop-again Inv-loop μ-loop
 loop-again c = search (fill-laws, struct-laws)
 
--- src/handles.rt:25:5
 loop-less-2 : tie.Need-loop-less-2 Inv-loop μ-loop
 loop-less-2 c = search nearer
 
--- src/handles.rt:25:5
 loop-again-2 : tie.Need-loop-again-2 Inv-loop μ-loop
 loop-again-2 c = search (fill-laws, struct-laws)
 

@@ -1,6 +1,6 @@
 use Prim.Native.Nat.{_-_}
 use mathlib.Core.Path.{_≡_}
-use lib.ListN.{length, drop}
+use lib.ListN.{drop}
 use Rattle.record.specs.Base.{before}
 use Rattle.record.proofs.TextLaws.{kept, ended}
 use Rattle.layout.specs.Names.{joined}
@@ -8,11 +8,6 @@ use Rattle.layout.proofs.NameLaws.{joined-skip, turn-laws, turn-below, 
 use borrow.Author.Needs.{needs}
 use Rattle.layout.proofs.names.joined_before.Statement.{statement}
 use Rattle.layout.proofs.names.joined_before.Tie as tie
-use Rattle.layout.proofs.names.joined_before.Reads as reads
-use Rattle.layout.proofs.names.joined_before.Lts as lts
-use Rattle.layout.proofs.names.joined_byte.Reads as joined-byte-reads
-use Rattle.layout.proofs.names.joined_len.Reads as joined-len-reads
-use Rattle.layout.proofs.words.skip.Reads as skip-reads
 
 abbrev Inv-loop : tie.InvT-loop
 Inv-loop f k b g l d n m i₀ i = before (joined f k b) (joined g l d) ≡ before (drop i (joined f k b)) (drop i (joined g l d))
@@ -20,65 +15,51 @@ Inv-loop f k b g l d n m i₀ i = before (joined f k b) (joined g l d) ≡ befor
 abbrev μ-loop : tie.MeasureT-loop
 μ-loop f k b g l d n m i₀ i = n - i
 
--- src/names.rt:98:9
 joined-len-requires : tie.Need-joined-len-requires Inv-loop μ-loop
 joined-len-requires c κs = search needs
 
--- src/names.rt:99:9
 joined-len-requires-2 : tie.Need-joined-len-requires-2 Inv-loop μ-loop
 joined-len-requires-2 c κs = search needs
 
--- src/names.rt:100:9
 skip-requires : tie.Need-skip-requires Inv-loop μ-loop
 skip-requires c κs = search needs
 
--- src/names.rt:101:5
 loop-holds : tie.Need-loop-holds Inv-loop μ-loop
 loop-holds c = search joined-skip
 
--- src/names.rt:103:13
 returns : tie.Need-returns Inv-loop μ-loop
 returns c = search (ended, turn-laws)
 
--- src/names.rt:105:13
 joined-byte-requires : tie.Need-joined-byte-requires Inv-loop μ-loop
 joined-byte-requires c κs = search needs
 
--- src/names.rt:106:13
 joined-byte-requires-2 : tie.Need-joined-byte-requires-2 Inv-loop μ-loop
 joined-byte-requires-2 c κs = search needs
 
--- src/names.rt:108:13
 returns-2 : tie.Need-returns-2 Inv-loop μ-loop
 returns-2 c = ended (c .before .before .before .before .before .loop .inv)
     (turn-below _ _ _ _ (c .before .before .before .before .before .loop .i) (c .before .before .before .before .before .before .before .before .joined-len .ensures) (c .before .before .before .before .before .before .before .joined-len2 .ensures) _ _ (search needs) (search needs)
     (c .before .before .joined-byte .ensures) (c .before .joined-byte2 .ensures) (search needs))
 
--- src/names.rt:111:13
 returns-3 : tie.Need-returns-3 Inv-loop μ-loop
 returns-3 c = ended (c .before .before .before .before .before .before .loop .inv)
     (turn-above _ _ _ _ (c .before .before .before .before .before .before .loop .i) (c .before .before .before .before .before .before .before .before .before .joined-len .ensures) (c .before .before .before .before .before .before .before .before .joined-len2 .ensures) _ _ (search needs) (search needs)
     (c .before .before .before .joined-byte .ensures) (c .before .before .joined-byte2 .ensures) (search needs))
 
--- src/names.rt:113:9
 add-i : tie.Need-add-i Inv-loop μ-loop
 add-i c = search needs
 
--- src/names.rt:101:5
 loop-less : tie.Need-loop-less Inv-loop μ-loop
 loop-less c = search needs
 
--- src/names.rt:101:5
 loop-again : tie.Need-loop-again Inv-loop μ-loop
 loop-again c = kept (c .before .before .before .before .before .before .loop .inv)
     (turn-next _ _ _ _ (c .before .before .before .before .before .before .loop .i) (c .before .before .before .before .before .before .before .before .before .joined-len .ensures) (c .before .before .before .before .before .before .before .before .joined-len2 .ensures) _ _ (search needs) (search needs)
     (c .before .before .before .joined-byte .ensures) (c .before .before .joined-byte2 .ensures) (search needs) (search needs))
 
--- src/names.rt:116:9
 returns-4 : tie.Need-returns-4 Inv-loop μ-loop
 returns-4 c = search (ended, turn-laws)
 
--- src/names.rt:94:1
 returns-5 : tie.Need-returns-5 Inv-loop μ-loop
 returns-5 c = search (ended, turn-laws)
 

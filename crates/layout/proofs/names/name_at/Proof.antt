@@ -2,40 +2,28 @@ use Rattle.layout.proofs.NameLaws.{name-past, name-is}
 use borrow.Author.Needs.{needs}
 use Rattle.layout.proofs.names.name_at.Statement.{statement}
 use Rattle.layout.proofs.names.name_at.Tie as tie
-use Rattle.layout.proofs.names.name_at.Reads as reads
-use Rattle.layout.proofs.names.name_at.Lts as lts
-use Rattle.record.proofs.operands.text_at.Reads as text-at-reads
-use Rattle.record.proofs.text.bytes_of.Reads as bytes-of-reads
 
--- src/names.rt:34:9
 slice-aggregate-result : tie.Need-slice-aggregate-result
 slice-aggregate-result c = search needs
 
--- src/names.rt:34:9
 returns : tie.Need-returns
 returns c = (search name-past, search needs)
 
--- src/names.rt:36:21
 sub-text-at : tie.Need-sub-text-at
 sub-text-at c = search needs
 
--- src/names.rt:36:21
 part-text-at-start : tie.Need-part-text-at-start
 part-text-at-start c = search needs
 
--- src/names.rt:36:21
 part-text-at-end : tie.Need-part-text-at-end
 part-text-at-end c = search needs
 
--- src/names.rt:36:9
 text-at-requires : tie.Need-text-at-requires
 text-at-requires c κs = search needs
 
--- src/names.rt:37:5
 bytes-of-requires : tie.Need-bytes-of-requires
 bytes-of-requires c κs = search needs
 
--- src/names.rt:30:1
 returns-2 : tie.Need-returns-2
 returns-2 c = name-is _ _ _ _ _ (c .before .before .before .before .before .shared-slice-known .given) (c .before .text-at .ensures) (c .bytes-of .ensures)
 

@@ -2,14 +2,10 @@ use Rattle.layout.specs.Handles.{placePart}
 use borrow.Author.Needs.{needs}
 use Rattle.layout.proofs.names.place_part.Statement.{statement}
 use Rattle.layout.proofs.names.place_part.Tie as tie
-use Rattle.layout.proofs.names.place_part.Reads as reads
-use Rattle.layout.proofs.names.place_part.Lts as lts
 
--- src/names.rt:19:5
 cast-result : tie.Need-cast-result
 cast-result c = search needs
 
--- src/names.rt:16:1
 returns : tie.Need-returns
 unfolding placePart
 returns c = search needs

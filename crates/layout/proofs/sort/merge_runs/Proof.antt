@@ -5,9 +5,6 @@ use Rattle.layout.proofs.SortLaws.{Merged, merged-start, right-inside, 
 use borrow.Author.Needs.{needs}
 use Rattle.layout.proofs.sort.merge_runs.Statement.{statement}
 use Rattle.layout.proofs.sort.merge_runs.Tie as tie
-use Rattle.layout.proofs.sort.merge_runs.Reads as reads
-use Rattle.layout.proofs.sort.merge_runs.Lts as lts
-use Rattle.layout.proofs.sort.second_next.Reads as second-next-reads
 
 abbrev Inv-loop : tie.InvT-loop
 Inv-loop stream pool left right out₀ i₀ j₀ out i j = Merged (typeName stream pool) left right out i j
@@ -15,87 +12,66 @@ Inv-loop stream pool left right out₀ i₀ j₀ out i j = Merged (typeName stre
 abbrev μ-loop : tie.MeasureT-loop
 μ-loop stream pool left right out₀ i₀ j₀ out i j = length left + length right - (i + j)
 
--- src/sort.rt:29:5
 loop-holds : tie.Need-loop-holds Inv-loop μ-loop
 loop-holds c = search merged-start
 
--- src/sort.rt:29:11
 add-loop : tie.Need-add-loop Inv-loop μ-loop
 add-loop c = search needs
 
--- src/sort.rt:30:12
 second-next-requires : tie.Need-second-next-requires Inv-loop μ-loop
 second-next-requires c κs = search needs
 
--- src/sort.rt:31:26
 mul-out : tie.Need-mul-out Inv-loop μ-loop
 mul-out c = search needs
 
--- src/sort.rt:31:26
 shared-slice-read-out : tie.Need-shared-slice-read-out Inv-loop μ-loop
 shared-slice-read-out c = search right-inside
 
--- src/sort.rt:31:17
 add-out : tie.Need-add-out Inv-loop μ-loop
 add-out c = search needs
 
--- src/sort.rt:31:13
 mul-out-2 : tie.Need-mul-out-2 Inv-loop μ-loop
 mul-out-2 c = search needs
 
--- src/sort.rt:31:13
 slice-write-out : tie.Need-slice-write-out Inv-loop μ-loop
 slice-write-out c = search needs
 
--- src/sort.rt:32:13
 add-j : tie.Need-add-j Inv-loop μ-loop
 add-j c = search needs
 
--- src/sort.rt:29:5
 loop-less : tie.Need-loop-less Inv-loop μ-loop
 loop-less c = search needs
 
--- src/sort.rt:29:5
 loop-again : tie.Need-loop-again Inv-loop μ-loop
 loop-again c = search merged-right
 
--- src/sort.rt:34:26
 mul-out-3 : tie.Need-mul-out-3 Inv-loop μ-loop
 mul-out-3 c = search needs
 
--- src/sort.rt:34:26
 shared-slice-read-out-2 : tie.Need-shared-slice-read-out-2 Inv-loop μ-loop
 shared-slice-read-out-2 c = search left-inside
 
--- src/sort.rt:34:17
 add-out-2 : tie.Need-add-out-2 Inv-loop μ-loop
 add-out-2 c = search needs
 
--- src/sort.rt:34:13
 mul-out-4 : tie.Need-mul-out-4 Inv-loop μ-loop
 mul-out-4 c = search needs
 
--- src/sort.rt:34:13
 slice-write-out-2 : tie.Need-slice-write-out-2 Inv-loop μ-loop
 slice-write-out-2 c = search needs
 
--- src/sort.rt:35:13
 add-i : tie.Need-add-i Inv-loop μ-loop
 add-i c = search needs
 
--- src/sort.rt:29:5
 loop-less-2 : tie.Need-loop-less-2 Inv-loop μ-loop
 loop-less-2 c = search needs
 
--- src/sort.rt:29:5
 loop-again-2 : tie.Need-loop-again-2 Inv-loop μ-loop
 loop-again-2 c = search merged-left
 
--- src/sort.rt:23:1
 same-length : tie.Need-same-length Inv-loop μ-loop
 same-length c = search needs
 
--- src/sort.rt:23:1
 returns : tie.Need-returns Inv-loop μ-loop
 returns c = search merged-end
 

@@ -1,16 +1,11 @@
-use Rattle.layout.proofs.SortLaws.{pass-nearer, passed-step, passed-end}
-use Prim.Native.Nat.{_+_, _-_, _≤_, _<_}
+use Rattle.layout.proofs.SortLaws.{Passed, pass-nearer, passed-step, passed-end}
+use Prim.Native.Nat.{_-_, _<_}
 use mathlib.Core.Path.{_≡_, refl}
 use lib.ListN.{length}
 use Rattle.layout.specs.Handles.{typeName}
-use Rattle.layout.proofs.SortLaws.{Passed}
 use borrow.Author.Needs.{needs}
 use Rattle.layout.proofs.sort.pass.Statement.{statement}
 use Rattle.layout.proofs.sort.pass.Tie as tie
-use Rattle.layout.proofs.sort.pass.Reads as reads
-use Rattle.layout.proofs.sort.pass.Lts as lts
-use Rattle.layout.proofs.sort.bound.Reads as bound-reads
-use Rattle.layout.proofs.sort.merge_runs.Reads as merge-runs-reads
 
 abbrev Inv-loop : tie.InvT-loop
 Inv-loop stream pool src dst₀ w n lo₀ dst lo = Passed (typeName stream pool) w src dst lo × (n ≡ length src) × (0 < w)
@@ -18,83 +13,63 @@ Inv-loop stream pool src dst₀ w n lo₀ dst lo = Passed (typeName stream pool)
 abbrev μ-loop : tie.MeasureT-loop
 μ-loop stream pool src dst₀ w n lo₀ dst lo = n - lo
 
--- src/lib.rt:81:5
 loop-holds : tie.Need-loop-holds Inv-loop μ-loop
 loop-holds c = (record { so-far = refl; inside = search needs; long = search needs }, search needs, search needs)
 
--- src/lib.rt:82:13
 bound-requires : tie.Need-bound-requires Inv-loop μ-loop
 bound-requires c κs = search needs
 
--- src/lib.rt:83:13
 bound-requires-2 : tie.Need-bound-requires-2 Inv-loop μ-loop
 bound-requires-2 c κs = search needs
 
--- src/lib.rt:84:29
 mul-merge-runs : tie.Need-mul-merge-runs Inv-loop μ-loop
 mul-merge-runs c = search needs
 
--- src/lib.rt:84:29
 sub-merge-runs : tie.Need-sub-merge-runs Inv-loop μ-loop
 sub-merge-runs c = search needs
 
--- src/lib.rt:84:29
 part-merge-runs-start : tie.Need-part-merge-runs-start Inv-loop μ-loop
 part-merge-runs-start c = search needs
 
--- src/lib.rt:84:29
 part-merge-runs-end : tie.Need-part-merge-runs-end Inv-loop μ-loop
 part-merge-runs-end c = search needs
 
--- src/lib.rt:84:44
 mul-merge-runs-2 : tie.Need-mul-merge-runs-2 Inv-loop μ-loop
 mul-merge-runs-2 c = search needs
 
--- src/lib.rt:84:44
 sub-merge-runs-2 : tie.Need-sub-merge-runs-2 Inv-loop μ-loop
 sub-merge-runs-2 c = search needs
 
--- src/lib.rt:84:44
 part-merge-runs-start-2 : tie.Need-part-merge-runs-start-2 Inv-loop μ-loop
 part-merge-runs-start-2 c = search needs
 
--- src/lib.rt:84:44
 part-merge-runs-end-2 : tie.Need-part-merge-runs-end-2 Inv-loop μ-loop
 part-merge-runs-end-2 c = search needs
 
--- src/lib.rt:84:59
 mul-merge-runs-3 : tie.Need-mul-merge-runs-3 Inv-loop μ-loop
 mul-merge-runs-3 c = search needs
 
--- src/lib.rt:84:59
 sub-merge-runs-3 : tie.Need-sub-merge-runs-3 Inv-loop μ-loop
 sub-merge-runs-3 c = search needs
 
--- src/lib.rt:84:59
 part-merge-runs-start-3 : tie.Need-part-merge-runs-start-3 Inv-loop μ-loop
 part-merge-runs-start-3 c = search needs
 
--- src/lib.rt:84:59
 part-merge-runs-end-3 : tie.Need-part-merge-runs-end-3 Inv-loop μ-loop
 part-merge-runs-end-3 c = search needs
 
--- src/lib.rt:84:9
 merge-runs-requires : tie.Need-merge-runs-requires Inv-loop μ-loop
 merge-runs-requires c κs = search needs
 
--- src/lib.rt:81:5
 loop-less : tie.Need-loop-less Inv-loop μ-loop
 loop-less c = pass-nearer _ _ _ _ _ _ _ (c .before .before .before .before .before .before .before .before .before .loop .inv .0) (c .before .before .before .before .before .before .before .before .before .loop .inv .2) (c .before .before .before .before .before .before .before .bound .ensures) (c .before .before .before .before .before .before .bound2 .ensures) (search needs)
 
--- src/lib.rt:81:5
 loop-again : tie.Need-loop-again Inv-loop μ-loop
 loop-again c = (passed-step _ _ _ _ _ _ _ (c .before .before .before .before .before .before .before .before .before .loop .inv .0) (c .before .before .before .before .before .before .before .before .before .loop .inv .2) (c .before .before .before .before .before .before .before .bound .ensures) (c .before .before .before .before .before .before .bound2 .ensures) _ (search needs) (c .before .before .merge-runs .ensures), search needs, search needs)
 
--- src/lib.rt:75:1
 same-length : tie.Need-same-length Inv-loop μ-loop
 same-length c = search needs
 
--- src/lib.rt:75:1
 returns : tie.Need-returns Inv-loop μ-loop
 returns c = search passed-end
 

@@ -2,39 +2,28 @@ use Rattle.layout.proofs.SortLaws.{second-laws}
 use borrow.Author.Needs.{needs}
 use Rattle.layout.proofs.sort.second_next.Statement.{statement}
 use Rattle.layout.proofs.sort.second_next.Tie as tie
-use Rattle.layout.proofs.sort.second_next.Reads as reads
-use Rattle.layout.proofs.sort.second_next.Lts as lts
-use Rattle.layout.proofs.names.type_before.Reads as type-before-reads
 
--- src/sort.rt:14:9
 returns : tie.Need-returns
 returns c = search second-laws
 
--- src/sort.rt:17:9
 returns-2 : tie.Need-returns-2
 returns-2 c = search second-laws
 
--- src/sort.rt:19:31
 mul-type-before : tie.Need-mul-type-before
 mul-type-before c = search needs
 
--- src/sort.rt:19:31
 shared-slice-read-type-before : tie.Need-shared-slice-read-type-before
 shared-slice-read-type-before c = search needs
 
--- src/sort.rt:19:41
 mul-type-before-2 : tie.Need-mul-type-before-2
 mul-type-before-2 c = search needs
 
--- src/sort.rt:19:41
 shared-slice-read-type-before-2 : tie.Need-shared-slice-read-type-before-2
 shared-slice-read-type-before-2 c = search needs
 
--- src/sort.rt:19:5
 type-before-requires : tie.Need-type-before-requires
 type-before-requires c κs = search needs
 
--- src/sort.rt:10:1
 returns-3 : tie.Need-returns-3
 returns-3 c = search second-laws
 

@@ -1,4 +1,4 @@
-use Prim.Native.Nat.{_-_, _<_, _≤_}
+use Prim.Native.Nat.{_-_, _<_}
 use mathlib.Core.Path.{_≡_}
 use lib.ListN.{length}
 use Rattle.layout.specs.Handles.{typeName}
@@ -7,9 +7,6 @@ use Rattle.layout.proofs.SortLaws.{sort-start, sort-turn, sort-end}
 use borrow.Author.Needs.{needs}
 use Rattle.layout.proofs.sort.sort_handles.Statement.{statement}
 use Rattle.layout.proofs.sort.sort_handles.Tie as tie
-use Rattle.layout.proofs.sort.sort_handles.Reads as reads
-use Rattle.layout.proofs.sort.sort_handles.Lts as lts
-use Rattle.layout.proofs.sort.pass.Reads as pass-reads
 
 abbrev Inv-loop : tie.InvT-loop
 Inv-loop stream pool handles₀ scratch₀ w₀ handles scratch w = (handles ≡ chunks (arranged (typeName stream pool)) w handles₀) × (length handles ≡ length handles₀) × (length scratch ≡ length handles₀) × (0 < w)
@@ -17,43 +14,33 @@ Inv-loop stream pool handles₀ scratch₀ w₀ handles scratch w = (handles ≡
 abbrev μ-loop : tie.MeasureT-loop
 μ-loop stream pool handles₀ scratch₀ w₀ handles scratch w = length handles₀ - w
 
--- src/lib.rt:95:5
 loop-holds : tie.Need-loop-holds Inv-loop μ-loop
 loop-holds c = (search sort-start, search needs, search needs, search needs)
 
--- src/lib.rt:96:9
 pass-requires : tie.Need-pass-requires Inv-loop μ-loop
 pass-requires c κs = search needs
 
--- src/lib.rt:97:17
 add-v : tie.Need-add-v Inv-loop μ-loop
 add-v c = search needs
 
--- src/lib.rt:98:9
 pass-requires-2 : tie.Need-pass-requires-2 Inv-loop μ-loop
 pass-requires-2 c κs = search needs
 
--- src/lib.rt:99:13
 add-w : tie.Need-add-w Inv-loop μ-loop
 add-w c = search needs
 
--- src/lib.rt:95:5
 loop-less : tie.Need-loop-less Inv-loop μ-loop
 loop-less c = search needs
 
--- src/lib.rt:95:5
 loop-again : tie.Need-loop-again Inv-loop μ-loop
 loop-again c = (search sort-turn, search needs, search needs, search needs)
 
--- src/lib.rt:90:1
 same-length : tie.Need-same-length Inv-loop μ-loop
 same-length c = search needs
 
--- src/lib.rt:90:1
 same-length-2 : tie.Need-same-length-2 Inv-loop μ-loop
 same-length-2 c = search needs
 
--- src/lib.rt:90:1
 returns : tie.Need-returns Inv-loop μ-loop
 returns c = search sort-end
 

@@ -2,19 +2,13 @@ use Rattle.layout.proofs.TableLaws.{found-whole}
 use borrow.Author.Needs.{needs}
 use Rattle.layout.proofs.table.find_type.Statement.{statement}
 use Rattle.layout.proofs.table.find_type.Tie as tie
-use Rattle.layout.proofs.table.find_type.Reads as reads
-use Rattle.layout.proofs.table.find_type.Lts as lts
-use Rattle.layout.proofs.table.find_parts.Reads as find-parts-reads
 
--- src/table.rt:71:46
 slice-aggregate-find-parts : tie.Need-slice-aggregate-find-parts
 slice-aggregate-find-parts c = search needs
 
--- src/table.rt:71:5
 find-parts-requires : tie.Need-find-parts-requires
 find-parts-requires c κs = search needs
 
--- src/table.rt:67:1
 returns : tie.Need-returns
 returns c = search found-whole
 

@@ -2,47 +2,34 @@ use Rattle.layout.proofs.TableLaws.{table-is, cut-long, cuts-agree, cut
 use borrow.Author.Needs.{needs}
 use Rattle.layout.proofs.table.type_table.Statement.{statement}
 use Rattle.layout.proofs.table.type_table.Tie as tie
-use Rattle.layout.proofs.table.type_table.Reads as reads
-use Rattle.layout.proofs.table.type_table.Lts as lts
-use Rattle.layout.proofs.handles.fill_handles.Reads as fill-handles-reads
-use Rattle.layout.proofs.table.arrange.Reads as arrange-reads
 
--- src/table.rt:32:9
 fill-handles-requires : tie.Need-fill-handles-requires
 fill-handles-requires c κs = search needs
 
--- src/table.rt:33:27
 slice-relend-prefix-arrange : tie.Need-slice-relend-prefix-arrange
 slice-relend-prefix-arrange c = search needs
 
--- src/table.rt:33:27
 slice-aggregate-arrange : tie.Need-slice-aggregate-arrange
 slice-aggregate-arrange c = cut-long _ _ (search needs)
 
--- src/table.rt:33:44
 slice-relend-prefix-arrange-2 : tie.Need-slice-relend-prefix-arrange-2
 slice-relend-prefix-arrange-2 c = search needs
 
--- src/table.rt:33:44
 slice-aggregate-arrange-2 : tie.Need-slice-aggregate-arrange-2
 slice-aggregate-arrange-2 c = cut-long _ _ (search needs)
 
--- src/table.rt:33:5
 arrange-requires : tie.Need-arrange-requires
 arrange-requires c κs = (
   cuts-agree (c .before .before .before .before .before .before .before .before .before .before .args .scratch .now) (c .before .before .before .before .fill-handles .last .1 .0) (c .before .before .before .before .fill-handles .result) (search needs) (search needs),
   cut-small (c .before .before .before .before .fill-handles .last .1 .0) (c .before .before .before .before .fill-handles .result) (search needs) (search needs),
 )
 
--- src/table.rt:28:1
 same-length : tie.Need-same-length
 same-length c = search needs
 
--- src/table.rt:28:1
 same-length-2 : tie.Need-same-length-2
 same-length-2 c = search needs
 
--- src/table.rt:28:1
 returns : tie.Need-returns
 returns c = (
   table-is _ _ (search needs) _ _ (c .before .before .before .before .arrange .last .1 .1 .0) _ (c .before .before .before .before .arrange .result) (c .before .before .before .before .before .before .before .before .before .fill-handles .ensures .0) (c .before .before .before .before .before .before .before .before .before .fill-handles .ensures .1) (c .before .before .before .before .arrange .ensures .0) (search needs),

@@ -3,79 +3,58 @@ use Rattle.layout.proofs.WordLaws.{half-is}
 use borrow.Author.Needs.{needs}
 use Rattle.layout.proofs.words.half.Statement.{statement}
 use Rattle.layout.proofs.words.half.Tie as tie
-use Rattle.layout.proofs.words.half.Reads as reads
-use Rattle.layout.proofs.words.half.Lts as lts
-use Rattle.layout.proofs.words.wide.Reads as wide-reads
 
--- src/words.rt:20:10
 shared-slice-read-wide : tie.Need-shared-slice-read-wide
 shared-slice-read-wide c = search needs
 
--- src/words.rt:20:5
 wide-requires : tie.Need-wide-requires
 wide-requires c κs = search needs
 
--- src/words.rt:20:31
 add-wide : tie.Need-add-wide
 add-wide c = search needs
 
--- src/words.rt:20:29
 shared-slice-read-wide-2 : tie.Need-shared-slice-read-wide-2
 shared-slice-read-wide-2 c = search needs
 
--- src/words.rt:20:24
 wide-requires-2 : tie.Need-wide-requires-2
 wide-requires-2 c κs = search needs
 
--- src/words.rt:20:18
 mul-result : tie.Need-mul-result
 mul-result c = search needs
 
--- src/words.rt:20:5
 add-result : tie.Need-add-result
 add-result c = search needs
 
--- src/words.rt:20:56
 add-wide-2 : tie.Need-add-wide-2
 add-wide-2 c = search needs
 
--- src/words.rt:20:54
 shared-slice-read-wide-3 : tie.Need-shared-slice-read-wide-3
 shared-slice-read-wide-3 c = search needs
 
--- src/words.rt:20:49
 wide-requires-3 : tie.Need-wide-requires-3
 wide-requires-3 c κs = search needs
 
--- src/words.rt:20:41
 mul-result-2 : tie.Need-mul-result-2
 mul-result-2 c = search needs
 
--- src/words.rt:20:5
 add-result-2 : tie.Need-add-result-2
 add-result-2 c = search needs
 
--- src/words.rt:20:84
 add-wide-3 : tie.Need-add-wide-3
 add-wide-3 c = search needs
 
--- src/words.rt:20:82
 shared-slice-read-wide-4 : tie.Need-shared-slice-read-wide-4
 shared-slice-read-wide-4 c = search needs
 
--- src/words.rt:20:77
 wide-requires-4 : tie.Need-wide-requires-4
 wide-requires-4 c κs = search needs
 
--- src/words.rt:20:66
 mul-result-3 : tie.Need-mul-result-3
 mul-result-3 c = search needs
 
--- src/words.rt:20:5
 add-result-3 : tie.Need-add-result-3
 add-result-3 c = search needs
 
--- src/words.rt:16:1
 returns : tie.Need-returns
 returns c = (search half-is, omega arith)
 

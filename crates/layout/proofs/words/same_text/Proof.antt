@@ -3,72 +3,52 @@ use Rattle.layout.proofs.WordLaws.{other-length, other-byte, word-laws}
 use borrow.Author.Needs.{needs}
 use Rattle.layout.proofs.words.same_text.Statement.{statement}
 use Rattle.layout.proofs.words.same_text.Tie as tie
-use Rattle.layout.proofs.words.same_text.Reads as reads
-use Rattle.layout.proofs.words.same_text.Lts as lts
-use Rattle.layout.proofs.words.skip.Reads as skip-reads
-use Rattle.record.proofs.text.same.Reads as same-reads
 
--- src/words.rt:58:9
 returns : tie.Need-returns
 returns c = other-length _ _ _ refl (c .if1 .taken)
 
--- src/words.rt:61:9
 returns-2 : tie.Need-returns-2
 returns-2 c = search word-laws
 
--- src/words.rt:63:10
 sub-if3 : tie.Need-sub-if3
 sub-if3 c = search needs
 
--- src/words.rt:63:8
 shared-slice-read-if3 : tie.Need-shared-slice-read-if3
 shared-slice-read-if3 c = search needs
 
--- src/words.rt:63:22
 sub-if3-2 : tie.Need-sub-if3-2
 sub-if3-2 c = search needs
 
--- src/words.rt:63:20
 shared-slice-read-if3-2 : tie.Need-shared-slice-read-if3-2
 shared-slice-read-if3-2 c = search needs
 
--- src/words.rt:64:9
 returns-3 : tie.Need-returns-3
 returns-3 c = other-byte _ _ _ (c .if3 .taken)
 
--- src/words.rt:66:9
 skip-requires : tie.Need-skip-requires
 skip-requires c κs = search needs
 
--- src/words.rt:67:10
 sub-same : tie.Need-sub-same
 sub-same c = search needs
 
--- src/words.rt:67:10
 part-same-start : tie.Need-part-same-start
 part-same-start c = search needs
 
--- src/words.rt:67:10
 part-same-end : tie.Need-part-same-end
 part-same-end c = search needs
 
--- src/words.rt:67:19
 sub-same-2 : tie.Need-sub-same-2
 sub-same-2 c = search needs
 
--- src/words.rt:67:19
 part-same-start-2 : tie.Need-part-same-start-2
 part-same-start-2 c = search needs
 
--- src/words.rt:67:19
 part-same-end-2 : tie.Need-part-same-end-2
 part-same-end-2 c = search needs
 
--- src/words.rt:67:5
 same-requires : tie.Need-same-requires
 same-requires c κs = search needs
 
--- src/words.rt:53:1
 returns-4 : tie.Need-returns-4
 returns-4 c = search word-laws
 

@@ -5,10 +5,6 @@ use Rattle.layout.proofs.WordLaws.{skip-none, skip-more}
 use borrow.Author.Needs.{needs}
 use Rattle.layout.proofs.words.skip.Statement.{statement}
 use Rattle.layout.proofs.words.skip.Tie as tie
-use Rattle.layout.proofs.words.skip.Reads as reads
-use Rattle.layout.proofs.words.skip.Lts as lts
-use Rattle.layout.proofs.words.lesser.Reads as lesser-reads
-use Rattle.layout.proofs.words.word.Reads as word-reads
 
 abbrev Inv-loop : tie.InvT-loop
 Inv-loop a b n i₀ i = Skipped a b i × (n ≤ length a) × (n ≤ length b) × (i ≤ n)
@@ -16,39 +12,30 @@ Inv-loop a b n i₀ i = Skipped a b i × (n ≤ length a) × (n ≤ length b) ×
 abbrev μ-loop : tie.MeasureT-loop
 μ-loop a b n i₀ i = n - i
 
--- src/words.rt:41:9
 lesser-requires : tie.Need-lesser-requires Inv-loop μ-loop
 lesser-requires c κs = search needs
 
--- src/words.rt:43:5
 loop-holds : tie.Need-loop-holds Inv-loop μ-loop
 loop-holds c = (skip-none _ _, search needs, search needs, search needs)
 
--- src/words.rt:43:16
 sub-loop : tie.Need-sub-loop Inv-loop μ-loop
 sub-loop c = search needs
 
--- src/words.rt:44:12
 word-requires : tie.Need-word-requires Inv-loop μ-loop
 word-requires c κs = search needs
 
--- src/words.rt:44:26
 word-requires-2 : tie.Need-word-requires-2 Inv-loop μ-loop
 word-requires-2 c κs = search needs
 
--- src/words.rt:45:13
 returns : tie.Need-returns Inv-loop μ-loop
 returns c = search needs
 
--- src/words.rt:47:9
 add-i : tie.Need-add-i Inv-loop μ-loop
 add-i c = search needs
 
--- src/words.rt:43:5
 loop-less : tie.Need-loop-less Inv-loop μ-loop
 loop-less c = search needs
 
--- src/words.rt:43:5
 loop-again : tie.Need-loop-again Inv-loop μ-loop
 loop-again c = (
   skip-more _ _ (c .before .before .before .before .before .before .before .shared-slice-known .given)
@@ -60,7 +47,6 @@ loop-again c = (
   search needs,
 )
 
--- src/words.rt:38:1
 returns-2 : tie.Need-returns-2 Inv-loop μ-loop
 returns-2 c = search needs
 
