@@ -1,19 +1,16 @@
 -- Words and bytes: what equal words say of the bytes, and texts from an index on. Assumes nothing.
 use Prim.Native.Nat.{ℕ, zero, suc, _+_, _*_, _-_, _≤_, _<_}
-use mathlib.Core.List.{[], _∷_}
 use mathlib.Core.Bool.{Bool, true, false}
 use mathlib.Core.Path.{_≡_, refl, sym, ap, subst, _∙_}
 use native.Mathlib.Omega.{arith}
 use native.Mathlib.Numerals.{add-one}
-use lib.ListN.{length, take, drop, getD, length-drop, drop-of-length-le}
-use lib.Seq.{take-all, drop-cons}
+use lib.ListN.{length, drop, getD, drop-of-length-le}
+use lib.Seq.{drop-cons}
 use lib.Dec.{ltb}
 use borrow.Author.Tests.{ltb-true, ltb-false, lt-ltb, le-ltb, eq-eqb, ne-eqb}
 use mir.Val.{Fits}
 use mir.Syntax.{w8}
-use Rattle.record.specs.Base.{Str, eqs, before}
-use Rattle.record.proofs.Basics.{eqs→eq}
-use Rattle.record.proofs.TextLaws.{same-step}
+use Rattle.record.specs.Base.{Str, before}
 use Rattle.layout.specs.Words.{halfAt, wordAt, Skipped}
 
 -- every element is a byte
@@ -123,14 +120,6 @@ module _ (a b : Str) where
   pub skip-none : Skipped a b 0
   skip-none = record { agree = λ k t. absurd (omega arith); in-first = omega arith; in-second = omega arith }
 
-  same-skip : (i : ℕ) → Skipped a b i → eqs a b ≡ eqs (drop i a) (drop i b)
-  same-skip zero s = refl
-  same-skip (suc i) s =
-      let p = s .in-first in
-      let q = s .in-second in
-      let r : Skipped a b i = record { agree = λ k t. s .agree k (omega arith); in-first = omega arith; in-second = omega arith } in
-      same-skip i r ∙ same-step a b i (omega arith) (omega arith) (s .agree i (omega arith)) ∙ ap (λ (n : ℕ). eqs (drop n a) (drop n b)) (add-one i)
-
   pub before-skip : (i : ℕ) → Skipped a b i → before a b ≡ before (drop i a) (drop i b)
   before-skip zero s = refl
   before-skip (suc i) s =
@@ -139,30 +128,3 @@ module _ (a b : Str) where
       let e = s .agree i (omega arith) in
       let r : Skipped a b i = record { agree = λ k t. s .agree k (omega arith); in-first = omega arith; in-second = omega arith } in
       before-skip i r ∙ before-next a b i (omega arith) (omega arith) (omega arith) (omega arith) ∙ ap (λ (n : ℕ). before (drop n a) (drop n b)) (add-one i)
-
-  whole : (l : Str) (i : ℕ) → take (length l - i) (drop i l) ≡ drop i l
-  whole l i = take-all (length l - i) (drop i l) (rw length-drop (omega arith))
-
-  pub same-rest : (i : ℕ) (r : Bool) → Skipped a b i → r ≡ eqs (take (length a - i) (drop i a)) (take (length b - i) (drop i b)) → r ≡ eqs a b
-  same-rest i r s e = e ∙ rw (whole a i, whole b i) (sym (same-skip i s))
-
-  differ : (a ≡ b → ⊥) → false ≡ eqs a b
-  differ n = go (eqs a b) refl
-    where
-      go : (c : Bool) → eqs a b ≡ c → false ≡ eqs a b
-      go true e = absurd (n (eqs→eq a b e))
-      go false e = sym e
-
-  pub other-length : (n : ℕ) → n ≡ length a → (n ≡ length b → ⊥) → false ≡ eqs a b
-  other-length n p q = differ (λ e. q (p ∙ ap length e))
-
-  pub other-byte : (i : ℕ) → (getD a i 0 ≡ getD b i 0 → ⊥) → false ≡ eqs a b
-  other-byte i n = differ (λ e. n (ap (λ (l : Str). getD l i 0) e))
-
-pub both-empty : (a b : Str) (n : ℕ) → n ≡ length a → n ≡ length b → n ≡ 0 → true ≡ eqs a b
-unfolding eqs
-both-empty [] [] n p q z = refl
-both-empty [] (y ∷ b) n p q z = absurd (omega arith)
-both-empty (x ∷ a) b n p q z = absurd (omega arith)
-
-pub ruleset word-laws = (same-rest, other-length, both-empty, other-byte)

@@ -1,10 +1,10 @@
 // The names of types, by their handles, and their byte order. A name in parts is a front, up to two colons and a back.
-use crate::words::same_text;
 use crate::words::skip;
 use crate::words::text_before;
 use record::le::byte_at;
 use record::operands::text_at;
 use record::text::bytes_of;
+use record::text::same;
 ghost use Prim.Native.Nat.{_≤_};
 ghost use mathlib.Core.Path.{_≡_};
 ghost use lib.ListN.{length, getD};
@@ -124,7 +124,7 @@ fn parts_before(f: &[u8], k: usize, b: &[u8], g: &[u8], l: usize, d: &[u8]) -> b
     ensures { λ r. ⌜ r ≡ before (joined (now (f .entry)) k (now (b .entry))) (joined (now (g .entry)) l (now (d .entry))) ⌝ }
 {
     if f.len() == g.len() {
-        if same_text(f, g) {
+        if same(f, g) {
             if k == l {
                 return text_before(b, d);
             }

@@ -1,9 +1,8 @@
-// Equality and byte order of texts, eight bytes at a time.
-use record::text::same;
+// Byte order of texts, eight bytes at a time.
 ghost use Prim.Native.Nat.{_+_, _≤_, _<_};
 ghost use mathlib.Core.Path.{_≡_};
 ghost use lib.ListN.{length};
-ghost use Rattle.record.specs.Base.{eqs, before};
+ghost use Rattle.record.specs.Base.{before};
 ghost use Rattle.layout.specs.Words.{halfAt, wordAt, Skipped};
 
 fn wide(x: u8) -> u64
@@ -47,24 +46,6 @@ pub fn skip(a: &[u8], b: &[u8]) -> usize
         i += 8;
     }
     i
-}
-
-// Whether two texts are equal: the lengths decide most often, then the last bytes.
-pub fn same_text(a: &[u8], b: &[u8]) -> bool
-    ensures { λ r. ⌜ r ≡ eqs (now (a .entry)) (now (b .entry)) ⌝ }
-{
-    let n = a.len();
-    if n != b.len() {
-        return false;
-    }
-    if n == 0 {
-        return true;
-    }
-    if a[n - 1] != b[n - 1] {
-        return false;
-    }
-    let i = skip(a, b);
-    same(&a[i..], &b[i..])
 }
 
 // Whether one text goes before another in byte order.

@@ -3,8 +3,8 @@ use borrow.Author.Needs.{needs}
 use Rattle.layout.proofs.names.parts_before.Statement.{statement}
 use Rattle.layout.proofs.names.parts_before.Tie as tie
 
-same-text-requires : tie.Need-same-text-requires
-same-text-requires c κs = search needs
+same-requires : tie.Need-same-requires
+same-requires c κs = search needs
 
 text-before-requires : tie.Need-text-before-requires
 text-before-requires c κs = search needs
@@ -28,7 +28,7 @@ pub parts-before-spec : {M : Type 1} → statement M
 parts-before-spec =
     tie.close
     (tie.spec
-    same-text-requires
+    same-requires
     text-before-requires
     returns
     text-before-requires-2
