@@ -4,7 +4,8 @@ and the answers of the printed files proofs/lists/*/Proof.antt. Run from the rep
 `rt dev record` prints the proof files that are not there yet, and a second run answers them.
 
 A row: the list, one element, the function, the model's type, the command and its number, the step's enum with its two cases,
-what may stand between (anything, nothing, aKey, aField), the lists that follow an element, whether it is looked up by name."""
+what may stand between (anything, nothing, aKey, aField), the lists that follow an element, whether it is looked up by name.
+A step along the fields also says where the field stands."""
 import os
 import sys
 
@@ -41,7 +42,24 @@ for d in LISTS:
     d['kid'] = ''.join(' (%s s p (k .at))' % k for k in d['kids'])
     skips = BETWEEN[d['over']]
     named = [d['b'] - 1] + [b - 1 for _, b in skips or []]
+    # the place of a field
+    d['standing'] = '  pub placed : fieldPlaced s at r\n' if d['n'] == 'fields' else ''
+    d['stands'] = '; placed = fields-placed a e o h' if d['n'] == 'fields' else ''
+    d['nowhere'] = '; placed = tt' if d['n'] == 'fields' else ''
     d['rest'] = ' ∷ '.join(str(i) for i in range(14) if i not in named) + ' ∷ []'
+
+FIELD_PLACE = '''-- a field stands 33 bytes before the cursor after it, among the commands from a place on
+pub record FieldPlace (s : Str) (at : ℕ) (e : D.Field.Field) (k : Cursor) : Type 0 where
+  pub past : 33 ≤ k .at
+  pub in-stream : List·Memᴰ (k .at - 33) (commandsAt s at)
+  pub number : getD s (k .at - 33) 0 ≡ 11
+  pub operands : e ≡ fieldAt (drop (k .at - 33) s)
+
+abbrev pub fieldPlaced : Str → ℕ → FieldStep → Type 0
+fieldPlaced s at NoField = Unit
+fieldPlaced s at (AField e k) = FieldPlace s at e k
+
+'''
 
 
 def code():
@@ -131,14 +149,16 @@ use Rattle.record.specs.declared.lists.%(step)s.the-variants.{%(none)s, 
 def specs():
     o = '''-- The lists of a record from a place on, and what a step along each answers. Written by tools/lists.py. Assumes nothing.
 use mathlib.Core.Path.{_≡_}
-use mathlib.Core.List.{List, [], _∷_}
+use mathlib.Core.List.{List, [], _∷_, List·Memᴰ}
 use mathlib.Core.Option.{Option, none, some}
 use Prim.Native.Nat.{ℕ, suc, _-_, _≤_}
-use lib.ListN.{length}
+use lib.ListN.{length, getD, drop}
 use Rattle.record.specs.Base.{Str, eqs, find, first}
 use Rattle.record.specs.Schema.{%s}
-use Rattle.record.specs.Commands.{commandsAt}
+use Rattle.record.specs.Commands.{fieldAt, commandsAt}
 use Rattle.record.specs.Lists.{%s}
+use Rattle.record.specs.declared.command as D
+use Rattle.record.specs.declared.command.Cursor.{Cursor}
 ''' % (', '.join(sorted({d['model'] for d in LISTS})), ', '.join(sorted({d['of'] for d in LISTS} | {d['n'] for d in LISTS})))
     o += ''.join(declared(d) for d in LISTS)
     o += '\n-- the lists that begin at a place\n'
@@ -147,6 +167,8 @@ use Rattle.record.specs.Lists.{%s}
         if d['n'] == 'keys':
             o += '-- the plugin key of the field before a place\nabbrev pub fieldKeyAt : Str → Str → ℕ → Option Key\nfieldKeyAt s p at = first (keysAt s p at)\n\n'
     for d in LISTS:
+        if d['n'] == 'fields':
+            o += FIELD_PLACE
         o += '''-- %(n)s: the list at a step, and one more than the bytes after the element
 abbrev pub %(n)sOf : Str → Str → %(step)s → List %(model)s
 %(n)sOf s p %(none)s = []
@@ -159,15 +181,15 @@ abbrev pub %(n)sLeft : Str → %(step)s → ℕ
 pub record %(C)sFrom (s : Str) (at : ℕ) (r : %(step)s) : Type 0 where
   pub list : (p : Str) → %(n)sAt s p at ≡ %(n)sOf s p r
   pub left : %(n)sLeft s r ≤ length s - at
-
--- the element alone
+%(standing)s
+''' % d
+        if d['named']:
+            o += '''-- the element alone
 abbrev pub %(one)sFound : Str → Str → %(step)s → Option %(model)s
 %(one)sFound s p %(none)s = none
 %(one)sFound s p (%(some)s e k) = some (%(of)s p e%(kid)s)
 
-''' % d
-        if d['named']:
-            o += '''-- the first of that name
+-- the first of that name
 unfoldable pub %(one)sIn : Str → List %(model)s → Option %(model)s
 %(one)sIn n l = find (λ (e : %(model)s). eqs (e .name) n) l
 
@@ -185,22 +207,22 @@ use Prim.Native.Nat.{ℕ, suc, _+_, _-_, _≤_, _<_}
 use native.Mathlib.Omega.{arith}
 use types.Run.{OneOf}
 use denote.Enum.Declared.{tagOf}
-use lib.ListN.{length, drop}
+use lib.ListN.{length, getD, drop}
 use Rattle.record.proofs.command.Command.{the-type}
-use Rattle.record.specs.Base.{Str, eqs, find, first}
+use Rattle.record.specs.Base.{Str, bytes, eqs, find, first}
 use Rattle.record.specs.Stretch.{textOf}
 use Rattle.record.specs.Schema.{%s}
-use Rattle.record.specs.Commands.{commandOf, stepAt, commandsAt, %s}
+use Rattle.record.specs.Commands.{operands, wide, widths, widthWith, widthOf, commandOf, stepAt, commandsAt, %s}
 use Rattle.record.specs.Lists.{listed, anything, nothing, aKey, aField, %s}
-use Rattle.record.specs.Steps.{fieldKeyAt, %s}
+use Rattle.record.specs.Steps.{fieldKeyAt, FieldPlace, fieldPlaced, %s}
 use Rattle.record.specs.declared.command as D
 use Rattle.record.specs.declared.command.Cursor.{Cursor}
 use Rattle.record.specs.declared.command.Command.{Command}
 use Rattle.record.specs.declared.command.Command.the-variants as C
 use Rattle.record.specs.declared.command.Step.{Step}
 use Rattle.record.specs.declared.command.Step.the-variants.{Next, Stop}
-use Rattle.record.proofs.Stream.{step-found}
-use Rattle.record.proofs.ListLaws.{byteOf, other, operands-are, listed-stop, listed-here, listed-over, listed-end, Onward, find-none, find-hit, find-miss}
+use Rattle.record.proofs.Stream.{step-found, commands-here}
+use Rattle.record.proofs.ListLaws.{byteOf, other, byte-is, operands-are, listed-stop, listed-here, listed-over, listed-end, Onward, onward-later, find-none, find-hit, find-miss}
 ''' % (', '.join(sorted({d['model'] for d in LISTS})), ', '.join(sorted({d['at'] for d in LISTS})),
        ', '.join(sorted({d['of'] for d in LISTS} | {d['n'] for d in LISTS})),
        ', '.join(', '.join([d['n'] + 'At', d['n'] + 'Of', d['n'] + 'Left', d['C'] + 'From'] + ([d['one'] + 'Found', d['one'] + 'In'] if d['named'] else [])) for d in LISTS))
@@ -236,7 +258,7 @@ module _ (s : Str) (at : ℕ) (r : Step) (i : r ≡ stepAt s at) where
         let g = step-found s at c k (sym i ∙ m) in
         let near = o .on in
         let on = g .on in
-        record { same = λ p. o .same p ∙ listed-over s %(over)s %(b)d _ at c k (sym i ∙ m) (other (%(rest)s) %(j)d c tt h) refl; on = omega arith }
+        record { same = λ p. o .same p ∙ listed-over s %(over)s %(b)d _ at c k (sym i ∙ m) (other (%(rest)s) %(j)d c tt h) refl; on = omega arith; later = onward-later %(n)sAt s a at o c k (sym i ∙ m) }
 ''' % d
         for v, b in skips or []:
             o += '''
@@ -246,7 +268,7 @@ module _ (s : Str) (at : ℕ) (r : Step) (i : r ≡ stepAt s at) where
         let g = step-found s at c k (sym i ∙ m) in
         let near = o .on in
         let on = g .on in
-        record { same = λ p. o .same p ∙ listed-over s %(over)s %(b)d _ at c k (sym i ∙ m) (λ z. let y = ap byteOf h in omega arith) (ap (λ z. %(over)s (byteOf z)) h); on = omega arith }
+        record { same = λ p. o .same p ∙ listed-over s %(over)s %(b)d _ at c k (sym i ∙ m) (λ z. let y = ap byteOf h in omega arith) (ap (λ z. %(over)s (byteOf z)) h); on = omega arith; later = onward-later %(n)sAt s a at o c k (sym i ∙ m) }
 ''' % dict(d, v=v, low={'Field': 'field', 'PluginKey': 'key'}[v])
         inv = 'Onward %sAt s a at → ' % d['n'] if onward else ''
         arg = 'a o ' if onward else ''
@@ -258,19 +280,21 @@ module _ (s : Str) (at : ℕ) (r : Step) (i : r ≡ stepAt s at) where
             o += '''
     pub %(n)s-over : %(bind)s%(inv)sOneOf (%(rest)s) (tagOf the-type c) → %(C)sFrom s %(start)s %(none)s
     unfolding %(n)sAt %(n)s
-    %(n)s-over %(arg)sh = record { list = λ p. %(pre)slisted-end s %(over)s %(b)d _ at c k (sym i ∙ m) (other (%(rest)s) %(j)d c tt h) (%(ends)s); left = omega arith }
+    %(n)s-over %(arg)sh = record { list = λ p. %(pre)slisted-end s %(over)s %(b)d _ at c k (sym i ∙ m) (other (%(rest)s) %(j)d c tt h) (%(ends)s); left = omega arith%(nowhere)s }
 ''' % dict(d, bind=bind, inv=inv, arg=arg, start=start, pre=pre, near=near,
            ends='refl' if not skips else '%s-ends c h' % d['n'])
+        if d['n'] == 'fields':
+            o += FIELD_PLACED
         o += '''
     pub %(n)s-found : %(bind2)s(e : D.%(struct)s.%(struct)s) → %(inv)sc ≡ C.%(cmd)s e → %(C)sFrom s %(start)s (%(some)s e k)
     %(n)s-found %(arg2)sh =
         let g = step-found s at c k (sym i ∙ m) in
         let on = g .on in
         let within = g .within in
-        %(near)srecord { list = λ p. %(pre)s%(n)s-here p e h; left = omega arith }
+        %(near)srecord { list = λ p. %(pre)s%(n)s-here p e h; left = omega arith%(stands)s }
 
   pub %(n)s-end : %(bind)s%(inv)sr ≡ Stop → %(C)sFrom s %(start)s %(none)s
-  %(n)s-end %(arg)sm = record { list = λ p. %(pre)s%(n)s-none p m; left = omega arith }
+  %(n)s-end %(arg)sm = record { list = λ p. %(pre)s%(n)s-none p m; left = omega arith%(nowhere)s }
 ''' % dict(d, bind=bind, bind2='(a : ℕ) ' if onward else '', inv=inv, arg=arg, arg2='a e o ' if onward else 'e ', start=start, pre=pre, near=near)
         names = (['%s-skip' % d['n']] if skips is None else ['%s-skip-%s' % (d['n'], {'Field': 'field', 'PluginKey': 'key'}[v]) for v, _ in skips] + ['%s-over' % d['n']])
         o += '\npub ruleset %s-laws = (%s)\n' % (d['n'], ', '.join(names + ['%s-found' % d['n'], '%s-end' % d['n']]))
@@ -282,7 +306,7 @@ module _ (s : Str) (at : ℕ) (r : Step) (i : r ≡ stepAt s at) where
             head = '\n-- %s\n' % d['n']
             i = o.rindex(head) + len(head)
             o = o[:i] + '%(n)s-ends : (c : Command) → OneOf (%(rest)s) (tagOf the-type c) → %(over)s (byteOf c) ≡ false\n' % d + ends + '\n' + o[i:]
-    o = o.replace('use Rattle.record.proofs.Stream.{step-found}', 'use Rattle.record.proofs.Tags.{not-one-of}\nuse Rattle.record.proofs.Stream.{step-found}')
+    o = o.replace('use Rattle.record.proofs.Stream.', 'use Rattle.record.proofs.Tags.{not-one-of}\nuse Rattle.record.proofs.Stream.', 1)
     for d in LISTS:
         o += '''
 module _ (s : Str) (at : ℕ) (r : %(step)s) (f : %(C)sFrom s at r) where
@@ -296,6 +320,11 @@ module _ (s : Str) (at : ℕ) (r : %(step)s) (f : %(C)sFrom s at r) where
   pub %(n)s-nearer : (e : D.%(struct)s.%(struct)s) (k : Cursor) → r ≡ %(some)s e k → length s - k .at < length s - at
   %(n)s-nearer e k m = let h : suc (length s - k .at) ≤ length s - at = subst (λ x. %(n)sLeft s x ≤ length s - at) m (f .left) in omega arith
 ''' % d
+        if d['n'] == 'fields':
+            o += '''
+  pub fields-stand : (e : D.Field.Field) (k : Cursor) → r ≡ AField e k → FieldPlace s at e k
+  fields-stand e k m = subst (λ x. fieldPlaced s at x) m (f .placed)
+'''
         if d['named']:
             o += '''
   pub find-%(one)s-none : (p n : Str) → r ≡ %(none)s → %(one)sIn n (%(n)sAt s p at) ≡ %(one)sFound s p %(none)s
@@ -315,6 +344,19 @@ module _ (s : Str) (at : ℕ) (r : %(step)s) (f : %(C)sFrom s at r) where
 pub ruleset find-%(one)s-laws = (find-%(one)s-none, find-%(one)s-hit, find-%(one)s-miss)
 ''' % d
     open(R + 'proofs/StepLaws.antt', 'w').write(o)
+
+
+FIELD_PLACED = '''
+    fields-placed : (a : ℕ) (e : D.Field.Field) → Onward fieldsAt s a at → c ≡ C.Field e → FieldPlace s a e k
+    unfolding widthOf widthWith operands widths wide bytes
+    fields-placed a e o h =
+        let g = step-found s at c k (sym i ∙ m) in
+        let b : getD s at 0 ≡ 11 = byte-is s at c k (sym i ∙ m) ∙ ap byteOf h in
+        let w : k .at ≡ at + 33 = g .wide ∙ ap (λ (n : ℕ). at + widthOf n) b in
+        let q : k .at - 33 ≡ at = omega arith in
+        let x : e ≡ fieldAt (drop at s) = sym (field-is (drop at s) e (operands-are s at c k (sym i ∙ m) 11 (ap byteOf h) ∙ h)) in
+        record { past = omega arith; in-stream = rw q (o .later at (commands-here s at c k (sym i ∙ m))); number = rw q b; operands = rw q x }
+'''
 
 
 def answers():

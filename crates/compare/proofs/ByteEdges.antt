@@ -16,7 +16,8 @@ use Rattle.record.specs.Lists.{listed, heads, constants, aliases, values, enums
 use Rattle.record.specs.Judge.{ifAbsent, flagFault, operandFault, faultsFrom, follows, mayStand, parentAfter, ready, judgedWith, judgedAt}
 use Rattle.record.specs.Letters.{isLetter, oddLetter}
 use Rattle.record.specs.Reading.{rec, releaseOf, unreleasedOf, schemaFrom, openedAt, opened, large, vast, onto, continued, parse, parsed, streamLimit, poolLimit, vastOr, sizesOf, concluded, reading}
-use Rattle.compare.specs.Answer.{refusalOf, verdictOf, answered, check}
+use Rattle.layout.specs.Answer.{refusalOf, textOr}
+use Rattle.compare.specs.Answer.{verdictOf, answered, check}
 use Rattle.compare.proofs.Edges.{Case, failing, gives}
 
 -- writing a record: a text is where the pool has it first
@@ -80,7 +81,7 @@ unfolding gives first u16At u32At u64At textOf textAt optText optTextAt flagAt o
     listed heads constants aliases values enums members bitfields keys fields structs variants families unstored versions
     ifAbsent flagFault operandFault faultsFrom follows mayStand parentAfter ready judgedWith judgedAt isLetter oddLetter
     releaseOf unreleasedOf schemaFrom openedAt opened large vast onto continued parse parsed streamLimit poolLimit vastOr sizesOf concluded reading
-    refusalOf verdictOf answered check
+    refusalOf textOr verdictOf answered check
 says is was number side place text =
     let a = check 65536 (rec is pool builtIn) (rec was pool builtIn) in
     eqb (a .number) number && eqb (a .side) side && eqb (a .place) place && eqb (a .len) (length (bytes text)) && eqs (a .text) (bytes text)

@@ -20,7 +20,8 @@ use Rattle.record.proofs.Sides.{one-reading}
 use Rattle.layout.specs.Layout.{types}
 use Rattle.compare.specs.Verdicts.{Verdict, pass, stop, wordNumber}
 use Rattle.compare.specs.Compare.{compare}
-use Rattle.compare.specs.Answer.{Answer, refusalOf, verdictOf, answered, check}
+use Rattle.layout.specs.Answer.{Answer, refusalOf, textOr}
+use Rattle.compare.specs.Answer.{verdictOf, answered, check}
 use Rattle.compare.specs.Chain.{Kinds, Names, Governed, Holds, Laid}
 use Rattle.compare.specs.Offers.{Offer, chain, lastOf, lastAccepted, Sound, All, KeptIn, SameIn, NoneAccepted}
 use Rattle.compare.proofs.Words.{word-large}
@@ -44,7 +45,7 @@ unfolding refusalOf
 not-zero side n p e = let k = refusal-large n in omega arith
 
 verdict-passed : (room : ℕ) (v : Verdict) → verdictOf room v .number ≡ 0 → v ≡ pass
-unfolding verdictOf
+unfolding verdictOf textOr
 verdict-passed room pass h = refl
 verdict-passed room (stop w m) h = absurd (go (leb (length m) room) h)
   where

@@ -124,7 +124,7 @@ unfolding shape unread sch base more entry isText isSome before signed lastOr fi
     ReleaseOrder.checkEarlier ReleaseOrder.checkCopy ReleaseOrder.checkReleaseOrder
     FirstReleases.checkConstantArrival FirstReleases.checkConstantArrivals FirstReleases.checkEnumArrival FirstReleases.checkEnumArrivals Keys.withKey Keys.fieldKeys Keys.pluginKeys FirstReleases.checkKeyArrivals FirstReleases.checkFirstReleases
     Versioned.slotOrder Versioned.versioned Generation.asGeneration Generation.ofConstant Generation.ofVersion Generation.ofStruct Generation.generationOf
-    Constants.valueText Constants.lastConstant Constants.holdsIn Constants.isGeneration Constants.checkConstant Constants.checkConstantsIn Constants.checkConstants
+    Constants.valueText Constants.lastConstant Constants.holdsIn Constants.heldByAny Constants.isGeneration Constants.checkConstant Constants.checkConstantsIn Constants.checkConstants
     Enums.numberIn Enums.checkValue Enums.checkValues Enums.checkEnum Enums.checkEnums Bitfields.widthOf Bitfields.checkMember Bitfields.checkMembers Bitfields.checkBitfield Bitfields.checkBitfields
     BitfieldReleases.checkArrived BitfieldReleases.bitfieldRelease BitfieldReleases.memberRelease BitfieldReleases.checkMemberArrived
     BitfieldReleases.checkMembersArrived BitfieldReleases.checkBitfieldArrived BitfieldReleases.checkBitfieldReleases

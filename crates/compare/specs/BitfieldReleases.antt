@@ -7,7 +7,7 @@ use Rattle.record.specs.Steps.{bitfieldIn, memberIn}
 use Rattle.compare.specs.Verdicts.{Verdict, pass, Item, aBitfield, within, bitsLate, bitsRedated}
 use Rattle.compare.specs.Pass.{_then_, ensure, required, each}
 
--- what the copy says, as in FirstReleases; the first released bit field of the name counts here
+-- what the copy says, as in Shipped; the first released bit field of the name counts here
 unfoldable pub bitfieldRelease : Option BitField → Option (Option Str)
 bitfieldRelease was = mapOption (λ (b : BitField). b .since) was
 

@@ -23,9 +23,13 @@ unfoldable pub holdsIn : Str → Option Held → Bool
 holdsIn n none = false
 holdsIn n (some g) = eqs (g .constant) n
 
+-- one of the structures of these names keeps its generation in the constant of that name
+unfoldable pub heldByAny : List Struct → List Const → List Str → Str → Bool
+heldByAny ss cs roots n = any (λ (root : Str). holdsIn n (generationOf ss cs root)) roots
+
 -- the constants that hold the generations: the one set meant to change
 unfoldable pub isGeneration : List Struct → List Const → Str → Bool
-isGeneration ss cs n = any (λ (root : Str). holdsIn n (generationOf ss cs root)) (versioned ss)
+isGeneration ss cs n = heldByAny ss cs (versioned ss) n
 
 -- the current structures and constants, and one that was
 unfoldable pub checkConstant : List Struct → List Const → Const → Verdict

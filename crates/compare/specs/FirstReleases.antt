@@ -1,37 +1,14 @@
 -- First releases: check_first_releases and check_arrival of layout.rs, verdicts 16 to 19. First releases compare as text. Assumes nothing.
-use mathlib.Core.List.{List, [], _∷_}
+use mathlib.Core.List.{List}
 use mathlib.Core.Option.{Option, none, some}
-use mathlib.Core.Bool.{_&&_, _||_, not}
-use Rattle.record.specs.Base.{Str, eqs, isSome, orOption, mapOption, findLast}
-use Rattle.record.specs.Schema.{Const, Enum, EnumValue, Key, Field, Struct}
-use Rattle.record.specs.Steps.{valueIn}
+use mathlib.Core.Bool.{_||_, not}
+use Rattle.record.specs.Base.{Str, eqs, isSome, orOption}
+use Rattle.record.specs.Schema.{Const, Enum, EnumValue, Key}
 use Rattle.compare.specs.Verdicts.{Verdict, pass, Item, aConstant, anEnum, aKey, within, valueUndated, late, redated, backdated}
 use Rattle.compare.specs.Pass.{_then_, ensure, required, each, onFound}
+use Rattle.compare.specs.Shipped.{constantRelease, apiEnum, enumRelease, valueRelease, keyRelease}
 
--- what the copy says -------------------------------------------------------------------------------------------------------------
-
--- Of an item the copy says nothing, where it has none such (01's absent), or a release (named), or that it was there (unstated): none, some (some r)
--- or some none. 01: of two released ones of one name the later counts here; one outside the plugin API hides none
-
-unfoldable pub constantRelease : Str → List Const → Option (Option Str)
-constantRelease n l = mapOption (λ (c : Const). c .since) (findLast (λ (c : Const). c .api && eqs (c .name) n) l)
-
-unfoldable pub apiEnum : Str → List Enum → Option Enum
-apiEnum n l = findLast (λ (e : Enum). e .api && eqs (e .name) n) l
-
-unfoldable pub enumRelease : Option Enum → Option (Option Str)
-enumRelease was = mapOption (λ (e : Enum). e .since) was
-
--- a value's own release, else its enum's
-unfoldable pub valueRelease : Option Enum → Str → Option (Option Str)
-valueRelease none n = none
-valueRelease (some was) n = mapOption (λ (v : EnumValue). orOption (v .since) (was .since)) (valueIn n (was .values))
-
-unfoldable pub keyRelease : Str → List Key → Option (Option Str)
-keyRelease n l = mapOption (λ (k : Key). k .since) (findLast (λ (k : Key). eqs (k .name) n) l)
-
--- the current release, and the copy's if it names one ---------------------------------------------------------------------------------
-
+-- the current release, and the copy's if it names one
 module _ (now : Str) (copy : Option Str) where
   -- what it is, the release it names, and what the copy says of it
   unfoldable pub checkArrival : Item → Str → Option (Option Str) → Verdict

@@ -11,7 +11,8 @@ use Rattle.record.specs.Reading.{Rec, read, refuse, reading}
 use Rattle.record.specs.declared.refusal.Side.the-variants.{Current, Released}
 use Rattle.record.specs.declared.refusal.Refusal.{Refusal}
 use Rattle.layout.specs.Layout.{types}
-use Rattle.compare.specs.Answer.{refusalOf, check}
+use Rattle.layout.specs.Answer.{refusalOf}
+use Rattle.compare.specs.Answer.{check}
 use Rattle.compare.specs.Chain.{Kept, Holds, Laid}
 
 -- a record, and the room in the buffer lent for its check

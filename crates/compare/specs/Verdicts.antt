@@ -67,12 +67,12 @@ pub data Item : Type 0 where
   aConstant anEnum aKey aBitfield : Str → Item
   within : Str → Str → Item
 
-unfoldable pub itemPieces : Item → List Str
-itemPieces (aConstant n) = bytes "constant " ∷ n ∷ []
-itemPieces (anEnum n) = bytes "enum " ∷ n ∷ []
-itemPieces (aKey n) = bytes "plugin key " ∷ n ∷ []
-itemPieces (aBitfield n) = bytes "bit field " ∷ n ∷ []
-itemPieces (within o n) = o ∷ bytes "::" ∷ n ∷ []
+unfoldable pub itemText : Item → Str
+itemText (aConstant n) = bytes "constant " ++ n
+itemText (anEnum n) = bytes "enum " ++ n
+itemText (aKey n) = bytes "plugin key " ++ n
+itemText (aBitfield n) = bytes "bit field " ++ n
+itemText (within o n) = o ++ (bytes "::" ++ n)
 
 -- the release that the copy is of
 unfoldable pub copyOf : Option Str → Str
@@ -84,9 +84,9 @@ standingOf true = bytes "standalone"
 standingOf false = bytes "not standalone"
 
 -- the field that a layout gained, or none of a new name
-unfoldable pub changePieces : Option Str → List Str
-changePieces none = bytes "changed" ∷ []
-changePieces (some f) = bytes "gained " ∷ f ∷ []
+unfoldable pub changeText : Option Str → Str
+changeText none = bytes "changed"
+changeText (some f) = bytes "gained " ++ f
 
 -- 11
 unfoldable pub described : Verdict
@@ -114,15 +114,15 @@ valueUndated owner name current release = stop w·value-undated (joined (owner �
 
 -- 17
 unfoldable pub late : Item → Str → Str → Verdict
-late what current names = stop w·late (joined (itemPieces what ++ (bytes " is not in the copy of the last release, so it reaches the plugin API in " ∷ current ∷ bytes " - its first_release says " ∷ names ∷ [])))
+late what current names = stop w·late (joined (itemText what ∷ bytes " is not in the copy of the last release, so it reaches the plugin API in " ∷ current ∷ bytes " - its first_release says " ∷ names ∷ []))
 
 -- 18
 unfoldable pub redated : Item → Str → Str → Verdict
-redated what was names = stop w·redated (joined (itemPieces what ++ (bytes " named " ∷ was ∷ bytes " in the last release and names " ∷ names ∷ bytes " now - the release something reached the plugin API in is a fact about firmware already shipped, and a plugin built against it set its min_fw_version from that" ∷ [])))
+redated what was names = stop w·redated (joined (itemText what ∷ bytes " named " ∷ was ∷ bytes " in the last release and names " ∷ names ∷ bytes " now - the release something reached the plugin API in is a fact about firmware already shipped, and a plugin built against it set its min_fw_version from that" ∷ []))
 
 -- 19
 unfoldable pub backdated : Item → Option Str → Str → Verdict
-backdated what copy current = stop w·backdated (joined (itemPieces what ++ (bytes " was already in the plugin API of " ∷ copyOf copy ∷ bytes " and names " ∷ current ∷ bytes ", the release under development - it reached the plugin API before that, and the copy says no more of it than that it was there" ∷ [])))
+backdated what copy current = stop w·backdated (joined (itemText what ∷ bytes " was already in the plugin API of " ∷ copyOf copy ∷ bytes " and names " ∷ current ∷ bytes ", the release under development - it reached the plugin API before that, and the copy says no more of it than that it was there" ∷ []))
 
 -- 20
 unfoldable pub constantGone : Str → Verdict
@@ -170,11 +170,11 @@ widthChanged owner name was is = stop w·width-changed (joined (owner ∷ bytes 
 
 -- 31
 unfoldable pub bitsLate : Item → Str → Str → Verdict
-bitsLate what current release = stop w·bits-late (joined (itemPieces what ++ (bytes " is not in the copy of the last release, so it arrives in " ∷ current ∷ bytes ", and its release is " ∷ release ∷ [])))
+bitsLate what current release = stop w·bits-late (joined (itemText what ∷ bytes " is not in the copy of the last release, so it arrives in " ∷ current ∷ bytes ", and its release is " ∷ release ∷ []))
 
 -- 32
 unfoldable pub bitsRedated : Item → Str → Str → Verdict
-bitsRedated what was release = stop w·bits-redated (joined (itemPieces what ++ (bytes " arrived in " ∷ was ∷ bytes " according to the last release, not " ∷ release ∷ bytes " - the release something arrived in is a fact about firmware already shipped" ∷ [])))
+bitsRedated what was release = stop w·bits-redated (joined (itemText what ∷ bytes " arrived in " ∷ was ∷ bytes " according to the last release, not " ∷ release ∷ bytes " - the release something arrived in is a fact about firmware already shipped" ∷ []))
 
 -- 33
 unfoldable pub typeGone : Str → Verdict
@@ -202,7 +202,7 @@ standingChanged name was is = stop w·standing-changed (joined (name ∷ bytes "
 
 -- 39
 unfoldable pub shippedFamilyChanged : Str → Option Str → Verdict
-shippedFamilyChanged name change = stop w·shipped-family-changed (joined (name ∷ bytes " has " ∷ (changePieces change ++ (bytes " since the last release, and its family is standalone - a shipped variant never changes, because a reader built against it reads its fields at fixed offsets" ∷ []))))
+shippedFamilyChanged name change = stop w·shipped-family-changed (joined (name ∷ bytes " has " ∷ changeText change ∷ bytes " since the last release, and its family is standalone - a shipped variant never changes, because a reader built against it reads its fields at fixed offsets" ∷ []))
 
 -- 40
 unfoldable pub uncovered : Str → Verdict

@@ -1,14 +1,14 @@
 -- Along the commands of a stream: an induction, the bytes they take, and the elements of a list that is read off them. Assumes nothing.
-use Prim.Native.Nat.{ℕ, zero, suc, _+_, _-_, _≤_}
+use Prim.Native.Nat.{ℕ, zero, suc, _+_, _≤_}
 use mathlib.Core.List.{List, _∷_, map, List·Memᴰ, List·Memᴰ·head, List·Memᴰ·tail, List·Memᴰ·not-nil}
 use mathlib.Core.Bool.{Bool, true, false}
-use mathlib.Core.Path.{_≡_, refl, sym, ap, ap₂, subst, _∙_}
+use mathlib.Core.Path.{_≡_, refl, sym, ap, ap₂, _∙_}
 use native.Mathlib.Omega.{arith}
-use lib.Dec.{eqb, ltb}
+use lib.Dec.{eqb}
 use borrow.Author.Tests.{eqb-true, eqb-false}
-use lib.ListN.{length, getD, drop}
+use lib.ListN.{length, getD}
 use Rattle.record.specs.Base.{Str, bytes}
-use Rattle.record.specs.Commands.{operands, wide, widths, widthWith, widthOf, commandOf, place, stepAt, commandsAt}
+use Rattle.record.specs.Commands.{operands, wide, widths, widthWith, widthOf, stepAt, commandsAt}
 use Rattle.record.specs.Lists.{listed}
 use Rattle.record.specs.declared.command.Cursor.{Cursor}
 use Rattle.record.specs.declared.command.Command.{Command}
@@ -16,7 +16,7 @@ use Rattle.record.specs.declared.command.Command.the-variants as C
 use Rattle.record.specs.declared.command.Step.{Step}
 use Rattle.record.specs.declared.command.Step.the-variants.{Next, Stop}
 use Rattle.record.proofs.CommandLaws.{step-end}
-use Rattle.record.proofs.Stream.{taken, step-found, commands-stop, commands-next}
+use Rattle.record.proofs.Stream.{step-found, commands-stop, commands-next, commands-here, commands-later}
 use Rattle.record.proofs.ListLaws.{byteOf, byte-is, listed-stop, listed-here, listed-over, listed-end}
 
 module _ (s : Str) (P : ℕ → Type 0) (stop : (at : ℕ) → stepAt s at ≡ Stop → P at) (next : (at : ℕ) (c : Command) (k : Cursor) → stepAt s at ≡ Next c k → P (k .at) → P at) where
@@ -52,19 +52,12 @@ four-wide (C.UnstoredKey x) = omega arith
 four-wide (C.Version x) = omega arith
 
 module _ (s : Str) (at : ℕ) (c : Command) (k : Cursor) (e : stepAt s at ≡ Next c k) where
-  -- the place after a command
-  pub step-wide : k .at ≡ at + widthOf (getD s at 0)
-  unfolding stepAt
-  step-wide =
-      let b = getD s at 0 in
-      ap (λ (j : Cursor). j .at)
-      (sym (taken (ltb at (length s)) (eqb b 15) (eqb (widthOf b) 0) (ltb (length s - at) (widthOf b)) (commandOf b (drop at s)) c (place (at + widthOf b)) k e .next))
-
   pub step-four : at + 4 ≤ k .at
   step-four =
       let w = four-wide c in
       let b : widthOf (getD s at 0) ≡ widthOf (byteOf c) = ap widthOf (byte-is s at c k e) in
-      let n = step-wide in
+      let f = step-found s at c k e in
+      let n = f .wide in
       omega arith
 
 -- places and elements -----------------------------------------------------------------------------------------------------
@@ -84,6 +77,18 @@ place-stands s a at =
     go b c k e ih (List·Memᴰ·head q) = record { command = c; after = k; step = ap (stepAt s) q ∙ e }
     go b c k e ih (List·Memᴰ·tail m) = ih m
 
+-- what comes after a command comes after all that the command does
+pub place-later : (s : Str) (at v : ℕ) (c : Command) (k : Cursor) → stepAt s at ≡ Next c k → List·Memᴰ v (commandsAt s (k .at))
+    → (a : ℕ) → List·Memᴰ at (commandsAt s a) → List·Memᴰ v (commandsAt s a)
+place-later s at v c k e n =
+    along s (λ (a : ℕ). List·Memᴰ at (commandsAt s a) → List·Memᴰ v (commandsAt s a)) (λ a f m. absurd (List·Memᴰ·not-nil (rw (commands-stop s a f) at m)))
+    (λ a d j f ih m. go a d j f ih (rw (commands-next s a d j f) at m))
+  where
+    go : (a : ℕ) (d : Command) (j : Cursor) → stepAt s a ≡ Next d j → (List·Memᴰ at (commandsAt s (j .at)) → List·Memᴰ v (commandsAt s (j .at)))
+        → List·Memᴰ at (a ∷ commandsAt s (j .at)) → List·Memᴰ v (commandsAt s a)
+    go a d j f ih (List·Memᴰ·head q) = commands-later s a c k (ap (stepAt s) (sym q) ∙ e) v n
+    go a d j f ih (List·Memᴰ·tail m) = commands-later s a d j f v (ih m)
+
 -- an element of a list comes from a place of its number
 pub record Element {A : Type 0} (s : Str) (b : ℕ) (f : ℕ → List ℕ → A) (a : ℕ) (u : A) : Type 0 where
   pub where-from : ℕ
@@ -100,27 +105,21 @@ module _ {A : Type 0} (s : Str) (over : ℕ → Bool) (b : ℕ) (f : ℕ → Lis
       (λ a e m. absurd (List·Memᴰ·not-nil (rw (listed-stop s over b f a e) at m)))
       (λ a c k e ih m. go a c k e ih m (eqb (byteOf c) b) (over (byteOf c)) refl refl)
     where
-      tail-in : (a : ℕ) (c : Command) (k : Cursor) → stepAt s a ≡ Next c k → (v : ℕ) → List·Memᴰ v (commandsAt s (k .at)) → List·Memᴰ v (commandsAt s a)
-      tail-in a c k e v m = subst (λ (l : List ℕ). List·Memᴰ v l) (sym (commands-next s a c k e)) (List·Memᴰ·tail m)
-
-      head-in : (a : ℕ) (c : Command) (k : Cursor) → stepAt s a ≡ Next c k → List·Memᴰ a (commandsAt s a)
-      head-in a c k e = subst (λ (l : List ℕ). List·Memᴰ a l) (sym (commands-next s a c k e)) (List·Memᴰ·head refl)
-
       further : (a : ℕ) (c : Command) (k : Cursor) → stepAt s a ≡ Next c k → Element s b f (k .at) u → Element s b f a u
       further a c k e r =
           record {
             where-from = r .where-from;
             after = r .after;
-            in-stream = tail-in a c k e (r .where-from) (r .in-stream);
+            in-stream = commands-later s a c k e (r .where-from) (r .in-stream);
             number = r .number;
             is = r .is;
-            later = λ v m. tail-in a c k e v (r .later v m);
+            later = λ v m. commands-later s a c k e v (r .later v m);
           }
 
       here : (a : ℕ) (c : Command) (k : Cursor) → stepAt s a ≡ Next c k → byteOf c ≡ b → (List·Memᴰ u (listed s over b f (commandsAt s (k .at))) → Element s b f (k .at) u)
           → List·Memᴰ u (f a (commandsAt s (k .at)) ∷ listed s over b f (commandsAt s (k .at))) → Element s b f a u
       here a c k e h ih (List·Memᴰ·head q) =
-          record { where-from = a; after = k .at; in-stream = head-in a c k e; number = byte-is s a c k e ∙ h; is = q; later = tail-in a c k e }
+          record { where-from = a; after = k .at; in-stream = commands-here s a c k e; number = byte-is s a c k e ∙ h; is = q; later = commands-later s a c k e }
       here a c k e h ih (List·Memᴰ·tail m) = further a c k e (ih m)
 
       go : (a : ℕ) (c : Command) (k : Cursor) → stepAt s a ≡ Next c k → (List·Memᴰ u (listed s over b f (commandsAt s (k .at))) → Element s b f (k .at) u)

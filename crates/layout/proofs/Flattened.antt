@@ -24,7 +24,7 @@ use Rattle.record.proofs.ListLaws.{byteOf, byte-is, listed-stop, listed-here, l
 use Rattle.layout.specs.Layout.{TypeLayout, variantName, layStruct, layFamily, layVariant, layFamilies, flattened}
 use Rattle.layout.specs.Handles.{nameAt, familyPart, placePart, typeName, structHandles, variantHandles, joinedHandles, familyHandles, handlesOf, handleFields, layoutOf}
 use Rattle.layout.specs.Table.{Typed, plain, variant}
-use Rattle.layout.proofs.Along.{along, step-wide, place-stands, listed-element, listed-same}
+use Rattle.layout.proofs.Along.{along, place-stands, listed-element, listed-same}
 
 -- the parts of a handle come back out of it -------------------------------------------------------------------------------
 
@@ -48,6 +48,15 @@ module _ (at : ℕ) (h : at < 65536) where
 
 -- layouts -----------------------------------------------------------------------------------------------------------------
 
+module _ (s p : Str) (at : ℕ) (c : Command) (k : Cursor) (e : stepAt s at ≡ Next c k) where
+  pub own-fields : (getD s at 0 ≡ 9 → ⊥) → handleFields s p at ≡ fieldsAt s p (k .at)
+  unfolding handleFields
+  own-fields n = let f = step-found s at c k e in rw (ne-eqb (getD s at 0) 9 n, ← f .wide)
+
+  pub family-fields : getD s at 0 ≡ 9 → handleFields s p at ≡ prefix (familyOf p (familyAt (drop at s)) [] []) ++ fieldsAt s p (k .at)
+  unfolding handleFields
+  family-fields n = let f = step-found s at c k e in rw (eq-eqb (getD s at 0) 9 n, ← f .wide)
+
 module _ (s p : Str) (w : List Scalar) (small : length s ≤ 32768) where
   abbrev R : Rec
   R = rec s p w
@@ -62,7 +71,7 @@ module _ (s p : Str) (w : List Scalar) (small : length s ≤ 32768) where
   unfolding layoutOf
   layout-is h n fs e f = ap₂ laid e f
 
-  plain-name : (at : ℕ) → at < 65536 → typeName s p at ≡ nameAt s p at
+  pub plain-name : (at : ℕ) → at < 65536 → typeName s p at ≡ nameAt s p at
   unfolding typeName
   plain-name at h = rw (plain-family at h, plain-place at h)
 
@@ -80,28 +89,20 @@ module _ (s p : Str) (w : List Scalar) (small : length s ≤ 32768) where
     abbrev own : List Field
     own = fields s p (commandsAt s (k .at))
 
-    own-fields : (getD s at 0 ≡ 9 → ⊥) → handleFields s p at ≡ own
-    unfolding handleFields fieldsAt
-    own-fields n = rw (ne-eqb (getD s at 0) 9 n, ← step-wide s at c k e)
-
-    family-fields : getD s at 0 ≡ 9 → handleFields s p at ≡ prefix (familyOf p (familyAt (drop at s)) [] []) ++ own
-    unfolding handleFields fieldsAt
-    family-fields n = rw (eq-eqb (getD s at 0) 9 n, ← step-wide s at c k e)
-
     laid-struct : getD s at 0 ≡ 8 → layoutOf R at ≡ layStruct S (structOf p (structAt (drop at s)) own)
-    unfolding layStruct nameAt
-    laid-struct b = layout-is at (nameAt s p at) own (plain-name at inside) (rw (plain-place at inside) (own-fields (λ q. omega arith)))
+    unfolding layStruct nameAt fieldsAt
+    laid-struct b = layout-is at (nameAt s p at) own (plain-name at inside) (rw (plain-place at inside) (own-fields s p at c k e (λ q. omega arith)))
 
     laid-family : getD s at 0 ≡ 9 → (vs : List Variant) → layoutOf R at ≡ layFamily S (familyOf p (familyAt (drop at s)) own vs)
-    unfolding layFamily nameAt prefix
+    unfolding layFamily nameAt prefix fieldsAt
     laid-family b vs =
-        layout-is at (nameAt s p at) (prefix (familyOf p (familyAt (drop at s)) [] []) ++ own) (plain-name at inside) (rw (plain-place at inside) (family-fields b))
+        layout-is at (nameAt s p at) (prefix (familyOf p (familyAt (drop at s)) [] []) ++ own) (plain-name at inside) (rw (plain-place at inside) (family-fields s p at c k e b))
 
     laid-variant : (f : ℕ) (m : Family) → m .name ≡ nameAt s p f → getD s at 0 ≡ 10 → layoutOf R (65536 * (f + 1) + at) ≡ layVariant S m (variantOf p (variantAt (drop at s)) own)
-    unfolding layVariant nameAt
+    unfolding layVariant nameAt fieldsAt
     laid-variant f m n b =
         layout-is (65536 * (f + 1) + at) (variantName (m .name) (nameAt s p at)) own (variant-name f at inside ∙ ap (λ (x : Str). variantName x (nameAt s p at)) (sym n))
-        (rw (variant-place at inside f) (own-fields (λ q. omega arith)))
+        (rw (variant-place at inside f) (own-fields s p at c k e (λ q. omega arith)))
 
   laid-structs : (at : ℕ) → map (layoutOf R) (structHandles s (commandsAt s at)) ≡ map (layStruct S) (structs s p (commandsAt s at))
   unfolding structHandles structs
@@ -159,7 +160,7 @@ joined-mem (l ∷ ls) {u} m = go (joined-mem ls) (List·Memᴰ·append-cases l m
     go r (inr n) = let x = r n in (x .0, List·Memᴰ·tail (x .1), x .2)
 
 module _ (s : Str) (small : length s ≤ 32768) where
-  below : (at : ℕ) → List·Memᴰ at (commandsAt s 0) → at < 65536
+  pub below : (at : ℕ) → List·Memᴰ at (commandsAt s 0) → at < 65536
   below at m =
       let st = place-stands s 0 at m in
       let f = step-found s at (st .command) (st .after) (st .step) in

@@ -7,7 +7,7 @@ use native.Mathlib.Omega.{arith}
 use native.Mathlib.Numerals.{add-one}
 use types.Run.{OneOf}
 use denote.Enum.Declared.{tagOf}
-use lib.ListN.{length, take, drop, set, length-append, length-set, length-drop, take-append-drop, drop-of-length-le}
+use lib.ListN.{length, getD, take, drop, set, length-append, length-set, length-drop, take-append-drop, drop-of-length-le}
 use lib.Seq.{take-suc-set, drop-set-lt, length-take-le, drop-drop, take-at, drop-at, take-all}
 use borrow.Rule.Slice.PartMut.{putMid}
 use lib.Dec.{T, eqb}
@@ -27,18 +27,27 @@ use Rattle.record.proofs.Tags.{absent}
 use Rattle.record.proofs.Stream.{step-found}
 use Rattle.record.proofs.ListLaws.{byteOf, byte-is, other, listed-stop, listed-here, listed-over, listed-end}
 use Rattle.layout.proofs.Along.{along, four-wide, step-four}
-use Rattle.layout.specs.Handles.{structHandles, variantHandles, joinedHandles, familyHandles, handlesOf, structsFrom, familiesFrom, fronted}
+use Rattle.layout.specs.Handles.{structHandles, variantHandles, joinedHandles, familyHandles, handlesOf, placesFrom, familiesFrom, fronted}
 
 -- a step along the stream -------------------------------------------------------------------------------------------------
 
 module _ (s : Str) (at : ℕ) (c : Command) (k : Cursor) (e : stepAt s at ≡ Next c k) where
-  structs-eight : byteOf c ≡ 8 → structsFrom s at ≡ at ∷ structsFrom s (k .at)
-  unfolding structsFrom structHandles
-  structs-eight h = listed-here s anything 8 (λ a rest. a) at c k e h
+  module _ (b : ℕ) where
+    places-at : byteOf c ≡ b → placesFrom s b at ≡ at ∷ placesFrom s b (k .at)
+    unfolding placesFrom
+    places-at h = listed-here s anything b (λ a rest. a) at c k e h
 
-  structs-else : (byteOf c ≡ 8 → ⊥) → structsFrom s at ≡ structsFrom s (k .at)
-  unfolding structsFrom structHandles
-  structs-else h = listed-over s anything 8 (λ a rest. a) at c k e h refl
+    places-else : (byteOf c ≡ b → ⊥) → placesFrom s b at ≡ placesFrom s b (k .at)
+    unfolding placesFrom
+    places-else h = listed-over s anything b (λ a rest. a) at c k e h refl
+
+    -- no command gives two places
+    place-more : length (placesFrom s b at) ≤ suc (length (placesFrom s b (k .at)))
+    place-more = go (eqb (byteOf c) b) refl
+      where
+        go : (t : Bool) → eqb (byteOf c) b ≡ t → length (placesFrom s b at) ≤ suc (length (placesFrom s b (k .at)))
+        go true q = let l = ap length (places-at (eqb-true (byteOf c) b q)) in omega arith
+        go false q = let l = ap length (places-else (eqb-false (byteOf c) b q)) in omega arith
 
   -- a family's own list and its variants'
   abbrev own : ℕ → List ℕ → List ℕ
@@ -102,7 +111,7 @@ module _ (s : Str) (at : ℕ) (c : Command) (k : Cursor) (e : stepAt s at ≡ Ne
     open-ends h i o = ap₂ (λ (x : List ℕ) (y : List ℕ). x ++ y) (opened-end i o) (families-else h)
 
     abbrev Fewer : ℕ → Type 0
-    Fewer f = length (structsFrom s at) + length (familiesFrom s family at) ≤ suc (length (structsFrom s (k .at)) + length (familiesFrom s f (k .at)))
+    Fewer f = length (placesFrom s 8 at) + length (familiesFrom s family at) ≤ suc (length (placesFrom s 8 (k .at)) + length (familiesFrom s f (k .at)))
 
     -- no command gives two handles
     one-more : (f : ℕ) × Fewer f
@@ -111,27 +120,27 @@ module _ (s : Str) (at : ℕ) (c : Command) (k : Cursor) (e : stepAt s at ≡ Ne
         go : (x y z w v : Bool) → eqb (byteOf c) 8 ≡ x → eqb (byteOf c) 9 ≡ y → eqb (byteOf c) 10 ≡ z → aField (byteOf c) ≡ w → eqb family 0 ≡ v → (f : ℕ) × Fewer f
         go true y z w v a b d f g =
             let n = eqb-true (byteOf c) 8 a in
-            let l = ap length (structs-eight n) in
+            let l = ap length (places-at 8 n) in
             let o = ap length (open-ends (λ q. omega arith) (λ q. omega arith) (ap aField n)) in
             (0, omega arith)
         go false true z w v a b d f g =
-            let l = ap length (structs-else (eqb-false (byteOf c) 8 a)) in
+            let l = ap length (places-else 8 (eqb-false (byteOf c) 8 a)) in
             let o = ap length (open-nine (eqb-true (byteOf c) 9 b)) in
             (at + 1, omega arith)
         go false false true w true a b d f g =
-            let l = ap length (structs-else (eqb-false (byteOf c) 8 a)) in
+            let l = ap length (places-else 8 (eqb-false (byteOf c) 8 a)) in
             let o = ap length (open-closed (eqb-false (byteOf c) 9 b) (eqb-true family 0 g)) in
             (family, omega arith)
         go false false true w false a b d f g =
-            let l = ap length (structs-else (eqb-false (byteOf c) 8 a)) in
+            let l = ap length (places-else 8 (eqb-false (byteOf c) 8 a)) in
             let o = ap length (open-ten (eqb-true (byteOf c) 10 d) (eqb-false family 0 g)) in
             (family, omega arith)
         go false false false true v a b d f g =
-            let l = ap length (structs-else (eqb-false (byteOf c) 8 a)) in
+            let l = ap length (places-else 8 (eqb-false (byteOf c) 8 a)) in
             let o = ap length (open-between (eqb-false (byteOf c) 9 b) (eqb-false (byteOf c) 10 d) f) in
             (family, omega arith)
         go false false false false v a b d f g =
-            let l = ap length (structs-else (eqb-false (byteOf c) 8 a)) in
+            let l = ap length (places-else 8 (eqb-false (byteOf c) 8 a)) in
             let o = ap length (open-ends (eqb-false (byteOf c) 9 b) (eqb-false (byteOf c) 10 d) f) in
             (0, omega arith)
 
@@ -143,11 +152,12 @@ module _ (s : Str) (at : ℕ) (r : Step) (c : Command) (k : Cursor) (i : r ≡ s
   pub place-small : length s ≤ 32768 → at ≤ 32767
   place-small h = let f = step-found s at c k e in let a = f .on in let b = f .within in omega arith
 
-  pub structs-here : (x : D.Struct.Struct) (j : ℕ) → c ≡ C.Struct x → j ≡ at → structsFrom s at ≡ j ∷ structsFrom s (k .at)
-  structs-here x j h q = rw q (structs-eight s at c k e (ap byteOf h))
+  module _ (b x : ℕ) (h : x ≡ getD s at 0) where
+    pub places-here : (j : ℕ) → x ≡ b → j ≡ at → placesFrom s b at ≡ j ∷ placesFrom s b (k .at)
+    places-here j g q = rw q (places-at s at c k e b (sym (byte-is s at c k e) ∙ sym h ∙ g))
 
-  pub structs-over : OneOf (0 ∷ 1 ∷ 2 ∷ 3 ∷ 4 ∷ 5 ∷ 6 ∷ 8 ∷ 9 ∷ 10 ∷ 11 ∷ 12 ∷ 13 ∷ []) (tagOf the-type c) → structsFrom s at ≡ structsFrom s (k .at)
-  structs-over h = structs-else s at c k e (other (0 ∷ 1 ∷ 2 ∷ 3 ∷ 4 ∷ 5 ∷ 6 ∷ 8 ∷ 9 ∷ 10 ∷ 11 ∷ 12 ∷ 13 ∷ []) 7 c tt h)
+    pub places-over : (x ≡ b → ⊥) → placesFrom s b at ≡ placesFrom s b (k .at)
+    places-over g = places-else s at c k e b (λ q. g (h ∙ byte-is s at c k e ∙ q))
 
   module _ (family : ℕ) where
     pub open-family : (x : D.Family.Family) (j : ℕ) → c ≡ C.Family x → j ≡ at → familiesFrom s family at ≡ j ∷ familiesFrom s (j + 1) (k .at)
@@ -186,9 +196,9 @@ module _ (s : Str) (at : ℕ) (r : Step) (c : Command) (k : Cursor) (i : r ≡ s
         open-ends s at c k e family (other ks 8 c tt h) (other ks 9 c tt h) o
 
 module _ (s : Str) (at : ℕ) (r : Step) (i : r ≡ stepAt s at) (m : r ≡ Stop) where
-  pub structs-stop : structsFrom s at ≡ []
-  unfolding structsFrom structHandles
-  structs-stop = listed-stop s anything 8 (λ a rest. a) at (sym i ∙ m)
+  pub places-stop : (b : ℕ) → placesFrom s b at ≡ []
+  unfolding placesFrom
+  places-stop b = listed-stop s anything b (λ a rest. a) at (sym i ∙ m)
 
   pub open-stop : (family : ℕ) → familiesFrom s family at ≡ []
   unfolding familiesFrom variantHandles familyHandles joinedHandles
@@ -200,7 +210,7 @@ module _ (s : Str) (at : ℕ) (r : Step) (i : r ≡ stepAt s at) (m : r ≡ Stop
       none true = refl
       none false = refl
 
-pub ruleset struct-laws = (structs-here, structs-over)
+pub ruleset place-laws = (places-here, places-over)
 
 pub ruleset open-laws = (open-family, open-variant, open-none, open-passed, open-over)
 
@@ -254,8 +264,8 @@ pub ruleset fill-laws = (fill-more, fill-same)
 
 -- where a handle is still to come there is room for it
 module _ (s : Str) (at : ℕ) (r : Step) (c : Command) (k : Cursor) (i : r ≡ stepAt s at) (m : r ≡ Next c k) (all o t : List ℕ) (n : ℕ) where
-  pub struct-room : (x : D.Struct.Struct) → Filling all (structsFrom s at) o t n → c ≡ C.Struct x → n < length t
-  struct-room x f h = fill-room all o t n (structsFrom s at) f at (structsFrom s (k .at)) (structs-here s at r c k i m x at h refl)
+  pub place-room : (b x : ℕ) → Filling all (placesFrom s b at) o t n → x ≡ getD s at 0 → x ≡ b → n < length t
+  place-room b x f h g = fill-room all o t n (placesFrom s b at) f at (placesFrom s b (k .at)) (places-here s at r c k i m b x h at g refl)
 
   pub family-room : (family : ℕ) (x : D.Family.Family) → Filling all (familiesFrom s family at) o t n → c ≡ C.Family x → n < length t
   family-room family x f h = fill-room all o t n (familiesFrom s family at) f at (familiesFrom s (at + 1) (k .at)) (open-family s at r c k i m family x at h refl)
@@ -264,15 +274,35 @@ module _ (s : Str) (at : ℕ) (r : Step) (c : Command) (k : Cursor) (i : r ≡ s
   variant-room family x f h z =
       fill-room all o t n (familiesFrom s family at) f (65536 * family + at) (familiesFrom s family (k .at)) (open-variant s at r c k i m family x at h z refl)
 
-pub ruleset room-laws = (struct-room, family-room, variant-room)
+pub ruleset room-laws = (place-room, family-room, variant-room)
+
+-- the places of one number ------------------------------------------------------------------------------------------------
+
+module _ (s : Str) (b : ℕ) where
+  places-room : (at : ℕ) → 4 * length (placesFrom s b at) ≤ length s - at
+  places-room =
+      along s (λ (at : ℕ). 4 * length (placesFrom s b at) ≤ length s - at) (λ at e. let a = ap length (places-stop s at Stop (sym e) refl b) in omega arith)
+      (λ at c k e ih.
+      let f = step-found s at c k e in
+      let w = f .within in
+      let d = step-four s at c k e in
+      let o = place-more s at c k e b in
+      omega arith)
+
+  -- they are at most 8,192
+  pub places-fit : (o : List ℕ) → length s ≤ 32768 → 8192 ≤ length o → length (placesFrom s b 0) ≤ length o
+  places-fit o h k = let a = places-room 0 in omega arith
+
+  pub places-few : (o t left : List ℕ) (n : ℕ) → Filling (placesFrom s b 0) left o t n → left ≡ [] → length s ≤ 32768 → n ≤ 8192
+  places-few o t left n f z h = let a = places-room 0 in let i = fill-count (placesFrom s b 0) o t n left f z in omega arith
 
 -- all handles -------------------------------------------------------------------------------------------------------------
 
 module _ (s : Str) where
-  all-room : (at family : ℕ) → 4 * (length (structsFrom s at) + length (familiesFrom s family at)) ≤ length s - at
+  all-room : (at family : ℕ) → 4 * (length (placesFrom s 8 at) + length (familiesFrom s family at)) ≤ length s - at
   all-room =
-      along s (λ (at : ℕ). (family : ℕ) → 4 * (length (structsFrom s at) + length (familiesFrom s family at)) ≤ length s - at)
-      (λ at e family. let a = ap length (structs-stop s at Stop (sym e) refl) in let b = ap length (open-stop s at Stop (sym e) refl family) in omega arith)
+      along s (λ (at : ℕ). (family : ℕ) → 4 * (length (placesFrom s 8 at) + length (familiesFrom s family at)) ≤ length s - at)
+      (λ at e family. let a = ap length (places-stop s at Stop (sym e) refl 8) in let b = ap length (open-stop s at Stop (sym e) refl family) in omega arith)
       (λ at c k e ih family.
       let f = step-found s at c k e in
       let w = f .within in
@@ -282,30 +312,27 @@ module _ (s : Str) where
       let l = o .1 in
       omega arith)
 
-  all-are : structsFrom s 0 ++ familiesFrom s 0 0 ≡ handlesOf s
-  unfolding structsFrom familiesFrom handlesOf
+  all-are : placesFrom s 8 0 ++ familiesFrom s 0 0 ≡ handlesOf s
+  unfolding placesFrom familiesFrom handlesOf structHandles
   all-are = refl
 
   -- a record has at most 8,192 types
-  few : length s ≤ 32768 → length (structsFrom s 0) + length (familiesFrom s 0 0) ≤ 8192
+  few : length s ≤ 32768 → length (placesFrom s 8 0) + length (familiesFrom s 0 0) ≤ 8192
   few h = let a = all-room 0 0 in omega arith
 
-  pub structs-fit : (o : List ℕ) → length s ≤ 32768 → 8192 ≤ length o → length (structsFrom s 0) ≤ length o
-  structs-fit o h k = let a = few h in omega arith
-
-  pub families-fit : (n : ℕ) → length s ≤ 32768 → n ≡ length (structsFrom s 0) → n + length (familiesFrom s 0 0) ≤ 8192
+  pub families-fit : (n : ℕ) → length s ≤ 32768 → n ≡ length (placesFrom s 8 0) → n + length (familiesFrom s 0 0) ≤ 8192
   families-fit n h i = let a = few h in omega arith
 
-  module _ (o t : List ℕ) (n : ℕ) (i : n ≡ length (structsFrom s 0)) where
+  module _ (o t : List ℕ) (n : ℕ) (i : n ≡ length (placesFrom s 8 0)) where
     pub all-count : (m : ℕ) → m ≡ length (familiesFrom s 0 0) → n + m ≡ length (handlesOf s)
     all-count m j = rw (← all-are, length-append, i, j)
 
-    pub all-filled : (x : List ℕ) → t ≡ fronted o (structsFrom s 0) → n ≤ length t → x ≡ fronted (take (length t - n) (drop n t)) (familiesFrom s 0 0)
+    pub all-filled : (x : List ℕ) → t ≡ fronted o (placesFrom s 8 0) → n ≤ length t → x ≡ fronted (take (length t - n) (drop n t)) (familiesFrom s 0 0)
         → putMid n (length t - n) t x ≡ fronted o (handlesOf s)
     unfolding fronted
     all-filled x f h g =
-        let a : take n t ≡ structsFrom s 0 = ap (take n) f ∙ take-at (structsFrom s 0) (drop (length (structsFrom s 0)) o) n (sym i) in
-        let b : drop n t ≡ drop n o = ap (drop n) f ∙ drop-at (structsFrom s 0) (drop (length (structsFrom s 0)) o) n (sym i) ∙ ap (λ (j : ℕ). drop j o) (sym i) in
+        let a : take n t ≡ placesFrom s 8 0 = ap (take n) f ∙ take-at (placesFrom s 8 0) (drop (length (placesFrom s 8 0)) o) n (sym i) in
+        let b : drop n t ≡ drop n o = ap (drop n) f ∙ drop-at (placesFrom s 8 0) (drop (length (placesFrom s 8 0)) o) n (sym i) ∙ ap (λ (j : ℕ). drop j o) (sym i) in
         let l : length (drop n t) ≤ length t - n = rw length-drop (omega arith) in
         let d : drop (length t - n) (drop n t) ≡ [] = drop-of-length-le (drop n t) l in
-        rw (d, g, take-all (length t - n) (drop n t) l, append-nil, a, b, drop-drop (length (familiesFrom s 0 0)) n o, i, ← append-assoc (structsFrom s 0) (familiesFrom s 0 0) (drop (length (structsFrom s 0) + length (familiesFrom s 0 0)) o), ← length-append (structsFrom s 0) (familiesFrom s 0 0), all-are)
+        rw (d, g, take-all (length t - n) (drop n t) l, append-nil, a, b, drop-drop (length (familiesFrom s 0 0)) n o, i, ← append-assoc (placesFrom s 8 0) (familiesFrom s 0 0) (drop (length (placesFrom s 8 0) + length (familiesFrom s 0 0)) o), ← length-append (placesFrom s 8 0) (familiesFrom s 0 0), all-are)

@@ -5,7 +5,7 @@ use mathlib.Core.Bool.{Bool, true, false, _&&_, _||_, cond, false≢true}
 use mathlib.Core.Path.{_≡_, refl, sym, ap, subst, _∙_}
 use native.Mathlib.Omega.{arith}
 use lib.ListN.{length, take, drop, getD, length-append, length-take, length-drop, List·getD-append, drop-of-length-le}
-use lib.Seq.{getD-append-add, length-take-le, take-all, getD-drop}
+use lib.Seq.{getD-append-add, length-take-le}
 use lib.Dec.{eqb, ltb}
 use mir.Val.{Fits}
 use mir.Syntax.{w8}
@@ -13,36 +13,52 @@ use borrow.Author.Tests.{eq-eqb, ne-eqb, le-ltb}
 use Rattle.record.specs.Base.{Str, eqs, before}
 use Rattle.record.specs.Stretch.{textOf}
 use Rattle.record.specs.Operands.{textAt}
+use Rattle.record.specs.Write.{Puts}
 use Rattle.record.specs.declared.text.Text.{Text}
+use Rattle.record.specs.declared.operands.OptText.the-variants.{Absent, Given}
 use Rattle.record.proofs.Basics.{eqs→eq}
+use Rattle.record.proofs.WriterLaws.{puts-then}
 use Rattle.layout.specs.Words.{Skipped}
 use Rattle.layout.specs.Layout.{variantName}
 use Rattle.layout.specs.Handles.{nameAt, familyPart, placePart, typeName}
-use Rattle.layout.specs.Names.{joined, frontOf, colonsOf, backOf, Parts}
+use Rattle.layout.specs.Names.{joined, frontOf, colonsOf, backOf, Parts, nameOf, nameTextAt, stretchesOf}
+use Rattle.record.specs.Lists.{optOf}
+use Rattle.layout.specs.declared.names.TypeName.{TypeName}
 use Rattle.layout.proofs.WordLaws.{before-next, before-below, before-above, before-longer, before-shorter, before-end, before-skip}
 
 -- the text at a place -----------------------------------------------------------------------------------------------------
 
-text-short : (p : Str) (t : Text) → t .len ≤ 255 → length (textOf p t) ≤ 255
-unfolding textOf
-text-short p t h = simp (length-take, length-drop) (omega arith)
+module _ (s : Str) (at : ℕ) where
+  pub text-there : (x : Str) (t : Text) → x ≡ drop at s → t ≡ textAt x 1 → t ≡ nameTextAt s at
+  unfolding nameTextAt
+  text-there x t e f = f ∙ ap (λ (y : Str). textAt y 1) e
 
-module _ (s p : Str) (at : ℕ) where
-  pub name-past : length s ≤ at → [] ≡ nameAt s p at
-  unfolding nameAt textOf textAt
-  name-past h = rw (drop-of-length-le s {i = at} h)
+  pub name-is : (p : Str) (t : Text) (x : Str) → t ≡ nameTextAt s at → x ≡ textOf p t → x ≡ nameAt s p at
+  unfolding nameAt nameTextAt
+  name-is p t x e f = f ∙ ap (textOf p) e
 
-  name-short : ((k : ℕ) → Fits w8 (getD s k 0)) → length (nameAt s p at) ≤ 255
-  unfolding nameAt textAt
-  name-short f = text-short p (textAt (drop at s) 1) (let g = f (at + 3) in rw getD-drop (omega arith))
+-- the stretches of a type's name ------------------------------------------------------------------------------------------
 
-  pub name-is : (t : Text) (x : Str) → ((k : ℕ) → Fits w8 (getD s k 0)) → t ≡ textAt (take (length s - at) (drop at s)) 1 → x ≡ textOf p t
-      → (x ≡ nameAt s p at) × (length x ≤ 255)
-  unfolding nameAt
-  name-is t x h e f =
-      let d : take (length s - at) (drop at s) ≡ drop at s = take-all (length s - at) (drop at s) (rw length-drop (omega arith)) in
-      let g : x ≡ nameAt s p at = f ∙ rw (e, d) in
-      (g, rw g (name-short h))
+module _ (s : Str) (h f at : ℕ) (t : Text) where
+  pub stretches-plain : f ≡ familyPart h → f ≡ 0 → at ≡ placePart h → t ≡ nameTextAt s at → record { front = t; back = Absent } ≡ stretchesOf s h
+  unfolding stretchesOf
+  stretches-plain e z a b = rw (eq-eqb (familyPart h) 0 (sym e ∙ z), sym a, sym b)
+
+  pub stretches-variant : (u : Text) → f ≡ familyPart h → (f ≡ 0 → ⊥) → at ≡ placePart h → t ≡ nameTextAt s at → u ≡ nameTextAt s (f - 1)
+      → record { front = u; back = Given t } ≡ stretchesOf s h
+  unfolding stretchesOf
+  stretches-variant u e z a b d = rw (ne-eqb (familyPart h) 0 (λ q. z (e ∙ q)), sym a, sym b, sym e, sym d)
+
+-- they read as the name
+pub stretches-read : (s p : Str) (h : ℕ) → nameOf p (stretchesOf s h) ≡ typeName s p h
+unfolding stretchesOf typeName nameAt nameTextAt
+stretches-read s p h = go (eqb (familyPart h) 0)
+  where
+    go : (b : Bool)
+        → nameOf p (cond b (record { front = nameTextAt s (placePart h); back = Absent }) (record { front = nameTextAt s (familyPart h - 1); back = Given (nameTextAt s (placePart h)) }))
+        ≡ cond b (nameAt s p (placePart h)) (variantName (nameAt s p (familyPart h - 1)) (nameAt s p (placePart h)))
+    go true = refl
+    go false = refl
 
 -- bytes of a name in parts ------------------------------------------------------------------------------------------------
 
@@ -227,3 +243,14 @@ own-names s p g h i j a b x y r e f o q t u v w =
     go : (t : Bool) → before c d ≡ before (cond t c (variantName z c)) (cond t d (variantName z d))
     go true = refl
     go false = sym (same-front z (58 ∷ 58 ∷ c) (58 ∷ 58 ∷ d) ∙ same-front colons c d)
+
+-- names put into a buffer -------------------------------------------------------------------------------------------------
+
+module _ (p : Str) (t : TypeName) {out after : Str} {at r : ℕ} where
+  pub put-front : Puts out at (textOf p (t .front)) after r → t .back ≡ Absent → Puts out at (nameOf p t) after r
+  put-front a e = rw e a
+
+  pub put-both : (d : Text) {mid : Str} {q : ℕ} → Puts out at (textOf p (t .front)) mid q → t .back ≡ Given d → Puts mid q (58 ∷ 58 ∷ textOf p d) after r
+      → Puts out at (nameOf p t) after r
+  unfolding variantName
+  put-both d a e b = rw e (puts-then a b)

@@ -40,6 +40,14 @@ upward-of key (x ∷ l) o i zero h k = absurd (omega arith)
 upward-of key (x ∷ l) o zero (suc j) h k = o .0 (getD l j 0) (at-mem l j (omega arith))
 upward-of key (x ∷ l) o (suc i) (suc j) h k = upward-of key l (o .1) i j (omega arith) (omega arith)
 
+-- from what was filled, sorted and kept
+pub kept-are : (key : ℕ → Str) (all o t x : List ℕ) (n r : ℕ) → n ≡ length all → t ≡ fronted o all → take r x ≡ lasts key (arranged key (take n t)) → r ≤ length x
+    → take r (x ++ drop n t) ≡ sorted key all
+unfolding fronted
+kept-are key all o t x n r i f g h =
+    let a : take n t ≡ all = ap (take n) f ∙ take-at all (drop (length all) o) n (sym i) in
+    take-append-le r x (drop n t) h ∙ g ∙ ap (λ (l : List ℕ). lasts key (arranged key l)) a ∙ lasts-are key all
+
 module _ (s p : Str) (small : length s ≤ 32768) where
   abbrev key : ℕ → Str
   key = typeName s p
@@ -56,14 +64,9 @@ module _ (s p : Str) (small : length s ≤ 32768) where
         typed = λ i h. handles-typed s small (getD (sorted key (handlesOf s)) i 0) (sorted-mem key (handlesOf s) (at-mem (sorted key (handlesOf s)) i h));
       }
 
-  -- from what was filled, sorted and kept
   pub table-is : (o t x : List ℕ) (n r : ℕ) → n ≡ length (handlesOf s) → t ≡ fronted o (handlesOf s) → take r x ≡ lasts key (arranged key (take n t)) → r ≤ length x
       → TypesTable s p (take r (x ++ drop n t))
-  unfolding fronted
-  table-is o t x n r i f g h =
-      let a : take n t ≡ handlesOf s = ap (take n) f ∙ take-at (handlesOf s) (drop (length (handlesOf s)) o) n (sym i) in
-      let b : take r (x ++ drop n t) ≡ sorted key (handlesOf s) = take-append-le r x (drop n t) h ∙ g ∙ ap (λ (l : List ℕ). lasts key (arranged key l)) a ∙ lasts-are key (handlesOf s) in
-      subst (λ (l : List ℕ). TypesTable s p l) (sym b) table-of
+  table-is o t x n r i f g h = subst (λ (l : List ℕ). TypesTable s p l) (sym (kept-are key (handlesOf s) o t x n r i f g h)) table-of
 
 -- the front of a table that is lent
 pub cut-long : (t : List ℕ) (n : ℕ) → n ≤ length t → n ≡ length (take n t)

@@ -1,11 +1,19 @@
 -- The name of a type in parts: a front, up to two colons and a back. Assumes nothing.
 use mathlib.Core.List.{[], _∷_, _++_}
+use mathlib.Core.Option.{Option, none, some}
 use mathlib.Core.Bool.{cond}
 use Prim.Native.Nat.{ℕ, _+_, _-_, _≤_}
 use lib.Dec.{eqb}
-use lib.ListN.{length, take}
+use lib.ListN.{length, take, drop}
 use Rattle.record.specs.Base.{Str}
+use Rattle.record.specs.Stretch.{textOf}
+use Rattle.record.specs.Operands.{textAt}
+use Rattle.record.specs.Lists.{optOf}
+use Rattle.record.specs.declared.text.Text.{Text}
+use Rattle.record.specs.declared.operands.OptText.the-variants.{Absent, Given}
+use Rattle.layout.specs.Layout.{variantName}
 use Rattle.layout.specs.Handles.{nameAt, familyPart, placePart}
+use Rattle.layout.specs.declared.names.TypeName.{TypeName}
 
 unfoldable pub joined : Str → ℕ → Str → Str
 joined f k b = f ++ (take k (58 ∷ 58 ∷ []) ++ b)
@@ -24,3 +32,20 @@ backOf s p h = cond (eqb (familyPart h) 0) [] (nameAt s p (placePart h))
 pub record Parts (f : Str) (k : ℕ) (b : Str) : Type 0 where
   pub few : k ≤ 2
   pub fits : length f + k + length b ≤ 18446744073709551615
+
+-- a name alone, or a family's with a variant's
+abbrev pub nameWith : Str → Option Str → Str
+nameWith f none = f
+nameWith f (some d) = variantName f d
+
+-- a type's name as texts of a pool
+abbrev pub nameOf : Str → TypeName → Str
+nameOf p t = nameWith (textOf p (t .front)) (optOf p (t .back))
+
+unfoldable pub nameTextAt : Str → ℕ → Text
+nameTextAt s at = textAt (drop at s) 1
+
+unfoldable pub stretchesOf : Str → ℕ → TypeName
+stretchesOf s h =
+    cond (eqb (familyPart h) 0) (record { front = nameTextAt s (placePart h); back = Absent })
+    (record { front = nameTextAt s (familyPart h - 1); back = Given (nameTextAt s (placePart h)) })

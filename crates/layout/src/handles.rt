@@ -2,10 +2,11 @@
 use record::command::Command;
 use record::command::Cursor;
 use record::command::Step;
+use record::le::byte_at;
 ghost use Prim.Native.Nat.{_+_, _≤_};
 ghost use mathlib.Core.Path.{_≡_};
 ghost use lib.ListN.{length};
-ghost use Rattle.layout.specs.Handles.{structsFrom, familiesFrom, handlesOf, fronted};
+ghost use Rattle.layout.specs.Handles.{placesFrom, familiesFrom, handlesOf, fronted};
 
 // A place as a part of a handle.
 fn narrow(at: usize) -> u32
@@ -15,19 +16,19 @@ fn narrow(at: usize) -> u32
     at as u32
 }
 
-// The structures' handles at the front of the table, and how many they are; there is room for the families' after them.
-fn fill_structs(stream: &[u8], out: &mut [u32]) -> usize
+// The places of the commands of one number at the front of the table, the rest as it was; and how many they are.
+pub(crate) fn fill_places(stream: &[u8], number: u8, out: &mut [u32]) -> usize
     requires { ⌜ (length (now stream) ≤ 32768) × (8192 ≤ length (now out)) ⌝ }
-    ensures { λ r. ⌜ (r ≡ length (structsFrom (now (stream .entry)) 0)) × (now (out .exit) ≡ fronted (now (out .entry)) (structsFrom (now (stream .entry)) 0)) × (r + length (familiesFrom (now (stream .entry)) 0 0) ≤ 8192) ⌝ }
+    ensures { λ r. ⌜ (r ≡ length (placesFrom (now (stream .entry)) number 0)) × (now (out .exit) ≡ fronted (now (out .entry)) (placesFrom (now (stream .entry)) number 0)) × (r ≤ 8192) ⌝ }
 {
     let mut cursor = Cursor::new();
     let mut n = 0;
     loop {
         let at = cursor.at;
-        let Step::Next(command, after) = cursor.next(stream) else {
+        let Step::Next(_, after) = cursor.next(stream) else {
             return n;
         };
-        if let Command::Struct(_) = command {
+        if byte_at(stream, at) == number {
             out[n] = narrow(at);
             n += 1;
             cursor = after;
@@ -35,6 +36,14 @@ fn fill_structs(stream: &[u8], out: &mut [u32]) -> usize
             cursor = after;
         }
     }
+}
+
+// The structures' handles at the front of the table, and how many they are; there is room for the families' after them.
+fn fill_structs(stream: &[u8], out: &mut [u32]) -> usize
+    requires { ⌜ (length (now stream) ≤ 32768) × (8192 ≤ length (now out)) ⌝ }
+    ensures { λ r. ⌜ (r ≡ length (placesFrom (now (stream .entry)) 8 0)) × (now (out .exit) ≡ fronted (now (out .entry)) (placesFrom (now (stream .entry)) 8 0)) × (r + length (familiesFrom (now (stream .entry)) 0 0) ≤ 8192) ⌝ }
+{
+    fill_places(stream, 8, out)
 }
 
 // The families' handles, each followed by its variants'; `family` is one more than the place of the family whose variants may follow.
@@ -79,7 +88,7 @@ fn fill_families(stream: &[u8], out: &mut [u32]) -> usize
 }
 
 // The handles of a record's types at the front of the table, the rest as it was; and how many they are.
-pub fn fill_handles(stream: &[u8], out: &mut [u32]) -> usize
+pub(crate) fn fill_handles(stream: &[u8], out: &mut [u32]) -> usize
     requires { ⌜ (length (now stream) ≤ 32768) × (8192 ≤ length (now out)) ⌝ }
     ensures { λ r. ⌜ (r ≡ length (handlesOf (now (stream .entry)))) × (now (out .exit) ≡ fronted (now (out .entry)) (handlesOf (now (stream .entry)))) × (r ≤ 8192) ⌝ }
 {

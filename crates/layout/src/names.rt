@@ -1,16 +1,22 @@
-// The names of types, by their handles, and their byte order. A name in parts is a front, up to two colons and a back.
+// The names of types: by their handles, with their byte order, and as texts. A name in parts is a front, up to two colons and a back.
 use crate::words::skip;
 use crate::words::text_before;
+use record::cut::from;
 use record::le::byte_at;
+use record::operands::OptText;
 use record::operands::text_at;
+use record::text::Text;
 use record::text::bytes_of;
 use record::text::same;
-ghost use Prim.Native.Nat.{_≤_};
+use record::writer::put_text;
+use record::writer::put_worded;
+ghost use Prim.Native.Nat.{_+_, _≤_};
 ghost use mathlib.Core.Path.{_≡_};
 ghost use lib.ListN.{length, getD};
 ghost use Rattle.record.specs.Base.{before};
+ghost use Rattle.record.specs.Write.{Puts};
 ghost use Rattle.layout.specs.Handles.{nameAt, familyPart, placePart, typeName};
-ghost use Rattle.layout.specs.Names.{joined, frontOf, colonsOf, backOf, Parts};
+ghost use Rattle.layout.specs.Names.{joined, frontOf, colonsOf, backOf, Parts, nameOf, nameTextAt, stretchesOf};
 
 // The place of a type's command.
 pub fn place_part(handle: u32) -> usize
@@ -27,14 +33,40 @@ pub fn family_part(handle: u32) -> usize
 }
 
 // The text that the command at a place begins with.
+fn name_text(stream: &[u8], at: usize) -> Text
+    ensures { λ r. ⌜ r ≡ nameTextAt (now (stream .entry)) at ⌝ }
+{
+    text_at(from(stream, at), 1)
+}
+
 pub fn name_at<'a>(stream: &[u8], pool: &'a [u8], at: usize) -> &'a [u8]
     ensures { λ r. ⌜ (now r ≡ nameAt (now (stream .entry)) (now (pool .entry)) at) × (length (now r) ≤ 255) ⌝ }
 {
-    if stream.len() <= at {
-        return &pool[..0];
+    bytes_of(pool, name_text(stream, at))
+}
+
+// A type's name: for a variant its family's and its own, which stands after two colons.
+pub struct TypeName {
+    pub front: Text,
+    pub back: OptText,
+}
+
+// The name of the type of a handle.
+pub fn type_name(stream: &[u8], handle: u32) -> TypeName
+    ensures { λ r. ⌜ r ≡ stretchesOf (now (stream .entry)) handle ⌝ }
+{
+    let own = name_text(stream, place_part(handle));
+    let family = family_part(handle);
+    if family == 0 {
+        return TypeName {
+            front: own,
+            back: OptText::Absent,
+        };
     }
-    let t = text_at(&stream[at..], 1);
-    bytes_of(pool, t)
+    TypeName {
+        front: name_text(stream, family - 1),
+        back: OptText::Given(own),
+    }
 }
 
 // The front of a type's name: a variant's family, or the whole name.
@@ -136,7 +168,14 @@ fn parts_before(f: &[u8], k: usize, b: &[u8], g: &[u8], l: usize, d: &[u8]) -> b
 }
 
 // Whether a type's name goes before a name in parts.
-pub fn type_under(stream: &[u8], pool: &[u8], handle: u32, g: &[u8], l: usize, d: &[u8]) -> bool
+pub(crate) fn type_under(
+    stream: &[u8],
+    pool: &[u8],
+    handle: u32,
+    g: &[u8],
+    l: usize,
+    d: &[u8],
+) -> bool
     requires { ⌜ Parts (now g) l (now d) ⌝ }
     ensures { λ r. ⌜ r ≡ before (typeName (now (stream .entry)) (now (pool .entry)) handle) (joined (now (g .entry)) l (now (d .entry))) ⌝ }
 {
@@ -146,7 +185,14 @@ pub fn type_under(stream: &[u8], pool: &[u8], handle: u32, g: &[u8], l: usize, d
 }
 
 // Whether a name in parts goes before a type's.
-pub fn type_over(stream: &[u8], pool: &[u8], handle: u32, g: &[u8], l: usize, d: &[u8]) -> bool
+pub(crate) fn type_over(
+    stream: &[u8],
+    pool: &[u8],
+    handle: u32,
+    g: &[u8],
+    l: usize,
+    d: &[u8],
+) -> bool
     requires { ⌜ Parts (now g) l (now d) ⌝ }
     ensures { λ r. ⌜ r ≡ before (joined (now (g .entry)) l (now (d .entry))) (typeName (now (stream .entry)) (now (pool .entry)) handle) ⌝ }
 {
@@ -167,4 +213,17 @@ pub fn type_before(stream: &[u8], pool: &[u8], g: u32, h: u32) -> bool
     let f = front(stream, pool, h);
     let b = back(stream, pool, h);
     type_under(stream, pool, g, f, colons(h), b)
+}
+
+// Puts a type's name.
+pub fn put_name(out: &mut [u8], at: usize, pool: &[u8], name: TypeName) -> usize
+    ensures { λ r. ⌜ Puts (now (out .entry)) at (nameOf (now (pool .entry)) name) (now (out .exit)) r × (r ≤ at + 512) ⌝ }
+{
+    let front = name.front;
+    let back = name.back;
+    let next = put_text(out, at, pool, front);
+    let OptText::Given(own) = back else {
+        return next;
+    };
+    put_worded(out, next, b"::", pool, own)
 }

@@ -64,7 +64,7 @@ fn pass(stream: &[u8], pool: &[u8], src: &[u32], dst: &mut [u32], w: usize)
 }
 
 // The handles in byte order of their types' names; those of one name stay in their order.
-pub fn sort_handles(stream: &[u8], pool: &[u8], handles: &mut [u32], scratch: &mut [u32])
+pub(crate) fn sort_handles(stream: &[u8], pool: &[u8], handles: &mut [u32], scratch: &mut [u32])
     requires { ⌜ (length (now scratch) ≡ length (now handles)) × (length (now handles) ≤ 65536) ⌝ }
     ensures { λ r. ⌜ now (handles .exit) ≡ arranged (typeName (now (stream .entry)) (now (pool .entry))) (now (handles .entry)) ⌝ }
 {
@@ -90,7 +90,7 @@ fn ends_run(stream: &[u8], pool: &[u8], handles: &[u32], i: usize) -> bool
 }
 
 // The last handle of each name, moved to the front; and how many they are.
-pub fn keep_last(stream: &[u8], pool: &[u8], handles: &mut [u32]) -> usize
+pub(crate) fn keep_last(stream: &[u8], pool: &[u8], handles: &mut [u32]) -> usize
     ensures { λ r. ⌜ (take r (now (handles .exit)) ≡ lasts (typeName (now (stream .entry)) (now (pool .entry))) (now (handles .entry))) × (r ≤ length (now (handles .entry))) ⌝ }
 {
     let mut i = 0;

@@ -16,7 +16,7 @@ ghost use Rattle.layout.specs.Sort.{arranged, lasts};
 ghost use Rattle.layout.specs.Table.{TypesTable, FoundType};
 
 // Handles in byte order of their names, the last of each name at the front; and how many those are.
-fn arrange(stream: &[u8], pool: &[u8], handles: &mut [u32], scratch: &mut [u32]) -> usize
+pub(crate) fn arrange(stream: &[u8], pool: &[u8], handles: &mut [u32], scratch: &mut [u32]) -> usize
     requires { ⌜ (length (now scratch) ≡ length (now handles)) × (length (now handles) ≤ 65536) ⌝ }
     ensures { λ r. ⌜ (take r (now (handles .exit)) ≡ lasts (typeName (now (stream .entry)) (now (pool .entry))) (arranged (typeName (now (stream .entry)) (now (pool .entry))) (now (handles .entry)))) × (r ≤ length (now (handles .entry))) ⌝ }
 {

@@ -81,10 +81,83 @@ pub fn read_part(fd: i32, buf: &mut [u8]) -> Part
     }
 }
 
+// So many bytes, at the front of the buffer; and how many came.
+pub fn read_bytes(fd: i32, buf: &mut [u8], n: usize) -> usize
+    ensures { λ r. ⌜ r ≤ length (now (buf .entry)) ⌝ }
+{
+    if buf.len() < n {
+        return 0;
+    }
+    let k = io::read_full(fd, &mut buf[..n]);
+    if n < k {
+        return 0;
+    }
+    k
+}
+
+const MARK: u8 = 165;
+
+// Puts a mark into every byte of a buffer that is lent.
+pub fn mark(out: &mut [u8]) {
+    let mut i = 0;
+    while i < out.len() {
+        out[i] = MARK;
+        i += 1;
+    }
+}
+
+// Whether a buffer begins with a text and has its marks behind it.
+pub fn holds(out: &[u8], text: &[u8]) -> bool {
+    let mut i = 0;
+    while i < out.len() {
+        let b = if i < text.len() { text[i] } else { MARK };
+        if out[i] != b {
+            return false;
+        }
+        i += 1;
+    }
+    true
+}
+
 // How a replay of vectors went, in one line.
 pub fn report(turns: u64, wrong: u64) {
     io::print_decimal(1, turns);
     io::write_all(1, b" vectors, ");
     io::print_decimal(1, wrong);
     io::write_all(1, b" differ\n");
+}
+
+// A part that is lent to a call: over is true where the stated length is above the buffer's.
+pub struct Lent {
+    pub over: bool,
+    pub len: usize,
+}
+
+// A length and its bytes, at the front of the buffer: a cut length counts as 0, and a part that ends early as the bytes that came.
+pub fn read_lent(fd: i32, buf: &mut [u8]) -> Lent
+    ensures { λ r. ⌜ r .len ≤ length (now (buf .entry)) ⌝ }
+{
+    let p = read_number(fd);
+    let n = p.len;
+    if buf.len() < n {
+        return Lent { over: true, len: 0 };
+    }
+    let k = io::read_full(fd, &mut buf[..n]);
+    if n < k {
+        return Lent { over: true, len: 0 };
+    }
+    Lent {
+        over: false,
+        len: k,
+    }
+}
+
+// A refusal or number 10, in one line.
+pub fn print_refusal(number: u32, side: u32, place: usize) {
+    io::print_decimal(1, number as u64);
+    io::write_all(1, b" ");
+    io::print_decimal(1, side as u64);
+    io::write_all(1, b" ");
+    io::print_decimal(1, place as u64);
+    io::write_all(1, b"\n");
 }

@@ -8,18 +8,17 @@ use Prim.Native.Nat.{ℕ, zero, suc, _+_, _-_, _≤_, _<_}
 use native.Mathlib.Omega.{arith}
 use lib.Dec.{eqb, ltb, leb}
 use lib.ListN.{length, getD, drop}
-use borrow.Author.Tests.{eqb-true, eqb-false, ne-eqb, ltb-true, ltb-false, lt-ltb, le-ltb}
+use borrow.Author.Tests.{eqb-true, eqb-false, ne-eqb, leb-true, ltb-true, ltb-false, lt-ltb, le-ltb}
 use Rattle.record.specs.Base.{Str, find}
 use Rattle.record.specs.Schema.{Schema}
 use Rattle.record.specs.Letters.{oddLetter}
 use Rattle.record.specs.Commands.{operands, widths, widthWith, widthOf, commandOf, stepAt, place, start, commandsAt}
 use Rattle.record.specs.Judge.{mayStand, moved, faultsFrom, ready, faulted, judgedWith, judgedAs, judgedAt}
-use Rattle.record.specs.Reading.{Rec, schemaFrom, schemaOf, Opened, opened, vast, Reading, read, refuse, Parsed, ok, bad, onto, continued, parse, parsed, vastOr, sizesOf, streamLimit, poolLimit, concluded, reading}
+use Rattle.record.specs.Reading.{Rec, schemaFrom, schemaOf, Opened, opened, vast, read, Parsed, ok, bad, onto, continued, parse, parsed, vastOr, sizesOf, streamLimit, poolLimit, concluded, reading}
 use Rattle.record.specs.declared.command.Cursor.{Cursor}
 use Rattle.record.specs.declared.command.Command.{Command}
 use Rattle.record.specs.declared.command.Step.the-variants as S
 use Rattle.record.specs.declared.refusal.Side.{Side}
-use Rattle.record.specs.declared.refusal.Refusal.{Refusal}
 use Rattle.record.specs.declared.refusal.Refusal.the-variants as R
 use Rattle.record.specs.declared.judge.Fault.{Fault}
 use Rattle.record.specs.declared.judge.Fault.the-variants.{Fine, Outside, Missing, Flag}
@@ -146,30 +145,34 @@ parsed-is side r ps e = parse-is (length (r .stream) + 1) side (r .stream) (leng
 
 -- what an accepted reading has passed
 pub record Accepted (side : Side) (r : Rec) (t : Schema) : Type 0 where
+  pub stream-short : length (r .stream) ≤ 32768
   pub parsed-all : parsed side r ≡ ok (commandsAt (r .stream) 0)
   pub none-vast : find (vast t) (opened (r .stream) (r .pool) (commandsAt (r .stream) 0)) ≡ none
   pub is-schema : schemaOf r ≡ t
 
 pub accepting : (side : Side) (r : Rec) (t : Schema) → reading side r ≡ read t → Accepted side r t
-unfolding reading concluded sizesOf vastOr schemaOf
-accepting side r t h = go (leb (length (r .stream)) streamLimit && leb (length (r .pool)) poolLimit) (oddLetter 0 (r .pool)) (parsed side r) refl h
+unfolding reading concluded sizesOf vastOr schemaOf streamLimit
+accepting side r t h =
+    go (leb (length (r .stream)) streamLimit) (leb (length (r .pool)) poolLimit) (oddLetter 0 (r .pool)) (parsed side r) refl refl h
   where
-    last : (ps : List ℕ) → parsed side r ≡ ok ps → ps ≡ commandsAt (r .stream) 0 → (o : Option Opened)
+    last : leb (length (r .stream)) streamLimit ≡ true → (ps : List ℕ) → parsed side r ≡ ok ps → ps ≡ commandsAt (r .stream) 0 → (o : Option Opened)
         → find (vast (schemaFrom r ps)) (opened (r .stream) (r .pool) ps) ≡ o → vastOr (schemaFrom r ps) o ≡ read t → Accepted side r t
-    last ps e q none f h =
+    last w ps e q none f h =
         let i : schemaFrom r ps ≡ t = cc in
         record {
+          stream-short = leb-true (length (r .stream)) 32768 w;
           parsed-all = e ∙ ap ok q;
           none-vast = sym (ap (λ (l : List ℕ). find (vast t) (opened (r .stream) (r .pool) l)) q) ∙ sym (ap (λ (x : Schema). find (vast x) (opened (r .stream) (r .pool) ps)) i) ∙ f;
           is-schema = ap (schemaFrom r) (sym q) ∙ i;
         }
-    last ps e q (some x) f h = absurd (let z : _≡_ {A = ℕ} 0 1 = cc in omega arith)
+    last w ps e q (some x) f h = absurd (let z : _≡_ {A = ℕ} 0 1 = cc in omega arith)
 
-    go : (b : Bool) (l : Letters) (x : Parsed) → parsed side r ≡ x → concluded r b l x ≡ read t → Accepted side r t
-    go false l x e h = absurd (let z : _≡_ {A = ℕ} 0 1 = cc in omega arith)
-    go true (Odd i) x e h = absurd (let z : _≡_ {A = ℕ} 0 1 = cc in omega arith)
-    go true Good (bad n p) e h = absurd (let z : _≡_ {A = ℕ} 0 1 = cc in omega arith)
-    go true Good (ok ps) e h = last ps e (parsed-is side r ps e) (find (vast (schemaFrom r ps)) (opened (r .stream) (r .pool) ps)) refl h
+    go : (a b : Bool) (l : Letters) (x : Parsed) → leb (length (r .stream)) streamLimit ≡ a → parsed side r ≡ x → concluded r (a && b) l x ≡ read t → Accepted side r t
+    go false b l x w e h = absurd (let z : _≡_ {A = ℕ} 0 1 = cc in omega arith)
+    go true false l x w e h = absurd (let z : _≡_ {A = ℕ} 0 1 = cc in omega arith)
+    go true true (Odd i) x w e h = absurd (let z : _≡_ {A = ℕ} 0 1 = cc in omega arith)
+    go true true Good (bad n p) w e h = absurd (let z : _≡_ {A = ℕ} 0 1 = cc in omega arith)
+    go true true Good (ok ps) w e h = last w ps e (parsed-is side r ps e) (find (vast (schemaFrom r ps)) (opened (r .stream) (r .pool) ps)) refl h
 
 -- the judged reading and the unjudged schema: on either side, an accepted record is read as its schema
 pub accepted : (side : Side) (r : Rec) (t : Schema) → reading side r ≡ read t → schemaOf r ≡ t

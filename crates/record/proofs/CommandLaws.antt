@@ -1,27 +1,21 @@
 -- The cases of each definition, as the code's branches need them.
-use Prim.Native.Nat.{ℕ, zero, suc, _+_, _-_, _≤_, _<_}
-use mathlib.Core.List.{List, [], _∷_}
+use Prim.Native.Nat.{ℕ, _+_, _-_, _≤_, _<_}
+use mathlib.Core.List.{List, []}
 use mathlib.Core.Option.{none}
-use mathlib.Core.Bool.{Bool, true, false}
-use mathlib.Core.Path.{_≡_, refl, sym, ap, _∙_}
+use mathlib.Core.Path.{_≡_, sym}
 use native.Mathlib.Omega.{arith}
 use lib.ListN.{length, take, drop, getD, length-drop}
 use lib.Seq.{take-all}
-use lib.Dec.{leb, ltb, eqb}
-use borrow.Author.Tests.{eq-eqb, ne-eqb, le-leb, lt-leb, lt-ltb, le-ltb}
-use Rattle.record.specs.Le.{u16At, u32At, u8-past, u16-past, u32-past}
+use borrow.Author.Tests.{ne-eqb, lt-ltb, le-ltb}
+use Rattle.record.specs.Le.{u16At, u32At, u8-past, u16-past}
 use Rattle.record.specs.declared.text.Text.{Text}
-use Rattle.record.specs.declared.operands.OptText.{OptText}
 use Rattle.record.specs.declared.operands.OptText.the-variants.{Absent, Given}
-use Rattle.record.specs.declared.operands.OptNumber.{OptNumber}
 use Rattle.record.specs.declared.operands.OptNumber.the-variants.{Missing, Number}
 use Rattle.record.specs.declared.command.Command.{Command}
 use Rattle.record.specs.declared.command.Command.the-variants as C
 use Rattle.record.specs.declared.command.Version.{Version}
-use Rattle.record.specs.declared.command.Step.{Step}
 use Rattle.record.specs.declared.command.Step.the-variants.{Next, Stop}
-use Rattle.record.specs.Operands.{textAt, optText, optTextAt, flagAt, optNumberAt}
-use Rattle.record.specs.Base.{bytes}
+use Rattle.record.specs.Operands.{textAt, optText, optTextAt, optNumberAt}
 use Rattle.record.specs.Commands.{operands, widthWith, widthOf, commandOf, stepAt, place, versionAt}
 
 module _ (s : List ℕ) (at : ℕ) where

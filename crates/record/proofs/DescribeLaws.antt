@@ -1,24 +1,28 @@
 -- The cases of a field's description, as the code's branches need them. Assumes nothing.
 use mathlib.Core.Path.{_≡_, refl, sym, ap}
-use mathlib.Core.List.{List, [], _∷_, _++_, append-nil}
+use mathlib.Core.List.{List, [], _∷_, _++_, append-nil, append-assoc}
 use mathlib.Core.Option.{Option, none}
 use Prim.Native.Nat.{ℕ}
 use types.Run.{OneOf, miss}
 use denote.Enum.Declared.{tagOf}
-use Rattle.record.specs.Base.{Str, orElse, orOption}
+use Rattle.record.specs.Base.{Str, bytes, eqs, decimal, orElse, orOption}
 use Rattle.record.specs.Schema.{Field, Key}
 use Rattle.record.specs.Stretch.{textOf}
-use Rattle.record.specs.Lists.{numberOf, fieldOf}
-use Rattle.record.specs.Kind.{kindOf}
-use Rattle.record.specs.Shapes.{spaced, named, restAs, shapeType}
+use Rattle.record.specs.Lists.{optOf, numberOf, fieldOf}
+use Rattle.record.specs.Kind.{words, meaning, kindOf}
+use Rattle.record.specs.Write.{Puts}
+use Rattle.record.specs.Shapes.{spaced, named, restAs, shapeType, plain}
 use Rattle.record.specs.declared.text.Text.{Text}
+use Rattle.record.specs.declared.operands.OptText.{OptText}
 use Rattle.record.specs.declared.operands.OptText.the-variants.{Absent, Given}
 use Rattle.record.specs.declared.command as D
 use Rattle.record.specs.declared.kind.Kind.{Kind}
 use Rattle.record.specs.declared.kind.Kind.the-variants as K
-use Rattle.record.specs.declared.describe.Description.the-variants.{Plain, Named, Array, Array2d}
-use Rattle.record.specs.Describe.{describedAs}
+use Rattle.record.specs.declared.describe.Description.{Description}
+use Rattle.record.specs.declared.describe.Description.the-variants.{Plain, Named, Array, Array2d, Discriminant, Length}
+use Rattle.record.specs.Describe.{elementOf, times, describedAs}
 use Rattle.record.proofs.kind.Kind.{the-type}
+use Rattle.record.proofs.WriterLaws.{puts-then, puts-as}
 
 -- the tags of all kinds but the arrays
 abbrev pub noArray : List ℕ
@@ -97,3 +101,59 @@ rest-keyless K.Other p f k = refl
 pub described-keyless : (p : Str) (f : D.Field.Field) (k : Option Key) → shapeType (fieldOf p f k) ≡ shapeType (fieldOf p f none)
 unfolding shapeType
 described-keyless p f k = ap (λ (r : Str). textOf p (f .kind) ++ r) (rest-keyless (kindOf (textOf p (f .kind))) p f k)
+
+-- a family's front -------------------------------------------------------------------------------------------------------
+
+pub discriminant-described : (p n : Str) (t : Text) → describedAs p (Discriminant t) ≡ shapeType (plain n (bytes "enum") (textOf p t))
+unfolding shapeType plain restAs named spaced orOption kindOf meaning words eqs bytes
+discriminant-described p n t = refl
+
+pub length-described : (p n : Str) (o : OptText) → describedAs p (Length o) ≡ shapeType (plain n (bytes "scalar") (orElse (optOf p o) (bytes "u8")))
+unfolding shapeType plain restAs named spaced orOption kindOf meaning words eqs bytes
+length-described p n o = refl
+
+-- puts -------------------------------------------------------------------------------------------------------------------
+
+module _ (p : Str) {out after : Str} {at r : ℕ} where
+  module _ {mid : Str} {q : ℕ} where
+    pub times-put : (n : ℕ) → Puts out at (bytes " x ") mid q → Puts mid q (decimal n) after r → Puts out at (times n) after r
+    times-put n a b = puts-then a b
+
+    pub kind-put : (k : Text) → Puts out at (textOf p k) mid q → Puts mid q (bytes " ") after r → Puts out at (textOf p k ++ bytes " ") after r
+    kind-put k a b = puts-then a b
+
+  module _ (o : OptText) where
+    pub element-none : o ≡ Absent → Puts out at (bytes "u8") after r → Puts out at (elementOf p o) after r
+    unfolding orElse
+    element-none e a = rw e a
+
+    pub element-some : (t : Text) → o ≡ Given t → Puts out at (textOf p t) after r → Puts out at (elementOf p o) after r
+    unfolding orElse
+    element-some t e a = rw e a
+
+  module _ (d : Description) where
+    pub put-plain : (k : Text) → d ≡ Plain k → Puts out at (textOf p k) after r → Puts out at (describedAs p d) after r
+    put-plain k e a = rw e a
+
+    pub put-discriminant : (t : Text) → d ≡ Discriminant t → Puts out at (bytes "enum " ++ textOf p t) after r → Puts out at (describedAs p d) after r
+    put-discriminant t e a = rw e a
+
+    module _ {mid : Str} {q : ℕ} where
+      pub put-length : (o : OptText) → d ≡ Length o → Puts out at (bytes "scalar ") mid q → Puts mid q (elementOf p o) after r
+          → Puts out at (describedAs p d) after r
+      put-length o e a b = rw e (puts-then a b)
+
+      module _ (k : Text) (a : Puts out at (textOf p k ++ bytes " ") mid q) where
+        pub put-named : (t : Text) → d ≡ Named k t → Puts mid q (textOf p t) after r → Puts out at (describedAs p d) after r
+        unfolding bytes
+        put-named t e b = rw e (puts-as (puts-then a b) (simp append-assoc))
+
+        module _ (o : OptText) {mid₂ : Str} {q₂ : ℕ} (b : Puts mid q (elementOf p o) mid₂ q₂) where
+          pub put-array : (n : ℕ) → d ≡ Array k o n → Puts mid₂ q₂ (times n) after r → Puts out at (describedAs p d) after r
+          unfolding bytes
+          put-array n e c = rw e (puts-as (puts-then (puts-then a b) c) (simp append-assoc))
+
+          pub put-array2d : (m n : ℕ) {mid₃ : Str} {q₃ : ℕ} → d ≡ Array2d k o m n → Puts mid₂ q₂ (times m) mid₃ q₃ → Puts mid₃ q₃ (times n) after r
+              → Puts out at (describedAs p d) after r
+          unfolding bytes
+          put-array2d m n e c f = rw e (puts-as (puts-then (puts-then (puts-then a b) c) f) (simp append-assoc))

@@ -1,19 +1,19 @@
 -- The cases of the judgement of one command, as the code's branches need them. Assumes nothing.
 use Prim.Native.Nat.{ℕ, suc, _+_, _-_, _*_, _≤_, _<_}
-use mathlib.Core.List.{List, [], _∷_}
-use mathlib.Core.Option.{Option, none, some}
-use mathlib.Core.Bool.{Bool, true, false, _||_, not, cond}
+use mathlib.Core.List.{[]}
+use mathlib.Core.Option.{none, some}
+use mathlib.Core.Bool.{Bool, true, false, cond}
 use mathlib.Core.Path.{_≡_, refl, sym, ap, _∙_}
 use native.Mathlib.Numerals.{add-one}
 use native.Mathlib.Omega.{arith}
 use lib.ListN.{length, take, drop, getD, length-drop, drop-of-length-le}
 use lib.Seq.{take-all, drop-cons}
-use lib.Dec.{eqb, ltb, leb}
+use lib.Dec.{eqb}
 use borrow.Author.Tests.{eq-eqb, ne-eqb, lt-ltb, le-ltb, le-leb, lt-leb}
-use Rattle.record.specs.Base.{Str, bytes}
+use Rattle.record.specs.Base.{Str}
 use Rattle.record.specs.Operands.{flagAt, optTextAt}
 use Rattle.record.specs.Commands.{operands, wide, widths, commandOf}
-use Rattle.record.specs.Judge.{worseOf, missingIn, ifAbsent, textFault, flagFault, operandFault, faultsFrom, follows, mayStand, parentAfter, moved, ready, faulted, judgedWith, judgedAs, judgedAt}
+use Rattle.record.specs.Judge.{worseOf, ifAbsent, textFault, flagFault, operandFault, faultsFrom, follows, mayStand, parentAfter, ready, judgedWith, judgedAt}
 use Rattle.record.specs.declared.text.Text.{Text}
 use Rattle.record.specs.declared.operands.OptText.{OptText}
 use Rattle.record.specs.declared.operands.OptText.the-variants.{Absent, Given}
@@ -28,7 +28,6 @@ use Rattle.record.specs.declared.judge.Fault.{Fault}
 use Rattle.record.specs.declared.judge.Fault.the-variants.{Fine, Outside, Missing, Flag}
 use Rattle.record.specs.declared.judge.Judged.{Judged}
 use Rattle.record.specs.declared.judge.Judged.the-variants.{Next, Done, Refused}
-use Rattle.record.proofs.CommandLaws.{none-operands}
 
 -- an absent text, by the operand's letter
 module _ (side : Side) (x : Str) (o : ℕ) where

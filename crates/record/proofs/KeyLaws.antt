@@ -1,9 +1,7 @@
 -- The steps of the walk over the plugin keys, as the code's branches need them. Assumes nothing.
 use mathlib.Core.Path.{_≡_, refl, ap, _∙_}
 use mathlib.Core.List.{List}
-use Prim.Native.Nat.{ℕ, suc, _<_}
-use native.Mathlib.Omega.{arith}
-use lib.ListN.{length}
+use Prim.Native.Nat.{ℕ}
 use Rattle.record.specs.Base.{Str, first}
 use Rattle.record.specs.Schema.{Key}
 use Rattle.record.specs.Commands.{start}
@@ -104,9 +102,3 @@ pub ruleset walk-laws = (idle-at, idle-on, structs-ended, struct-opened, inside-
 pub keys-whole : (c : Cursor) → c ≡ start → AllKeys (Structs c)
 unfolding keysFrom pluginKeys
 keys-whole c i = record { list = λ s p. rw i }
-
--- each step makes the list shorter: its length is a measure for loops over the keys
-pub plugin-keys-nearer : (s p : Str) (at : KeysAt) (r : PluginKeyStep) → PluginKeysFrom s at r → (e : D.PluginKey.PluginKey) (k : KeysAt) → r ≡ APluginKey e k → length (keysFrom s p k) < length (keysFrom s p at)
-plugin-keys-nearer s p at r f e k m =
-    let h : length (keysFrom s p at) ≡ suc (length (keysFrom s p k)) = ap length (f .list p) ∙ rw m in
-    omega arith

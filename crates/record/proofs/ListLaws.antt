@@ -1,6 +1,6 @@
 -- The laws that every list of a record shares: what one step along the stream says of the list from there on. Assumes nothing.
 use mathlib.Core.Path.{_≡_, refl, sym, ap, _∙_}
-use mathlib.Core.List.{List, [], _∷_}
+use mathlib.Core.List.{List, [], _∷_, List·Memᴰ}
 use mathlib.Core.Option.{Option, none, some}
 use mathlib.Core.Bool.{Bool, true, false, cond}
 use Prim.Native.Nat.{ℕ, suc, _-_, _≤_}
@@ -16,12 +16,11 @@ use Rattle.record.specs.Lists.{listed}
 use Rattle.record.specs.declared.command.Cursor.{Cursor}
 use Rattle.record.specs.declared.command.Command.{Command}
 use Rattle.record.specs.declared.command.Command.the-variants as C
-use Rattle.record.specs.declared.command.Step.{Step}
 use Rattle.record.specs.declared.command.Step.the-variants.{Next, Stop}
 use Rattle.record.proofs.command.Command.{the-type}
 use Rattle.record.proofs.CommandLaws.{none-width}
 use Rattle.record.proofs.Tags.{absent, not-one-of}
-use Rattle.record.proofs.Stream.{step-found, commands-stop, commands-next}
+use Rattle.record.proofs.Stream.{step-found, commands-stop, commands-next, commands-later}
 
 -- a command's number
 abbrev pub byteOf : Command → ℕ
@@ -115,9 +114,15 @@ module _ {A : Type 0} (s : List ℕ) (over : ℕ → Bool) (b : ℕ) (f : ℕ �
 pub record Onward {A : Type 0} (f : Str → Str → ℕ → List A) (s : Str) (a b : ℕ) : Type 0 where
   pub same : (p : Str) → f s p a ≡ f s p b
   pub on : length s - b ≤ length s - a
+  pub later : (v : ℕ) → List·Memᴰ v (commandsAt s b) → List·Memᴰ v (commandsAt s a)
 
 pub onward-here : {A : Type 0} (f : Str → Str → ℕ → List A) (s : Str) (a : ℕ) → Onward f s a a
-onward-here f s a = record { same = λ p. refl; on = omega arith }
+onward-here f s a = record { same = λ p. refl; on = omega arith; later = λ v m. m }
+
+-- what comes after a command that is passed over
+pub onward-later : {A : Type 0} (f : Str → Str → ℕ → List A) (s : Str) (a at : ℕ) → Onward f s a at → (c : Command) (k : Cursor) → stepAt s at ≡ Next c k
+    → (v : ℕ) → List·Memᴰ v (commandsAt s (k .at)) → List·Memᴰ v (commandsAt s a)
+onward-later f s a at o c k e v m = o .later v (commands-later s at c k e v m)
 
 -- a list's first element that passes a test
 module _ {A : Type 0} (q : A → Bool) (l : List A) where

@@ -263,5 +263,3 @@ module _ (s p : Str) (mark : ℕ) (n : Str) where
             → List·Memᴰ f (bodyAt family s p (k .at)) ⊎ ((x : Str) → entered (typesAt s p) (referenced f) ≡ some x → Named s p after x)
         done f (inl i) = rest f (List·Memᴰ·cases-cons (subst (λ (l : List Field). List·Memᴰ f l) list i))
         done f (inr h) = inr (λ x e. let y = h x e in record { place = y .place; marked = marked-stays s p (w .walked) (y .place) (y .marked); leads = y .leads })
-
-pub ruleset type-laws = (type-starts, type-ends, type-goes)

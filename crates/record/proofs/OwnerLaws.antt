@@ -327,12 +327,9 @@ module _ (s p n : Str) where
 
 -- the call ---------------------------------------------------------------------------------------------------------------
 
-pub marks-are : (s p : Str) (before after : List ℕ) → OwnersMarked s p before after → length s ≤ length before → OwnerMarks s p after
-marks-are s p before after f h = f .within h
-
 module _ (room : ℕ) (s p n : Str) where
   pub found-beyond : room < length s → OwnerFound room s p n Nobody
   found-beyond h = record { within = λ l. absurd (omega arith); beyond = λ l. refl }
 
-  pub found-within : (r : Owner) → length s ≤ room → Answered s p n r → OwnerFound room s p n r
-  found-within r h a = record { within = λ l. a; beyond = λ l. absurd (omega arith) }
+  pub found-within : (r : Owner) (before after : List ℕ) → room ≡ length before → length s ≤ room → OwnersMarked s p before after → (OwnerMarks s p after → Answered s p n r) → OwnerFound room s p n r
+  found-within r before after e h f a = record { within = λ l. a (f .within (rw (← e) h)); beyond = λ l. absurd (omega arith) }

@@ -39,7 +39,7 @@ use Rattle.record.proofs.CommandLaws.{step-end}
 use Rattle.record.proofs.Tags.{absent}
 use Rattle.record.proofs.Stream.{step-found, commands-stop}
 use Rattle.record.proofs.ReferenceLaws.{struct-at-front}
-use Rattle.record.proofs.ListLaws.{byteOf, other, listed-stop, listed-here, listed-over, listed-end, Onward}
+use Rattle.record.proofs.ListLaws.{byteOf, other, listed-stop, listed-here, listed-over, listed-end, Onward, onward-later}
 
 -- where the fields begin -------------------------------------------------------------------------------------------------
 
@@ -111,7 +111,7 @@ module _ (f : Bool) (s : Str) (a at : ℕ) (o : Onward (bodyAt f) s a at) (r : S
         let g = step-found s at c k (sym i ∙ m) in
         let near = o .on in
         let on = g .on in
-        record { same = λ p. o .same p ∙ listed-over s (between f) 11 _ at c k (sym i ∙ m) h b; on = omega arith }
+        record { same = λ p. o .same p ∙ listed-over s (between f) 11 _ at c k (sym i ∙ m) h b; on = omega arith; later = onward-later (bodyAt f) s a at o c k (sym i ∙ m) }
 
     finish : (byteOf c ≡ 11 → ⊥) → between f (byteOf c) ≡ false → PlacesFrom f s a NoPlace
     unfolding bodyAt

@@ -2,24 +2,24 @@
 use mathlib.Core.Path.{_≡_, refl, sym, ap, _∙_}
 use mathlib.Core.List.{List, [], _∷_, List·Memᴰ}
 use mathlib.Core.Option.{Option, none, some}
-use mathlib.Core.Bool.{Bool, true, false, _&&_, cond}
+use mathlib.Core.Bool.{Bool, true, false, _&&_}
 use Prim.Native.Nat.{ℕ, zero, suc, _+_, _-_, _≤_, _<_}
 use native.Mathlib.Omega.{arith}
 use lib.ListN.{length}
 use lib.Dec.{leb, ltb}
-use borrow.Author.Tests.{le-leb, lt-leb, ltb-false, lt-ltb}
+use borrow.Author.Tests.{le-leb, lt-leb, ltb-false}
 use types.Run.{OneOf}
 use denote.Enum.Declared.{tagOf}
-use Rattle.record.specs.Base.{Str, find, any}
+use Rattle.record.specs.Base.{Str, find}
 use Rattle.record.specs.Scalars.{Scalar}
 use Rattle.record.specs.Schema.{Schema}
 use Rattle.record.specs.Letters.{oddLetter}
 use Rattle.record.specs.Commands.{start, commandsAt}
 use Rattle.record.specs.Judge.{judgedAt}
 use Rattle.record.specs.Shapes.{Place, places, limit}
-use Rattle.record.specs.Reading.{Rec, rec, schemaFrom, schemaOf, Opened, opened, large, vast, Reading, read, refuse, Parsed, ok, bad, onto, continued, parse, parsed, vastOr, sizesOf, streamLimit, poolLimit, concluded, reading}
+use Rattle.record.specs.Reading.{Rec, rec, schemaFrom, schemaOf, Opened, opened, large, vast, read, refuse, Parsed, ok, bad, onto, continued, parse, parsed, vastOr, sizesOf, streamLimit, poolLimit, concluded, reading}
 use Rattle.record.specs.Vast.{openedFrom, vastAt, firstVast}
-use Rattle.record.specs.Read.{parsedFrom, outcomeOf, readingOf, Exact, Read}
+use Rattle.record.specs.Read.{parsedFrom, outcomeOf, Exact, Read}
 use Rattle.record.specs.declared.command.Cursor.{Cursor}
 use Rattle.record.specs.declared.command.Command.{Command}
 use Rattle.record.specs.declared.refusal.Side.{Side}
@@ -39,7 +39,8 @@ use Rattle.record.proofs.vast.Vast as vast-type
 use Rattle.record.proofs.Basics.{any-none, find-any}
 use Rattle.record.proofs.Stream.{step-found}
 use Rattle.record.proofs.JudgeLaws.{judged-past}
-use Rattle.record.proofs.Accepted.{judged-step, parsed-is}
+use Rattle.record.proofs.SizeLaws.{cap-low}
+use Rattle.record.proofs.Accepted.{judged-step, parsed-is, accepting}
 
 -- the commands, one at a time -----------------------------------------------------------------------------------------------
 
@@ -99,7 +100,6 @@ pub ruleset commands-laws = (commands-on, commands-done, commands-refused)
 
 -- the whole record ----------------------------------------------------------------------------------------------------------
 
--- a list without a vast type has no field that ends past the limit
 none-some : {A : Type 0} {x : A} → none ≡ some x → ⊥
 none-some e = let z : _≡_ {A = ℕ} 0 1 = cc in omega arith
 
@@ -107,8 +107,11 @@ not-large : (r : Rec) (t : Opened) (f : Place) → vast (schemaOf r) t ≡ false
 unfolding vast large
 not-large r t f a b c = any-none large (places (schemaOf r) 0 (t .fields)) a b c
 
-none-past : (r : Rec) → find (vast (schemaOf r)) (opened (r .stream) (r .pool) (commandsAt (r .stream) 0)) ≡ none → Exact r
-none-past r h t m f i = go (vast (schemaOf r) t) refl
+-- where no type is vast, no field ends past the limit
+ends-within : (r : Rec) → find (vast (schemaOf r)) (opened (r .stream) (r .pool) (commandsAt (r .stream) 0)) ≡ none
+    → (t : Opened) → List·Memᴰ t (opened (r .stream) (r .pool) (commandsAt (r .stream) 0))
+    → (f : Place) → List·Memᴰ f (places (schemaOf r) 0 (t .fields)) → f .offset + f .size ≤ limit
+ends-within r h t m f i = go (vast (schemaOf r) t) refl
   where
     go : (b : Bool) → vast (schemaOf r) t ≡ b → f .offset + f .size ≤ limit
     go true e = let g = find-any (vast (schemaOf r)) _ m e in absurd (none-some (sym h ∙ g .1))
@@ -117,6 +120,13 @@ none-past r h t m f i = go (vast (schemaOf r) t) refl
         within : (c : Bool) → ltb limit (f .offset + f .size) ≡ c → f .offset + f .size ≤ limit
         within false q = ltb-false limit (f .offset + f .size) q
         within true q = absurd (not-large r t f e i q)
+
+-- in an accepted record every size and offset as far as the limit is the size and the offset
+pub accepted-exact : (side : Side) (r : Rec) (t : Schema) → reading side r ≡ read t → Exact r
+accepted-exact side r t h o m f i =
+    let a = accepting side r t h in
+    let l = ends-within r (rw (← a .is-schema) at (a .none-vast)) o m f i in
+    record { ends = l; offset = sym (cap-low (f .offset) (omega arith)); size = sym (cap-low (f .size) (omega arith)) }
 
 refused-is : (r : Rec) (n : Refusal) (q : ℕ) (x : Parsed) → outcomeOf x ≡ O.Refused n q → concluded r true Good x ≡ refuse n q
 unfolding outcomeOf concluded
@@ -197,12 +207,11 @@ module _ (side : Side) (s p : Str) (w : List Scalar) where
 
         pub read-whole : OneOf (0 ∷ []) (tagOf vast-type.the-type v) → Read side (rec s p w) O.Readable
         unfolding vastOr
-        read-whole h =
-            let n = none-is _ (found ∙ none-vast v h) in
-            record { answer = sym (read-all ∙ ap (vastOr (schemaOf (rec s p w))) n); exact = λ z. none-past (rec s p w) n }
+        read-whole h = record { answer = sym whole; exact = λ z. accepted-exact side (rec s p w) (schemaOf (rec s p w)) whole }
           where
             none-vast : (x : Vast) → OneOf (0 ∷ []) (tagOf vast-type.the-type x) → x ≡ NoneVast
             none-vast NoneVast h = refl
             none-vast (VastAt q) h = absurd (omega (arith, h))
 
-pub ruleset read-laws = (read-long, read-wide, read-letter, read-refused, read-vast, read-whole)
+            whole : reading side (rec s p w) ≡ read (schemaOf (rec s p w))
+            whole = read-all ∙ ap (vastOr (schemaOf (rec s p w))) (none-is (find (vast (schemaOf (rec s p w))) (opened s p (commandsAt s 0))) (found ∙ none-vast v h))

@@ -2,7 +2,7 @@
 use Prim.Native.Nat.{ℕ, zero, suc, _+_, _-_, _≤_, _<_}
 use mathlib.Core.List.{List, [], _∷_}
 use mathlib.Core.Bool.{Bool, true, false}
-use mathlib.Core.Path.{_≡_, refl, ap, _∙_}
+use mathlib.Core.Path.{_≡_, refl, ap}
 use native.Mathlib.Omega.{arith}
 use lib.ListN.{length, take, drop, getD}
 use borrow.Author.Tests.{le-leb, lt-leb}
@@ -62,10 +62,6 @@ pub ruleset prim-laws = (prim-hit, prim-miss, prim-none)
 pub built-in : scalarsOf builtInRows ≡ builtIn
 unfolding scalarsOf scalarsAt scalarsFrom scalarAt beforeZero beforeByte placeOf bytes builtIn builtInRows
 built-in = refl
-
--- a caller who lends that table gets the built-in sizes
-pub built-in-size : (w : Str) (r : ℕ) → r ≡ primSize (scalarsOf builtInRows) w → r ≡ primSize builtIn w
-built-in-size w r h = h ∙ ap (λ (l : List Scalar). primSize l w) built-in
 
 -- an example: u16 is of two bytes, i64 is no word of the table
 pub built-in-sizes : (primSize builtIn (bytes "u16") ≡ 2) × (primSize builtIn (bytes "i64") ≡ 0)

@@ -10,9 +10,9 @@ use borrow.Author.Tests.{lt-ltb, le-ltb}
 use Rattle.record.specs.Base.{Str}
 use Rattle.record.specs.Schema.{Schema}
 use Rattle.record.specs.Operands.{flagAt, optTextAt}
-use Rattle.record.specs.Commands.{wide, widths, start, commandsAt}
-use Rattle.record.specs.Judge.{worseOf, missingIn, ifAbsent, textFault, flagFault, operandFault, faultsFrom, ready, judgedWith, judgedAt}
-use Rattle.record.specs.Reading.{Rec, Reading, read, Parsed, ok, bad, continued, onto, parse, parsed, concluded, reading}
+use Rattle.record.specs.Commands.{wide, widths, start}
+use Rattle.record.specs.Judge.{worseOf, missingIn, ifAbsent, textFault, flagFault, operandFault, faultsFrom, judgedWith, judgedAt}
+use Rattle.record.specs.Reading.{Rec, read, ok, continued, onto, parse, parsed, concluded, reading}
 use Rattle.record.specs.declared.operands.OptText.{OptText}
 use Rattle.record.specs.declared.operands.OptText.the-variants.{Absent, Given}
 use Rattle.record.specs.declared.command.Cursor.{Cursor}

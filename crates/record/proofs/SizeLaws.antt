@@ -1,14 +1,14 @@
 -- The cases of the sizes, as the code's branches need them. Assumes nothing.
-use mathlib.Core.Path.{_≡_, refl, sym, ap, ap₂, _∙_}
-use mathlib.Core.List.{List, [], _∷_}
+use mathlib.Core.Path.{_≡_, refl, sym, ap, _∙_}
+use mathlib.Core.List.{List, []}
 use mathlib.Core.Option.{Option, none, some}
-use mathlib.Core.Bool.{Bool, true, false, cond}
+use mathlib.Core.Bool.{Bool, true, false}
 use Prim.Native.Nat.{ℕ, zero, suc, _+_, _-_, _*_, _/_, _≤_, _<_}
 use native.Mathlib.Nat.{le-mul-of-pos-right, le-div-iff-mul-le, div-lt-iff-lt-mul}
 use native.Mathlib.Omega.{arith}
 use lib.Dec.{leb}
 use borrow.Author.Tests.{le-leb, lt-leb, leb-true, leb-false}
-use Rattle.record.specs.Base.{Str, bytes, eqs, orElse, mapOption}
+use Rattle.record.specs.Base.{Str, bytes, orElse, mapOption}
 use Rattle.record.specs.Scalars.{Scalar, primSize}
 use Rattle.record.specs.Schema.{Schema, Key, Enum, Alias, BitField}
 use Rattle.record.specs.Stretch.{textOf}
@@ -45,14 +45,6 @@ unfolding capped
 cap-high n h = rw (lt-leb n limit h)
 
 pub ruleset cap-laws = (cap-low, cap-high)
-
--- a capped size is the size, or both are past the limit
-pub record Capped (n : ℕ) : Type 0 where
-  pub low : n ≤ limit → capped n ≡ n
-  pub high : limit < n → capped n ≡ (limit + 1)
-
-pub capping : (n : ℕ) → Capped n
-capping n = record { low = λ h. sym (cap-low n h); high = λ h. sym (cap-high n h) }
 
 module _ (a b : ℕ) where
   pub sum-first : limit < a → (limit + 1) ≡ capped (a + b)

@@ -7,14 +7,14 @@ use Prim.Native.Nat.{ℕ, suc, _+_, _-_, _≤_, _<_}
 use native.Mathlib.Omega.{arith}
 use types.Run.{OneOf}
 use denote.Enum.Declared.{tagOf}
-use lib.ListN.{length, drop}
+use lib.ListN.{length, getD, drop}
 use Rattle.record.proofs.command.Command.{the-type}
-use Rattle.record.specs.Base.{Str, eqs, find, first}
+use Rattle.record.specs.Base.{Str, bytes, eqs, find, first}
 use Rattle.record.specs.Stretch.{textOf}
 use Rattle.record.specs.Schema.{Alias, BitField, Const, Enum, EnumValue, Family, Field, Heading, Key, Member, Struct, Variant, Version}
-use Rattle.record.specs.Commands.{commandOf, stepAt, commandsAt, aliasAt, bitfieldAt, constantAt, enumAt, familyAt, fieldAt, headAt, keyAt, memberAt, structAt, valueAt, variantAt, versionAt}
+use Rattle.record.specs.Commands.{operands, wide, widths, widthWith, widthOf, commandOf, stepAt, commandsAt, aliasAt, bitfieldAt, constantAt, enumAt, familyAt, fieldAt, headAt, keyAt, memberAt, structAt, valueAt, variantAt, versionAt}
 use Rattle.record.specs.Lists.{listed, anything, nothing, aKey, aField, aliasOf, aliases, bitfieldOf, bitfields, constantOf, constants, enumOf, enums, families, familyOf, fieldOf, fields, headOf, heads, keyOf, keys, memberOf, members, structOf, structs, unstored, valueOf, values, variantOf, variants, versionOf, versions}
-use Rattle.record.specs.Steps.{fieldKeyAt, headsAt, headsOf, headsLeft, HeadsFrom, constantsAt, constantsOf, constantsLeft, ConstantsFrom, constantFound, constantIn, aliasesAt, aliasesOf, aliasesLeft, AliasesFrom, aliasFound, aliasIn, valuesAt, valuesOf, valuesLeft, ValuesFrom, valueFound, valueIn, enumsAt, enumsOf, enumsLeft, EnumsFrom, enumFound, enumIn, membersAt, membersOf, membersLeft, MembersFrom, memberFound, memberIn, bitfieldsAt, bitfieldsOf, bitfieldsLeft, BitfieldsFrom, bitfieldFound, bitfieldIn, keysAt, keysOf, keysLeft, KeysFrom, fieldsAt, fieldsOf, fieldsLeft, FieldsFrom, structsAt, structsOf, structsLeft, StructsFrom, structFound, structIn, variantsAt, variantsOf, variantsLeft, VariantsFrom, familiesAt, familiesOf, familiesLeft, FamiliesFrom, familyFound, familyIn, unstoredAt, unstoredOf, unstoredLeft, UnstoredFrom, versionsAt, versionsOf, versionsLeft, VersionsFrom}
+use Rattle.record.specs.Steps.{fieldKeyAt, FieldPlace, fieldPlaced, headsAt, headsOf, headsLeft, HeadsFrom, constantsAt, constantsOf, constantsLeft, ConstantsFrom, constantFound, constantIn, aliasesAt, aliasesOf, aliasesLeft, AliasesFrom, aliasFound, aliasIn, valuesAt, valuesOf, valuesLeft, ValuesFrom, valueFound, valueIn, enumsAt, enumsOf, enumsLeft, EnumsFrom, enumFound, enumIn, membersAt, membersOf, membersLeft, MembersFrom, memberFound, memberIn, bitfieldsAt, bitfieldsOf, bitfieldsLeft, BitfieldsFrom, bitfieldFound, bitfieldIn, keysAt, keysOf, keysLeft, KeysFrom, fieldsAt, fieldsOf, fieldsLeft, FieldsFrom, structsAt, structsOf, structsLeft, StructsFrom, structFound, structIn, variantsAt, variantsOf, variantsLeft, VariantsFrom, familiesAt, familiesOf, familiesLeft, FamiliesFrom, familyFound, familyIn, unstoredAt, unstoredOf, unstoredLeft, UnstoredFrom, versionsAt, versionsOf, versionsLeft, VersionsFrom}
 use Rattle.record.specs.declared.command as D
 use Rattle.record.specs.declared.command.Cursor.{Cursor}
 use Rattle.record.specs.declared.command.Command.{Command}
@@ -22,8 +22,8 @@ use Rattle.record.specs.declared.command.Command.the-variants as C
 use Rattle.record.specs.declared.command.Step.{Step}
 use Rattle.record.specs.declared.command.Step.the-variants.{Next, Stop}
 use Rattle.record.proofs.Tags.{not-one-of}
-use Rattle.record.proofs.Stream.{step-found}
-use Rattle.record.proofs.ListLaws.{byteOf, other, operands-are, listed-stop, listed-here, listed-over, listed-end, Onward, find-none, find-hit, find-miss}
+use Rattle.record.proofs.Stream.{step-found, commands-here}
+use Rattle.record.proofs.ListLaws.{byteOf, other, byte-is, operands-are, listed-stop, listed-here, listed-over, listed-end, Onward, onward-later, find-none, find-hit, find-miss}
 use Rattle.record.specs.declared.lists.HeadStep.{HeadStep}
 use Rattle.record.specs.declared.lists.HeadStep.the-variants.{NoHead, AHead}
 use Rattle.record.specs.declared.lists.ConstantStep.{ConstantStep}
@@ -76,7 +76,7 @@ module _ (s : Str) (at : ℕ) (r : Step) (i : r ≡ stepAt s at) where
         let g = step-found s at c k (sym i ∙ m) in
         let near = o .on in
         let on = g .on in
-        record { same = λ p. o .same p ∙ listed-over s anything 1 _ at c k (sym i ∙ m) (other (1 ∷ 2 ∷ 3 ∷ 4 ∷ 5 ∷ 6 ∷ 7 ∷ 8 ∷ 9 ∷ 10 ∷ 11 ∷ 12 ∷ 13 ∷ []) 0 c tt h) refl; on = omega arith }
+        record { same = λ p. o .same p ∙ listed-over s anything 1 _ at c k (sym i ∙ m) (other (1 ∷ 2 ∷ 3 ∷ 4 ∷ 5 ∷ 6 ∷ 7 ∷ 8 ∷ 9 ∷ 10 ∷ 11 ∷ 12 ∷ 13 ∷ []) 0 c tt h) refl; on = omega arith; later = onward-later headsAt s a at o c k (sym i ∙ m) }
 
     pub heads-found : (a : ℕ) (e : D.Head.Head) → Onward headsAt s a at → c ≡ C.Head e → HeadsFrom s a (AHead e k)
     heads-found a e o h =
@@ -113,7 +113,7 @@ module _ (s : Str) (at : ℕ) (r : Step) (i : r ≡ stepAt s at) where
         let g = step-found s at c k (sym i ∙ m) in
         let near = o .on in
         let on = g .on in
-        record { same = λ p. o .same p ∙ listed-over s anything 2 _ at c k (sym i ∙ m) (other (0 ∷ 2 ∷ 3 ∷ 4 ∷ 5 ∷ 6 ∷ 7 ∷ 8 ∷ 9 ∷ 10 ∷ 11 ∷ 12 ∷ 13 ∷ []) 1 c tt h) refl; on = omega arith }
+        record { same = λ p. o .same p ∙ listed-over s anything 2 _ at c k (sym i ∙ m) (other (0 ∷ 2 ∷ 3 ∷ 4 ∷ 5 ∷ 6 ∷ 7 ∷ 8 ∷ 9 ∷ 10 ∷ 11 ∷ 12 ∷ 13 ∷ []) 1 c tt h) refl; on = omega arith; later = onward-later constantsAt s a at o c k (sym i ∙ m) }
 
     pub constants-found : (a : ℕ) (e : D.Constant.Constant) → Onward constantsAt s a at → c ≡ C.Constant e → ConstantsFrom s a (AConstant e k)
     constants-found a e o h =
@@ -150,7 +150,7 @@ module _ (s : Str) (at : ℕ) (r : Step) (i : r ≡ stepAt s at) where
         let g = step-found s at c k (sym i ∙ m) in
         let near = o .on in
         let on = g .on in
-        record { same = λ p. o .same p ∙ listed-over s anything 3 _ at c k (sym i ∙ m) (other (0 ∷ 1 ∷ 3 ∷ 4 ∷ 5 ∷ 6 ∷ 7 ∷ 8 ∷ 9 ∷ 10 ∷ 11 ∷ 12 ∷ 13 ∷ []) 2 c tt h) refl; on = omega arith }
+        record { same = λ p. o .same p ∙ listed-over s anything 3 _ at c k (sym i ∙ m) (other (0 ∷ 1 ∷ 3 ∷ 4 ∷ 5 ∷ 6 ∷ 7 ∷ 8 ∷ 9 ∷ 10 ∷ 11 ∷ 12 ∷ 13 ∷ []) 2 c tt h) refl; on = omega arith; later = onward-later aliasesAt s a at o c k (sym i ∙ m) }
 
     pub aliases-found : (a : ℕ) (e : D.TypeAlias.TypeAlias) → Onward aliasesAt s a at → c ≡ C.TypeAlias e → AliasesFrom s a (AnAlias e k)
     aliases-found a e o h =
@@ -220,7 +220,7 @@ module _ (s : Str) (at : ℕ) (r : Step) (i : r ≡ stepAt s at) where
         let g = step-found s at c k (sym i ∙ m) in
         let near = o .on in
         let on = g .on in
-        record { same = λ p. o .same p ∙ listed-over s anything 4 _ at c k (sym i ∙ m) (other (0 ∷ 1 ∷ 2 ∷ 4 ∷ 5 ∷ 6 ∷ 7 ∷ 8 ∷ 9 ∷ 10 ∷ 11 ∷ 12 ∷ 13 ∷ []) 3 c tt h) refl; on = omega arith }
+        record { same = λ p. o .same p ∙ listed-over s anything 4 _ at c k (sym i ∙ m) (other (0 ∷ 1 ∷ 2 ∷ 4 ∷ 5 ∷ 6 ∷ 7 ∷ 8 ∷ 9 ∷ 10 ∷ 11 ∷ 12 ∷ 13 ∷ []) 3 c tt h) refl; on = omega arith; later = onward-later enumsAt s a at o c k (sym i ∙ m) }
 
     pub enums-found : (a : ℕ) (e : D.Enum.Enum) → Onward enumsAt s a at → c ≡ C.Enum e → EnumsFrom s a (AnEnum e k)
     enums-found a e o h =
@@ -290,7 +290,7 @@ module _ (s : Str) (at : ℕ) (r : Step) (i : r ≡ stepAt s at) where
         let g = step-found s at c k (sym i ∙ m) in
         let near = o .on in
         let on = g .on in
-        record { same = λ p. o .same p ∙ listed-over s anything 6 _ at c k (sym i ∙ m) (other (0 ∷ 1 ∷ 2 ∷ 3 ∷ 4 ∷ 6 ∷ 7 ∷ 8 ∷ 9 ∷ 10 ∷ 11 ∷ 12 ∷ 13 ∷ []) 5 c tt h) refl; on = omega arith }
+        record { same = λ p. o .same p ∙ listed-over s anything 6 _ at c k (sym i ∙ m) (other (0 ∷ 1 ∷ 2 ∷ 3 ∷ 4 ∷ 6 ∷ 7 ∷ 8 ∷ 9 ∷ 10 ∷ 11 ∷ 12 ∷ 13 ∷ []) 5 c tt h) refl; on = omega arith; later = onward-later bitfieldsAt s a at o c k (sym i ∙ m) }
 
     pub bitfields-found : (a : ℕ) (e : D.Bitfield.Bitfield) → Onward bitfieldsAt s a at → c ≡ C.Bitfield e → BitfieldsFrom s a (ABitfield e k)
     bitfields-found a e o h =
@@ -376,21 +376,31 @@ module _ (s : Str) (at : ℕ) (r : Step) (i : r ≡ stepAt s at) where
         let g = step-found s at c k (sym i ∙ m) in
         let near = o .on in
         let on = g .on in
-        record { same = λ p. o .same p ∙ listed-over s aKey 11 _ at c k (sym i ∙ m) (λ z. let y = ap byteOf h in omega arith) (ap (λ z. aKey (byteOf z)) h); on = omega arith }
+        record { same = λ p. o .same p ∙ listed-over s aKey 11 _ at c k (sym i ∙ m) (λ z. let y = ap byteOf h in omega arith) (ap (λ z. aKey (byteOf z)) h); on = omega arith; later = onward-later fieldsAt s a at o c k (sym i ∙ m) }
 
     pub fields-over : (a : ℕ) → Onward fieldsAt s a at → OneOf (0 ∷ 1 ∷ 2 ∷ 3 ∷ 4 ∷ 5 ∷ 6 ∷ 7 ∷ 8 ∷ 9 ∷ 12 ∷ 13 ∷ []) (tagOf the-type c) → FieldsFrom s a NoField
     unfolding fieldsAt fields
-    fields-over a o h = record { list = λ p. o .same p ∙ listed-end s aKey 11 _ at c k (sym i ∙ m) (other (0 ∷ 1 ∷ 2 ∷ 3 ∷ 4 ∷ 5 ∷ 6 ∷ 7 ∷ 8 ∷ 9 ∷ 12 ∷ 13 ∷ []) 10 c tt h) (fields-ends c h); left = omega arith }
+    fields-over a o h = record { list = λ p. o .same p ∙ listed-end s aKey 11 _ at c k (sym i ∙ m) (other (0 ∷ 1 ∷ 2 ∷ 3 ∷ 4 ∷ 5 ∷ 6 ∷ 7 ∷ 8 ∷ 9 ∷ 12 ∷ 13 ∷ []) 10 c tt h) (fields-ends c h); left = omega arith; placed = tt }
+
+    fields-placed : (a : ℕ) (e : D.Field.Field) → Onward fieldsAt s a at → c ≡ C.Field e → FieldPlace s a e k
+    unfolding widthOf widthWith operands widths wide bytes
+    fields-placed a e o h =
+        let g = step-found s at c k (sym i ∙ m) in
+        let b : getD s at 0 ≡ 11 = byte-is s at c k (sym i ∙ m) ∙ ap byteOf h in
+        let w : k .at ≡ at + 33 = g .wide ∙ ap (λ (n : ℕ). at + widthOf n) b in
+        let q : k .at - 33 ≡ at = omega arith in
+        let x : e ≡ fieldAt (drop at s) = sym (field-is (drop at s) e (operands-are s at c k (sym i ∙ m) 11 (ap byteOf h) ∙ h)) in
+        record { past = omega arith; in-stream = rw q (o .later at (commands-here s at c k (sym i ∙ m))); number = rw q b; operands = rw q x }
 
     pub fields-found : (a : ℕ) (e : D.Field.Field) → Onward fieldsAt s a at → c ≡ C.Field e → FieldsFrom s a (AField e k)
     fields-found a e o h =
         let g = step-found s at c k (sym i ∙ m) in
         let on = g .on in
         let within = g .within in
-        let near = o .on in record { list = λ p. o .same p ∙ fields-here p e h; left = omega arith }
+        let near = o .on in record { list = λ p. o .same p ∙ fields-here p e h; left = omega arith; placed = fields-placed a e o h }
 
   pub fields-end : (a : ℕ) → Onward fieldsAt s a at → r ≡ Stop → FieldsFrom s a NoField
-  fields-end a o m = record { list = λ p. o .same p ∙ fields-none p m; left = omega arith }
+  fields-end a o m = record { list = λ p. o .same p ∙ fields-none p m; left = omega arith; placed = tt }
 
 pub ruleset fields-laws = (fields-skip-key, fields-over, fields-found, fields-end)
 
@@ -417,7 +427,7 @@ module _ (s : Str) (at : ℕ) (r : Step) (i : r ≡ stepAt s at) where
         let g = step-found s at c k (sym i ∙ m) in
         let near = o .on in
         let on = g .on in
-        record { same = λ p. o .same p ∙ listed-over s anything 8 _ at c k (sym i ∙ m) (other (0 ∷ 1 ∷ 2 ∷ 3 ∷ 4 ∷ 5 ∷ 6 ∷ 8 ∷ 9 ∷ 10 ∷ 11 ∷ 12 ∷ 13 ∷ []) 7 c tt h) refl; on = omega arith }
+        record { same = λ p. o .same p ∙ listed-over s anything 8 _ at c k (sym i ∙ m) (other (0 ∷ 1 ∷ 2 ∷ 3 ∷ 4 ∷ 5 ∷ 6 ∷ 8 ∷ 9 ∷ 10 ∷ 11 ∷ 12 ∷ 13 ∷ []) 7 c tt h) refl; on = omega arith; later = onward-later structsAt s a at o c k (sym i ∙ m) }
 
     pub structs-found : (a : ℕ) (e : D.Struct.Struct) → Onward structsAt s a at → c ≡ C.Struct e → StructsFrom s a (AStruct e k)
     structs-found a e o h =
@@ -470,7 +480,7 @@ module _ (s : Str) (at : ℕ) (r : Step) (i : r ≡ stepAt s at) where
         let g = step-found s at c k (sym i ∙ m) in
         let near = o .on in
         let on = g .on in
-        record { same = λ p. o .same p ∙ listed-over s aField 10 _ at c k (sym i ∙ m) (λ z. let y = ap byteOf h in omega arith) (ap (λ z. aField (byteOf z)) h); on = omega arith }
+        record { same = λ p. o .same p ∙ listed-over s aField 10 _ at c k (sym i ∙ m) (λ z. let y = ap byteOf h in omega arith) (ap (λ z. aField (byteOf z)) h); on = omega arith; later = onward-later variantsAt s a at o c k (sym i ∙ m) }
 
     pub variants-skip-key : (a : ℕ) (x : D.PluginKey.PluginKey) → Onward variantsAt s a at → c ≡ C.PluginKey x → Onward variantsAt s a (k .at)
     unfolding variantsAt variants
@@ -478,7 +488,7 @@ module _ (s : Str) (at : ℕ) (r : Step) (i : r ≡ stepAt s at) where
         let g = step-found s at c k (sym i ∙ m) in
         let near = o .on in
         let on = g .on in
-        record { same = λ p. o .same p ∙ listed-over s aField 10 _ at c k (sym i ∙ m) (λ z. let y = ap byteOf h in omega arith) (ap (λ z. aField (byteOf z)) h); on = omega arith }
+        record { same = λ p. o .same p ∙ listed-over s aField 10 _ at c k (sym i ∙ m) (λ z. let y = ap byteOf h in omega arith) (ap (λ z. aField (byteOf z)) h); on = omega arith; later = onward-later variantsAt s a at o c k (sym i ∙ m) }
 
     pub variants-over : (a : ℕ) → Onward variantsAt s a at → OneOf (0 ∷ 1 ∷ 2 ∷ 3 ∷ 4 ∷ 5 ∷ 6 ∷ 7 ∷ 8 ∷ 12 ∷ 13 ∷ []) (tagOf the-type c) → VariantsFrom s a NoVariant
     unfolding variantsAt variants
@@ -519,7 +529,7 @@ module _ (s : Str) (at : ℕ) (r : Step) (i : r ≡ stepAt s at) where
         let g = step-found s at c k (sym i ∙ m) in
         let near = o .on in
         let on = g .on in
-        record { same = λ p. o .same p ∙ listed-over s anything 9 _ at c k (sym i ∙ m) (other (0 ∷ 1 ∷ 2 ∷ 3 ∷ 4 ∷ 5 ∷ 6 ∷ 7 ∷ 9 ∷ 10 ∷ 11 ∷ 12 ∷ 13 ∷ []) 8 c tt h) refl; on = omega arith }
+        record { same = λ p. o .same p ∙ listed-over s anything 9 _ at c k (sym i ∙ m) (other (0 ∷ 1 ∷ 2 ∷ 3 ∷ 4 ∷ 5 ∷ 6 ∷ 7 ∷ 9 ∷ 10 ∷ 11 ∷ 12 ∷ 13 ∷ []) 8 c tt h) refl; on = omega arith; later = onward-later familiesAt s a at o c k (sym i ∙ m) }
 
     pub families-found : (a : ℕ) (e : D.Family.Family) → Onward familiesAt s a at → c ≡ C.Family e → FamiliesFrom s a (AFamily e k)
     families-found a e o h =
@@ -556,7 +566,7 @@ module _ (s : Str) (at : ℕ) (r : Step) (i : r ≡ stepAt s at) where
         let g = step-found s at c k (sym i ∙ m) in
         let near = o .on in
         let on = g .on in
-        record { same = λ p. o .same p ∙ listed-over s anything 13 _ at c k (sym i ∙ m) (other (0 ∷ 1 ∷ 2 ∷ 3 ∷ 4 ∷ 5 ∷ 6 ∷ 7 ∷ 8 ∷ 9 ∷ 10 ∷ 11 ∷ 13 ∷ []) 12 c tt h) refl; on = omega arith }
+        record { same = λ p. o .same p ∙ listed-over s anything 13 _ at c k (sym i ∙ m) (other (0 ∷ 1 ∷ 2 ∷ 3 ∷ 4 ∷ 5 ∷ 6 ∷ 7 ∷ 8 ∷ 9 ∷ 10 ∷ 11 ∷ 13 ∷ []) 12 c tt h) refl; on = omega arith; later = onward-later unstoredAt s a at o c k (sym i ∙ m) }
 
     pub unstored-found : (a : ℕ) (e : D.PluginKey.PluginKey) → Onward unstoredAt s a at → c ≡ C.UnstoredKey e → UnstoredFrom s a (AnUnstored e k)
     unstored-found a e o h =
@@ -593,7 +603,7 @@ module _ (s : Str) (at : ℕ) (r : Step) (i : r ≡ stepAt s at) where
         let g = step-found s at c k (sym i ∙ m) in
         let near = o .on in
         let on = g .on in
-        record { same = λ p. o .same p ∙ listed-over s anything 14 _ at c k (sym i ∙ m) (other (0 ∷ 1 ∷ 2 ∷ 3 ∷ 4 ∷ 5 ∷ 6 ∷ 7 ∷ 8 ∷ 9 ∷ 10 ∷ 11 ∷ 12 ∷ []) 13 c tt h) refl; on = omega arith }
+        record { same = λ p. o .same p ∙ listed-over s anything 14 _ at c k (sym i ∙ m) (other (0 ∷ 1 ∷ 2 ∷ 3 ∷ 4 ∷ 5 ∷ 6 ∷ 7 ∷ 8 ∷ 9 ∷ 10 ∷ 11 ∷ 12 ∷ []) 13 c tt h) refl; on = omega arith; later = onward-later versionsAt s a at o c k (sym i ∙ m) }
 
     pub versions-found : (a : ℕ) (e : D.Version.Version) → Onward versionsAt s a at → c ≡ C.Version e → VersionsFrom s a (AVersion e k)
     versions-found a e o h =
@@ -801,6 +811,9 @@ module _ (s : Str) (at : ℕ) (r : FieldStep) (f : FieldsFrom s at r) where
 
   pub fields-nearer : (e : D.Field.Field) (k : Cursor) → r ≡ AField e k → length s - k .at < length s - at
   fields-nearer e k m = let h : suc (length s - k .at) ≤ length s - at = subst (λ x. fieldsLeft s x ≤ length s - at) m (f .left) in omega arith
+
+  pub fields-stand : (e : D.Field.Field) (k : Cursor) → r ≡ AField e k → FieldPlace s at e k
+  fields-stand e k m = subst (λ x. fieldPlaced s at x) m (f .placed)
 
 module _ (s : Str) (at : ℕ) (r : StructStep) (f : StructsFrom s at r) where
   -- the list itself, at the step

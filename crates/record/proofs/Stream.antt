@@ -1,8 +1,8 @@
 -- One unjudged step along the stream: it comes nearer to the end, and the places of the commands are its place and the rest. Assumes nothing.
 use Prim.Native.Nat.{ℕ, zero, suc, _+_, _-_, _≤_, _<_}
-use mathlib.Core.List.{List, [], _∷_}
+use mathlib.Core.List.{List, [], _∷_, List·Memᴰ, List·Memᴰ·head, List·Memᴰ·tail}
 use mathlib.Core.Bool.{Bool, true, false, cond}
-use mathlib.Core.Path.{_≡_, refl, sym, ap, _∙_}
+use mathlib.Core.Path.{_≡_, refl, sym, ap, subst, _∙_}
 use native.Mathlib.Omega.{arith}
 use borrow.Author.Tests.{eqb-false, ltb-true, ltb-false}
 use lib.Dec.{eqb, ltb}
@@ -33,6 +33,7 @@ taken false b2 b3 b4 d c j k e = record { inside = cc; going = cc; known = cc; w
 -- what a step says of the bytes at its place
 pub record Found (s : List ℕ) (at : ℕ) (c : Command) (k : Cursor) : Type 0 where
   pub on : at < k .at
+  pub wide : k .at ≡ at + widthOf (getD s at 0)
   pub within : k .at ≤ length s
   pub is-command : commandOf (getD s at 0) (drop at s) ≡ c
   pub known : widthOf (getD s at 0) ≡ 0 → ⊥
@@ -48,7 +49,7 @@ module _ (s : List ℕ) (at : ℕ) (c : Command) (k : Cursor) (e : stepAt s at �
       let p : at < length s = ltb-true at (length s) (t .inside) in
       let q : widthOf b ≤ length s - at = ltb-false (length s - at) (widthOf b) (t .whole) in
       let z : widthOf b ≡ 0 → ⊥ = eqb-false (widthOf b) 0 (t .known) in
-      record { on = omega arith; within = omega arith; is-command = t .that; known = z; going = eqb-false b 15 (t .going) }
+      record { on = omega arith; wide = sym n; within = omega arith; is-command = t .that; known = z; going = eqb-false b 15 (t .going) }
 
 -- the cursor moves on
 pub nearer : (s : List ℕ) (at : ℕ) (r : Step) (c : Command) (k : Cursor) → r ≡ stepAt s at → r ≡ Next c k → length s - k .at < length s - at
@@ -91,3 +92,11 @@ module _ (s : List ℕ) (at : ℕ) where
       go : at < k .at → k .at ≤ length s → (n : ℕ) → length s ≤ n + at → commandsFrom n s at ≡ at ∷ commandsAt s (k .at)
       go a b zero p = absurd (omega arith)
       go a b (suc n) p = rw (e, commandsFrom) (ap (λ (l : List ℕ). at ∷ l) (enough s n (length s - k .at) (k .at) (omega arith) (omega arith)))
+
+  module _ (c : Command) (k : Cursor) (e : stepAt s at ≡ Next c k) where
+    -- a command's place is the first of those from it on, and the places after it are among them
+    pub commands-here : List·Memᴰ at (commandsAt s at)
+    commands-here = subst (λ (l : List ℕ). List·Memᴰ at l) (sym (commands-next c k e)) (List·Memᴰ·head refl)
+
+    pub commands-later : (v : ℕ) → List·Memᴰ v (commandsAt s (k .at)) → List·Memᴰ v (commandsAt s at)
+    commands-later v m = subst (λ (l : List ℕ). List·Memᴰ v l) (sym (commands-next c k e)) (List·Memᴰ·tail m)

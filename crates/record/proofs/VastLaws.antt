@@ -1,24 +1,24 @@
 -- The laws of the types in the order of the stream, and of the ends of their fields. Assumes nothing.
-use mathlib.Core.Path.{_≡_, refl, sym, ap, ap₂, subst, _∙_}
+use mathlib.Core.Path.{_≡_, refl, sym, ap, subst, _∙_}
 use mathlib.Core.List.{List, [], _∷_, _++_}
-use mathlib.Core.Option.{Option, none, some}
-use mathlib.Core.Bool.{Bool, true, false, _||_, cond}
+use mathlib.Core.Option.{none}
+use mathlib.Core.Bool.{Bool, true, false, _||_}
 use Prim.Native.Nat.{ℕ, suc, _+_, _-_, _≤_, _<_}
 use native.Mathlib.Omega.{arith}
 use types.Run.{OneOf}
 use denote.Enum.Declared.{tagOf}
-use lib.ListN.{length, getD, drop}
-use lib.Dec.{eqb, ltb, leb}
+use lib.ListN.{length, drop}
+use lib.Dec.{ltb, leb}
 use borrow.Author.Tests.{lt-ltb, le-ltb, ne-eqb, leb-true, leb-false}
-use Rattle.record.specs.Base.{Str, bytes, eqs, any, find, orElse}
+use Rattle.record.specs.Base.{Str, bytes, eqs, any, orElse}
 use Rattle.record.specs.Scalars.{Scalar, primSize}
 use Rattle.record.specs.Schema.{Schema, Field, Family}
-use Rattle.record.specs.Commands.{commandOf, familyAt, start, stepAt, commandsAt}
+use Rattle.record.specs.Commands.{commandOf, familyAt, stepAt, commandsAt}
 use Rattle.record.specs.Lists.{optOf, fieldOf, familyOf, fields}
 use Rattle.record.specs.Steps.{enumsAt, fieldsAt, fieldKeyAt, FieldsFrom}
 use Rattle.record.specs.Kind.{kindOf, meaning, words}
 use Rattle.record.specs.Shapes.{enumSize, sized, scalarSize, sizeAs, shapeSize, Place, placeOf, places, plain, prefix, limit, capped}
-use Rattle.record.specs.Reading.{Rec, rec, schemaFrom, schemaOf, Opened, openedAt, opened, large, vast}
+use Rattle.record.specs.Reading.{rec, schemaFrom, schemaOf, openedAt, opened, large, vast}
 use Rattle.record.specs.Vast.{openedFrom, openedOf, openedLeft, OpenedFrom, discSize, lenSize, frontEnd, vastAt, firstVast}
 use Rattle.record.specs.declared.operands.OptText.{OptText}
 use Rattle.record.specs.declared.operands.OptText.the-variants.{Given}
@@ -32,11 +32,10 @@ use Rattle.record.specs.declared.lists.FieldStep.{FieldStep}
 use Rattle.record.specs.declared.lists.FieldStep.the-variants.{NoField, AField}
 use Rattle.record.specs.declared.vast.TypeStep.{TypeStep}
 use Rattle.record.specs.declared.vast.TypeStep.the-variants.{NoType, Plain, Fronted}
-use Rattle.record.specs.declared.vast.Vast.{Vast}
 use Rattle.record.specs.declared.vast.Vast.the-variants.{NoneVast, VastAt}
 use Rattle.record.proofs.command.Command.{the-type}
 use Rattle.record.proofs.Stream.{step-found, commands-stop, commands-next}
-use Rattle.record.proofs.ListLaws.{byteOf, other, byte-is, operands-are, Onward, find-none, find-hit, find-miss}
+use Rattle.record.proofs.ListLaws.{byteOf, other, byte-is, operands-are, Onward, onward-later, find-none, find-hit, find-miss}
 use Rattle.record.proofs.StepLaws.{fields-over-now, fields-now, fields-nearer}
 use Rattle.record.proofs.SizeLaws.{cap-low, cap-high, keyless}
 
@@ -100,6 +99,7 @@ module _ (s : Str) (at : ℕ) (r : Step) (i : r ≡ stepAt s at) (a : ℕ) (o : 
           same = λ p. o .same p ∙ types-at p (byteOf c) refl
               ∙ rw (byte-is s at c k (sym i ∙ m), ne-eqb (byteOf c) 9 (other ks 8 c tt h), ne-eqb (byteOf c) 8 (other ks 7 c tt h), ne-eqb (byteOf c) 10 (other ks 9 c tt h));
           on = omega arith;
+          later = onward-later openedFrom s a at o c k (sym i ∙ m);
         }
 
 pub ruleset type-laws = (types-end, types-struct, types-variant, types-family, types-skip)

@@ -1,8 +1,8 @@
 -- The walk finds the first root that leads to a name. Assumes nothing.
 use mathlib.Core.Path.{_≡_, refl, sym, _∙_, ap, subst}
-use mathlib.Core.List.{List, [], _∷_, _++_, map, List·Memᴰ, List·Memᴰ·head, List·Memᴰ·tail, List·Memᴰ·not-nil, Memᴰ·map, Memᴰ·cast, Memᴰ·append-left, Memᴰ·append-right}
+use mathlib.Core.List.{List, [], _∷_, map, List·Memᴰ, List·Memᴰ·head, List·Memᴰ·tail, List·Memᴰ·not-nil, Memᴰ·map, Memᴰ·cast, Memᴰ·append-left, Memᴰ·append-right}
 use mathlib.Core.Option.{Option, none, some}
-use mathlib.Core.Bool.{Bool, true, false, _&&_, not, cond, false≢true}
+use mathlib.Core.Bool.{Bool, true, false, cond, false≢true}
 use mathlib.Core.Logic.{_⊎_, inl, inr}
 use Prim.Native.Nat.{ℕ, zero, suc, _+_, _≤_}
 use native.Mathlib.Omega.{arith}
@@ -11,7 +11,7 @@ use Rattle.record.specs.Base.{Str, eqs, find}
 use Rattle.record.specs.Schema.{Field, Struct, Family}
 use Rattle.record.specs.Steps.{structIn, familyIn}
 use Rattle.record.specs.Owner.{Types, Owned, ownedIn, hasSlot, referenced, fieldsIn, typeFields, unless, enter, visit, visitAll, claim, declared, claimRoots, roots, rootOf, ownerOf, Edge, Leads, here, along, First, now, later}
-use Rattle.record.proofs.Basics.{eqs→eq, eqs-refl, find-some, find-any}
+use Rattle.record.proofs.Basics.{eqs→eq, eqs-refl, find-some}
 
 -- the name stands in the list
 abbrev Has : List Owned → Str → Type 0
@@ -26,14 +26,6 @@ has-or-not os n = go (ownedIn os n) refl
 
 none≢some : {A : Type 0} {a : A} → none ≡ some a → ⊥
 none≢some e = let z : _≡_ {A = ℕ} 0 1 = cc in omega arith
-
-has-cons : (o : Owned) (os : List Owned) (n : Str) → Has os n → Has (o ∷ os) n
-unfolding ownedIn find
-has-cons o os n h = go (eqs (o .name) n)
-  where
-    go : (b : Bool) → (x : Owned) × (cond b (some o) (find (λ (u : Owned). eqs (u .name) n) os) ≡ some x)
-    go true = (o, refl)
-    go false = h
 
 has-head : (n r : Str) (os : List Owned) → Has (record { name = n; root = r } ∷ os) n
 unfolding ownedIn find

@@ -1,23 +1,21 @@
--- Laws on digits, on a store, and on what a writer has put so far. Assumes nothing.
-use mathlib.Core.Path.{_≡_, refl, sym, ap, _∙_}
-use mathlib.Core.List.{List, [], _∷_, _++_, append-assoc, append-nil}
+-- Laws on digits, on a store, and on bytes put one after the other. Assumes nothing.
+use mathlib.Core.Path.{_≡_, refl, sym, ap, ap₂, subst, _∙_}
+use mathlib.Core.List.{List, [], _∷_, _++_, append-assoc}
+use mathlib.Core.Bool.{Bool, true, false}
+use mathlib.Core.Logic.{_⊎_, inl, inr, ⊎-elim}
 use Prim.Native.Nat.{ℕ, zero, suc, _+_, _-_, _/_, _%_, _^_, _≤_, _<_}
-use native.Mathlib.Nat.{pow-suc, div-lt-iff-lt-mul}
+use native.Mathlib.Nat.{pow-suc, div-lt-iff-lt-mul, zero-add, add-zero}
 use native.Mathlib.Numerals.{add-one, sub-one}
 use native.Mathlib.Omega.{arith}
-use mathlib.Core.Bool.{true, false}
 use lib.Dec.{leb}
-use borrow.Author.Tests.{le-ltb, lt-ltb, le-leb, lt-leb}
-use lib.ListN.{length, getD, take, drop, set, length-append, length-drop, length-take, List·getD-eq-default, take-append-drop}
-use lib.Seq.{set-split, drop-at, length-take-le, take-suc, paste, paste-zero, paste-suc, take-all, take-length, take-append-seam, drop-append-add, drop-drop}
-use Rattle.record.specs.Base.{digits, decimal, signed}
-use Rattle.record.specs.Fill.{placed, argOf, pickOf, filled, fronted}
-use Rattle.record.specs.Write.{Writes}
+use borrow.Author.Tests.{le-ltb, lt-ltb, le-leb, lt-leb, leb-true, leb-false}
+use lib.ListN.{length, getD, take, drop, set, length-append, length-drop, length-take}
+use lib.Seq.{set-split, drop-at, take-at, length-take-le, paste, paste-zero, paste-suc, take-length, drop-append-add, drop-drop}
+use Rattle.record.specs.Base.{Str, digits, decimal, signed}
+use Rattle.record.specs.Fill.{placed, fronted}
+use Rattle.record.specs.Write.{largest, saturated, Puts}
 use Rattle.record.specs.Stretch.{textOf}
 use Rattle.record.specs.declared.text.Text.{Text}
-use Rattle.record.specs.declared.writer.Written.the-variants.{Whole, NoRoom}
-use Rattle.record.specs.declared.writer.Arg.{Arg}
-use Rattle.record.specs.declared.writer.Arg.the-variants.{Nothing, Byte}
 
 -- an element is stored where a rest begins
 pub drop-set : (l : List ℕ) (i v : ℕ) → i < length l → drop i (set l i v) ≡ v ∷ drop (suc i) l
@@ -76,88 +74,153 @@ pub no-sign : (v : ℕ) → v < 2 ^ 63 → decimal v ≡ signed v
 unfolding signed
 no-sign v h = simp (lt-ltb v (2 ^ 63) h)
 
--- what is left of an array of 21
-pub rest-length : (s : ℕ) (bs : List ℕ) → length bs ≡ 21 → length (drop s bs) ≡ 21 - s
-rest-length s bs h = simp length-drop (omega arith)
+-- places as far as the largest number ------------------------------------------------------------------------------------
 
-pub rest-all : (s : ℕ) (bs : List ℕ) → length bs ≡ 21 → take (21 - s) (drop s bs) ≡ drop s bs
-rest-all s bs h = let e = rest-length s bs h in take-all (21 - s) (drop s bs) (omega arith)
+pub sat-low : (n : ℕ) → n ≤ largest → n ≡ saturated n
+unfolding saturated
+sat-low n h = rw (le-leb n largest h)
 
--- the three kinds of a template's byte
-module _ (args : List Arg) (b : ℕ) where
-  pub pick-itself : 32 ≤ b → Byte b ≡ pickOf args b
-  unfolding pickOf
-  pick-itself h = simp (le-ltb b 32 h)
+pub sat-high : (n : ℕ) → largest < n → largest ≡ saturated n
+unfolding saturated
+sat-high n h = rw (lt-leb n largest h)
 
-  pub pick-arg : b < 32 → getD args b Nothing ≡ pickOf args b
-  unfolding pickOf
-  pick-arg h = simp (lt-ltb b 32 h)
+sat-cases : (n : ℕ) → ((n ≤ largest) × (saturated n ≡ n)) ⊎ ((largest < n) × (saturated n ≡ largest))
+sat-cases n = go (leb n largest) refl
+  where
+    go : (b : Bool) → leb n largest ≡ b → ((n ≤ largest) × (saturated n ≡ n)) ⊎ ((largest < n) × (saturated n ≡ largest))
+    go true e = inl (leb-true n largest e, sym (sat-low n (leb-true n largest e)))
+    go false e = inr (leb-false n largest e, sym (sat-high n (leb-false n largest e)))
 
-  pub pick-none : b < 32 → length args ≤ b → Nothing ≡ pickOf args b
-  unfolding pickOf
-  pick-none h l = simp (lt-ltb b 32 h, List·getD-eq-default args Nothing {n = b} l)
+sat-below : (n : ℕ) → saturated n ≤ n
+sat-below n = ⊎-elim (λ w. omega arith) (λ w. omega arith) (sat-cases n)
 
--- a text is short, and a number's text has the length that its start says
-pub text-short : (xs pool : List ℕ) (t : Text) → t .len < 256 → xs ≡ textOf pool t → length xs ≤ 255
-unfolding textOf
-text-short xs pool t h e = rw e (simp length-take (omega arith))
+-- a place is exact where it is below the largest
+sat-exact : (n : ℕ) → saturated n < largest → saturated n ≡ n
+sat-exact n h = ⊎-elim (λ w. w .1) (λ w. absurd (omega arith)) (sat-cases n)
 
-pub text-length : (s : ℕ) (bs xs : List ℕ) → drop s bs ≡ xs → length bs ≡ 21 → 21 - s ≡ length xs
-text-length s bs xs e h = sym (rest-length s bs h) ∙ ap length e
+sat-past : (n : ℕ) → largest ≤ n → saturated n ≡ largest
+sat-past n h = ⊎-elim (λ w. omega arith) (λ w. w .1) (sat-cases n)
 
--- nothing is put
-pub placed-none : (l : List ℕ) (at : ℕ) → l ≡ placed l at []
+-- it does not matter where one stops to count
+sat-plus : (a b : ℕ) → saturated (saturated a + b) ≡ saturated (a + b)
+sat-plus a b =
+    ⊎-elim (λ w. ap (λ (n : ℕ). saturated (n + b)) (w .1))
+    (λ w. ap (λ (n : ℕ). saturated (n + b)) (w .1) ∙ sat-past (largest + b) (omega arith) ∙ sym (sat-past (a + b) (omega arith)))
+    (sat-cases a)
+
+module _ (at n : ℕ) where
+  pub after-low : n ≤ largest - at → at ≤ largest → at + n ≡ saturated (at + n)
+  after-low h l = sat-low (at + n) (omega arith)
+
+  pub after-high : largest - at < n → largest ≡ saturated (at + n)
+  after-high h = sat-high (at + n) (omega arith)
+
+-- bytes in their place ---------------------------------------------------------------------------------------------------
+
+length-placed : (out xs : Str) (at : ℕ) → at + length xs ≤ length out → length (placed out at xs) ≡ length out
 unfolding placed
-placed-none l at = paste-zero l at []
+length-placed out xs at h = simp (length-append, length-take, length-drop) (omega arith)
 
--- one piece more at the front of a buffer
-pub front-more : (o w p : List ℕ) → placed (fronted o w) (length w) p ≡ fronted o (w ++ p)
-unfolding placed fronted
-front-more o w p = simp (take-append-seam, drop-append-add, drop-drop, length-append)
+placed-none : (out : Str) (at : ℕ) → out ≡ placed out at []
+unfolding placed
+placed-none out at = paste-zero out at []
 
-pub front-none : (o : List ℕ) → o ≡ fronted o []
+placed-then : (out xs ys : Str) (at : ℕ) → at ≤ length out → placed (placed out at xs) (at + length xs) ys ≡ placed out at (xs ++ ys)
+unfolding placed
+placed-then out xs ys at h =
+    let w = take at out ++ xs in
+    let d = drop (at + length xs) out in
+    let l : length w ≡ at + length xs = length-append (take at out) xs ∙ ap (λ (n : ℕ). n + length xs) (length-take-le at out h) in
+    let a : take (at + length xs) (w ++ d) ≡ w = take-at w d (at + length xs) l in
+    let b : drop (at + length xs + length ys) (w ++ d) ≡ drop (at + length xs + length ys) out =
+    ap (λ (n : ℕ). drop (n + length ys) (w ++ d)) (sym l) ∙ drop-append-add w d (length ys) ∙ drop-drop (length ys) (at + length xs) out in
+    let e : at + length xs + length ys ≡ at + length (xs ++ ys) = rw length-append (omega arith) in
+    rw (a, b, e, append-assoc (take at out) xs ys)
+
+-- at its front
+pub front-none : (out : Str) → out ≡ fronted out []
 unfolding fronted
-front-none o = refl
+front-none out = refl
 
-module _ (new old : List ℕ) (args : List Arg) where
-  pub filled-append : (s t : List ℕ) → filled new old args (s ++ t) ≡ filled new old args s ++ filled new old args t
-  unfolding filled
-  filled-append [] t = refl
-  filled-append (b ∷ s) t = simp (filled-append s t, append-assoc)
+placed-front : (out xs : Str) → placed out 0 xs ≡ fronted out xs
+unfolding placed fronted
+placed-front out xs = rw zero-add
 
-  -- one byte more of the template
-  pub filled-more : (t : List ℕ) (i : ℕ) (a : Arg) → i < length t → a ≡ pickOf args (getD t i 0) → filled new old args (take (i + 1) t) ≡ filled new old args (take i t) ++ argOf new old a
-  unfolding filled
-  filled-more t i a h e =
-      let q : filled new old args (getD t i 0 ∷ []) ≡ argOf new old a = append-nil _ ∙ ap (argOf new old) (sym e) in
-      rw (add-one, take-suc t i 0 h, filled-append) (ap (λ r. filled new old args (take i t) ++ r) q)
+-- puts -------------------------------------------------------------------------------------------------------------------
 
-  pub length-more : (t : List ℕ) (i n r : ℕ) (a : Arg) → i < length t → a ≡ pickOf args (getD t i 0) → n ≡ length (filled new old args (take i t)) → r ≡ length (argOf new old a)
-      → n + r ≡ length (filled new old args (take (i + 1) t))
-  length-more t i n r a h e hn hr = rw (filled-more t i a h e, length-append, hn, hr)
+module _ (out xs : Str) (at end : ℕ) (e : end ≡ saturated (at + length xs)) where
+  -- what does not fit is not put
+  pub puts-over : length out ≤ largest → length out < end → Puts out at xs out end
+  puts-over l h = record {
+    end = e;
+    long = refl;
+    fits = l;
+    bytes = λ w. absurd (let b = sat-below (at + length xs) in omega arith);
+  }
 
-  -- what is to be put next fits where the whole does
-  pub room : (t : List ℕ) (i n m : ℕ) (a : Arg) → i < length t → a ≡ pickOf args (getD t i 0) → n ≡ length (filled new old args (take i t)) → length (filled new old args t) ≤ m
-      → n + length (argOf new old a) ≤ m
-  room t i n m a h e hn hm =
-      let k = length-more t i n _ a h e hn refl in
-      let w : filled new old args t ≡ filled new old args (take (i + 1) t) ++ filled new old args (drop (i + 1) t) = ap (filled new old args) (sym (take-append-drop (i + 1) t)) ∙ filled-append (take (i + 1) t) (drop (i + 1) t) in
-      let l = ap length w ∙ length-append (filled new old args (take (i + 1) t)) (filled new old args (drop (i + 1) t)) in
-      omega arith
+  -- what ends within the buffer fits
+  pub put-room : length out < largest → end ≤ length out → at + length xs ≤ length out
+  put-room l h = let x = sat-exact (at + length xs) (omega arith) in omega arith
 
-  -- a piece is put after those that stand
-  pub stepped : (t o out : List ℕ) (i n : ℕ) (a : Arg) → i < length t → a ≡ pickOf args (getD t i 0) → n ≡ length (filled new old args (take i t)) → out ≡ fronted o (filled new old args (take i t))
-      → placed out n (argOf new old a) ≡ fronted o (filled new old args (take (i + 1) t))
-  stepped t o out i n a h e hn ho = rw (ho, hn, filled-more t i a h e) (front-more o _ _)
+  pub puts-in : (after : Str) → length out < largest → end ≤ length out → after ≡ placed out at xs → Puts out at xs after end
+  puts-in after l h w = record {
+    end = e;
+    long = ap length w ∙ length-placed out xs at (put-room l h);
+    fits = omega arith;
+    bytes = λ _. w;
+  }
 
--- what writing answers
-module _ (out xs after : List ℕ) (n : ℕ) (e : n ≡ length xs) where
-  pub writes-whole : n ≤ length out → after ≡ fronted out xs → Writes out xs after (Whole n)
-  writes-whole h w =
-      let t : leb (length xs) (length out) ≡ true = le-leb (length xs) (length out) (omega arith) in
-      record { answer = rw (t, e); bytes = rw t w }
+pub puts-none : (out : Str) (at : ℕ) → at ≤ largest → length out ≤ largest → Puts out at [] out at
+puts-none out at h l = record {
+  end = rw add-zero (sat-low at h);
+  long = refl;
+  fits = l;
+  bytes = λ _. placed-none out at;
+}
 
-  pub writes-none : length out < n → after ≡ out → Writes out xs after (NoRoom n)
-  writes-none h w =
-      let t : leb (length xs) (length out) ≡ false = lt-leb (length xs) (length out) (omega arith) in
-      record { answer = rw (t, e); bytes = rw t w }
+-- one put after another
+pub puts-then : {out xs ys mid after : Str} {at q r : ℕ} → Puts out at xs mid q → Puts mid q ys after r → Puts out at (xs ++ ys) after r
+puts-then {out} {xs} {ys} {mid} {after} {at} {q} {r} a b =
+    let l : at + length xs + length ys ≡ at + length (xs ++ ys) = rw length-append (omega arith) in
+    record {
+      end = b .end ∙ ap (λ (n : ℕ). saturated (n + length ys)) (a .end) ∙ sat-plus (at + length xs) (length ys) ∙ ap saturated l;
+      long = b .long ∙ a .long;
+      fits = a .fits;
+      bytes = λ h.
+          let f = a .fits in
+          let e : q ≡ at + length xs = a .end ∙ sym (sat-low (at + length xs) (omega arith)) in
+          let m : mid ≡ placed out at xs = a .bytes (omega arith) in
+          let k = a .long in
+          let w : after ≡ placed mid q ys = b .bytes (omega arith) in
+          w ∙ ap₂ (λ (x : Str) (n : ℕ). placed x n ys) m e ∙ placed-then out xs ys at (omega arith);
+    }
+
+-- the bytes may be given by an equation
+pub puts-as : {out xs ys after : Str} {at r : ℕ} → Puts out at xs after r → xs ≡ ys → Puts out at ys after r
+puts-as {out} {xs} {ys} {after} {at} {r} p e = subst (λ (l : Str). Puts out at l after r) e p
+
+-- how far it goes: no further than the bytes reach, and just as far where no place passes the largest
+pub puts-near : {out xs after : Str} {at r : ℕ} → Puts out at xs after r → r ≤ at + length xs
+puts-near {out} {xs} {after} {at} p = let e = p .end in let b = sat-below (at + length xs) in omega arith
+
+pub puts-exact : {out xs after : Str} {at r : ℕ} → Puts out at xs after r → r < largest → r ≡ at + length xs
+puts-exact {out} {xs} {after} {at} p h = let e = p .end in p .end ∙ sat-exact (at + length xs) (omega arith)
+
+pub puts-whole : {out xs after : Str} {at r : ℕ} → Puts out at xs after r → at + length xs ≤ largest → r ≡ at + length xs
+puts-whole {out} {xs} {after} {at} p h = p .end ∙ sym (sat-low (at + length xs) h)
+
+-- the answer is a number of the machine
+pub puts-small : {out xs after : Str} {at r : ℕ} → Puts out at xs after r → r ≤ largest
+puts-small {out} {xs} {after} {at} p = let e = p .end in ⊎-elim (λ w. omega arith) (λ w. omega arith) (sat-cases (at + length xs))
+
+-- the bytes at the front of a buffer that holds them
+pub puts-front : {out xs after : Str} {r : ℕ} → Puts out 0 xs after r → length xs ≤ length out → after ≡ fronted out xs
+puts-front {out} {xs} p h = p .bytes (omega arith) ∙ placed-front out xs
+
+-- what is put is short
+pub text-short : (xs pool : Str) (t : Text) → xs ≡ textOf pool t → length xs ≤ t .len
+unfolding textOf
+text-short xs pool t e = rw e (simp length-take (omega arith))
+
+pub rest-short : (s : ℕ) (xs bs : Str) → xs ≡ drop s bs → length xs ≤ length bs
+rest-short s xs bs e = rw e (simp length-drop (omega arith))

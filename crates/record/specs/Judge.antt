@@ -1,6 +1,6 @@
 -- One command judged: refusals 2, 1, 3, 4, 5, 6 of 01, each at the command's place. Assumes nothing.
 use Prim.Native.Nat.{ℕ, _+_, _-_}
-use mathlib.Core.List.{List, [], _∷_}
+use mathlib.Core.List.{[], _∷_}
 use mathlib.Core.Option.{Option, none, some}
 use mathlib.Core.Bool.{Bool, true, false, _||_, not, cond}
 use lib.ListN.{getD, length, drop}

@@ -1,11 +1,11 @@
 -- What the reading call answers. Assumes nothing.
 use mathlib.Core.Path.{_≡_}
-use mathlib.Core.List.{List, List·Memᴰ}
+use mathlib.Core.List.{List·Memᴰ}
 use Prim.Native.Nat.{ℕ, _+_, _-_, _≤_}
 use lib.ListN.{length}
 use Rattle.record.specs.Base.{Str}
 use Rattle.record.specs.Commands.{commandsAt}
-use Rattle.record.specs.Shapes.{Place, places, limit}
+use Rattle.record.specs.Shapes.{Place, places, limit, capped}
 use Rattle.record.specs.Reading.{Rec, schemaOf, Opened, opened, Reading, read, refuse, Parsed, ok, bad, parse, reading}
 use Rattle.record.specs.declared.command.Cursor.{Cursor}
 use Rattle.record.specs.declared.refusal.Side.{Side}
@@ -25,11 +25,17 @@ abbrev pub readingOf : Rec → Outcome → Reading
 readingOf r Readable = read (schemaOf r)
 readingOf r (Refused n p) = refuse n p
 
--- every field of every type ends within the limit, so sizes and offsets as far as the limit are exact
+-- a field that ends within the limit: its offset and its size as far as the limit are exact
+pub record Exactly (f : Place) : Type 0 where
+  pub ends : f .offset + f .size ≤ limit
+  pub offset : capped (f .offset) ≡ f .offset
+  pub size : capped (f .size) ≡ f .size
+
+-- every field of every type is such
 abbrev pub Exact : Rec → Type 0
 Exact r =
     (t : Opened) → List·Memᴰ t (opened (r .stream) (r .pool) (commandsAt (r .stream) 0))
-    → (f : Place) → List·Memᴰ f (places (schemaOf r) 0 (t .fields)) → f .offset + f .size ≤ limit
+    → (f : Place) → List·Memᴰ f (places (schemaOf r) 0 (t .fields)) → Exactly f
 
 pub record Read (side : Side) (r : Rec) (o : Outcome) : Type 0 where
   pub answer : readingOf r o ≡ reading side r

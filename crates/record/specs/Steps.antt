@@ -1,13 +1,15 @@
 -- The lists of a record from a place on, and what a step along each answers. Written by tools/lists.py. Assumes nothing.
 use mathlib.Core.Path.{_≡_}
-use mathlib.Core.List.{List, [], _∷_}
+use mathlib.Core.List.{List, [], _∷_, List·Memᴰ}
 use mathlib.Core.Option.{Option, none, some}
 use Prim.Native.Nat.{ℕ, suc, _-_, _≤_}
-use lib.ListN.{length}
+use lib.ListN.{length, getD, drop}
 use Rattle.record.specs.Base.{Str, eqs, find, first}
 use Rattle.record.specs.Schema.{Alias, BitField, Const, Enum, EnumValue, Family, Field, Heading, Key, Member, Struct, Variant, Version}
-use Rattle.record.specs.Commands.{commandsAt}
+use Rattle.record.specs.Commands.{fieldAt, commandsAt}
 use Rattle.record.specs.Lists.{aliasOf, aliases, bitfieldOf, bitfields, constantOf, constants, enumOf, enums, families, familyOf, fieldOf, fields, headOf, heads, keyOf, keys, memberOf, members, structOf, structs, unstored, valueOf, values, variantOf, variants, versionOf, versions}
+use Rattle.record.specs.declared.command as D
+use Rattle.record.specs.declared.command.Cursor.{Cursor}
 use Rattle.record.specs.declared.lists.HeadStep.{HeadStep}
 use Rattle.record.specs.declared.lists.HeadStep.the-variants.{NoHead, AHead}
 use Rattle.record.specs.declared.lists.ConstantStep.{ConstantStep}
@@ -96,11 +98,6 @@ headsLeft s (AHead e k) = suc (length s - k .at)
 pub record HeadsFrom (s : Str) (at : ℕ) (r : HeadStep) : Type 0 where
   pub list : (p : Str) → headsAt s p at ≡ headsOf s p r
   pub left : headsLeft s r ≤ length s - at
-
--- the element alone
-abbrev pub headFound : Str → Str → HeadStep → Option Heading
-headFound s p NoHead = none
-headFound s p (AHead e k) = some (headOf p e)
 
 -- constants: the list at a step, and one more than the bytes after the element
 abbrev pub constantsOf : Str → Str → ConstantStep → List Const
@@ -247,10 +244,16 @@ pub record KeysFrom (s : Str) (at : ℕ) (r : KeyStep) : Type 0 where
   pub list : (p : Str) → keysAt s p at ≡ keysOf s p r
   pub left : keysLeft s r ≤ length s - at
 
--- the element alone
-abbrev pub keyFound : Str → Str → KeyStep → Option Key
-keyFound s p NoKey = none
-keyFound s p (AKey e k) = some (keyOf p e)
+-- a field stands 33 bytes before the cursor after it, among the commands from a place on
+pub record FieldPlace (s : Str) (at : ℕ) (e : D.Field.Field) (k : Cursor) : Type 0 where
+  pub past : 33 ≤ k .at
+  pub in-stream : List·Memᴰ (k .at - 33) (commandsAt s at)
+  pub number : getD s (k .at - 33) 0 ≡ 11
+  pub operands : e ≡ fieldAt (drop (k .at - 33) s)
+
+abbrev pub fieldPlaced : Str → ℕ → FieldStep → Type 0
+fieldPlaced s at NoField = Unit
+fieldPlaced s at (AField e k) = FieldPlace s at e k
 
 -- fields: the list at a step, and one more than the bytes after the element
 abbrev pub fieldsOf : Str → Str → FieldStep → List Field
@@ -264,11 +267,7 @@ fieldsLeft s (AField e k) = suc (length s - k .at)
 pub record FieldsFrom (s : Str) (at : ℕ) (r : FieldStep) : Type 0 where
   pub list : (p : Str) → fieldsAt s p at ≡ fieldsOf s p r
   pub left : fieldsLeft s r ≤ length s - at
-
--- the element alone
-abbrev pub fieldFound : Str → Str → FieldStep → Option Field
-fieldFound s p NoField = none
-fieldFound s p (AField e k) = some (fieldOf p e (fieldKeyAt s p (k .at)))
+  pub placed : fieldPlaced s at r
 
 -- structs: the list at a step, and one more than the bytes after the element
 abbrev pub structsOf : Str → Str → StructStep → List Struct
@@ -305,11 +304,6 @@ pub record VariantsFrom (s : Str) (at : ℕ) (r : VariantStep) : Type 0 where
   pub list : (p : Str) → variantsAt s p at ≡ variantsOf s p r
   pub left : variantsLeft s r ≤ length s - at
 
--- the element alone
-abbrev pub variantFound : Str → Str → VariantStep → Option Variant
-variantFound s p NoVariant = none
-variantFound s p (AVariant e k) = some (variantOf p e (fieldsAt s p (k .at)))
-
 -- families: the list at a step, and one more than the bytes after the element
 abbrev pub familiesOf : Str → Str → FamilyStep → List Family
 familiesOf s p NoFamily = []
@@ -345,11 +339,6 @@ pub record UnstoredFrom (s : Str) (at : ℕ) (r : UnstoredStep) : Type 0 where
   pub list : (p : Str) → unstoredAt s p at ≡ unstoredOf s p r
   pub left : unstoredLeft s r ≤ length s - at
 
--- the element alone
-abbrev pub unstoredFound : Str → Str → UnstoredStep → Option Key
-unstoredFound s p NoUnstored = none
-unstoredFound s p (AnUnstored e k) = some (keyOf p e)
-
 -- versions: the list at a step, and one more than the bytes after the element
 abbrev pub versionsOf : Str → Str → VersionStep → List Version
 versionsOf s p NoVersion = []
@@ -362,8 +351,3 @@ versionsLeft s (AVersion e k) = suc (length s - k .at)
 pub record VersionsFrom (s : Str) (at : ℕ) (r : VersionStep) : Type 0 where
   pub list : (p : Str) → versionsAt s p at ≡ versionsOf s p r
   pub left : versionsLeft s r ≤ length s - at
-
--- the element alone
-abbrev pub versionFound : Str → Str → VersionStep → Option Version
-versionFound s p NoVersion = none
-versionFound s p (AVersion e k) = some (versionOf p e)

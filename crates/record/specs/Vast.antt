@@ -4,7 +4,7 @@ use mathlib.Core.List.{List, [], _∷_, _++_}
 use mathlib.Core.Option.{Option, none, some}
 use Prim.Native.Nat.{ℕ, suc, _+_, _-_, _≤_}
 use lib.ListN.{length}
-use Rattle.record.specs.Base.{Str, bytes, orElse, find}
+use Rattle.record.specs.Base.{Str, find}
 use Rattle.record.specs.Schema.{Schema, Family}
 use Rattle.record.specs.Commands.{commandsAt}
 use Rattle.record.specs.Lists.{familyOf}

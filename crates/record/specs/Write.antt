@@ -1,19 +1,25 @@
--- What writing a message leaves in the buffer, and what it answers. Assumes nothing.
-use Prim.Native.Nat.{ℕ}
+-- What putting bytes into a buffer leaves in it, and what it answers. Assumes nothing.
+use Prim.Native.Nat.{ℕ, _+_, _≤_}
 use mathlib.Core.Path.{_≡_}
-use mathlib.Core.Bool.{Bool, true, false, cond}
-use mathlib.Core.List.{List}
+use mathlib.Core.Bool.{cond}
 use lib.ListN.{length}
 use lib.Dec.{leb}
-use Rattle.record.specs.Fill.{fronted}
-use Rattle.record.specs.declared.writer.Written.{Written}
-use Rattle.record.specs.declared.writer.Written.the-variants.{Whole, NoRoom}
+use Rattle.record.specs.Base.{Str}
+use Rattle.record.specs.Fill.{placed}
 
-abbrev pub answerIf : Bool → ℕ → Written
-answerIf true n = Whole n
-answerIf false n = NoRoom n
+-- the largest number of 64 bits
+abbrev pub largest : ℕ
+largest = 18446744073709551615
 
--- the buffer before, the message, the buffer afterwards and the answer: a message that fits stands at the front, with the rest as it was; else nothing is written
-pub record Writes (out xs after : List ℕ) (r : Written) : Type 0 where
-  pub answer : r ≡ answerIf (leb (length xs) (length out)) (length xs)
-  pub bytes : after ≡ cond (leb (length xs) (length out)) (fronted out xs) out
+-- a number as far as the largest, which stands for all that are larger
+unfoldable pub saturated : ℕ → ℕ
+saturated n = cond (leb n largest) n largest
+
+-- the buffer before, a place in it, the bytes, the buffer afterwards and the answer. The answer is the place after the bytes, whether they fit or not;
+-- where they fit they stand in their place, with the rest as it was
+pub record Puts (out : Str) (at : ℕ) (xs after : Str) (r : ℕ) : Type 0 where
+  pub end : r ≡ saturated (at + length xs)
+  pub long : length after ≡ length out
+  -- lists of the machine are no longer
+  pub fits : length out ≤ largest
+  pub bytes : at + length xs ≤ length out → after ≡ placed out at xs

@@ -134,7 +134,7 @@ fn head_at(s: &[u8]) -> Head
     }
 }
 
-fn constant_at(s: &[u8]) -> Constant
+pub fn constant_at(s: &[u8]) -> Constant
     ensures { λ r. ⌜ r ≡ constantAt (now (s .entry)) ⌝ }
 {
     Constant {

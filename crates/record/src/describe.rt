@@ -1,4 +1,4 @@
-// How a field's type reads: shape_type of the Rust, as the parts of the text.
+// How a field's type reads: shape_type of the Rust, as the parts of the text, and the text put into a buffer.
 use crate::command::Field;
 use crate::kind::Kind;
 use crate::kind::kind_of;
@@ -6,18 +6,34 @@ use crate::operands::OptText;
 use crate::sizes::or_else;
 use crate::text::Text;
 use crate::text::bytes_of;
+use crate::writer::put;
+use crate::writer::put_number;
+use crate::writer::put_text;
+use crate::writer::put_worded;
 ghost use mathlib.Core.Path.{_≡_};
 ghost use mathlib.Core.Option.{none};
+ghost use mathlib.Core.List.{_++_};
+ghost use Prim.Native.Nat.{_+_, _≤_};
+ghost use Rattle.record.specs.Base.{bytes};
+ghost use Rattle.record.specs.Stretch.{textOf};
 ghost use Rattle.record.specs.Lists.{fieldOf};
 ghost use Rattle.record.specs.Shapes.{shapeType};
-ghost use Rattle.record.specs.Describe.{describedAs};
+ghost use Rattle.record.specs.Write.{Puts};
+ghost use Rattle.record.specs.Describe.{elementOf, times, describedAs};
 
-// A kind alone; a kind and a name; a kind, an element and a count; a kind, an element, rows and columns.
 pub enum Description {
+    // A kind alone.
     Plain(Text),
+    // A kind and a name.
     Named(Text, Text),
+    // A kind, an element and a count.
     Array(Text, OptText, u32),
+    // A kind, an element, rows and columns.
     Array2d(Text, OptText, u32, u32),
+    // A family's discriminant, an enum of that name.
+    Discriminant(Text),
+    // A family's length field, a scalar of that word.
+    Length(OptText),
 }
 
 // How a field's type reads: an array by its element and dimensions, any other kind by the type it names or else its element.
@@ -43,6 +59,61 @@ pub fn shape_type(pool: &[u8], f: Field) -> Description
                 return Description::Named(kind, name);
             }
             Description::Plain(kind)
+        }
+    }
+}
+
+// Puts the word of a scalar: a byte's where none is given.
+fn put_element(out: &mut [u8], at: usize, pool: &[u8], word: OptText) -> usize
+    ensures { λ r. ⌜ Puts (now (out .entry)) at (elementOf (now (pool .entry)) word) (now (out .exit)) r × (r ≤ at + 255) ⌝ }
+{
+    match word {
+        OptText::Absent => put(out, at, b"u8"),
+        OptText::Given(t) => put_text(out, at, pool, t),
+    }
+}
+
+// Puts a dimension of an array.
+fn put_times(out: &mut [u8], at: usize, n: u32) -> usize
+    ensures { λ r. ⌜ Puts (now (out .entry)) at (times n) (now (out .exit)) r × (r ≤ at + 24) ⌝ }
+{
+    let next = put(out, at, b" x ");
+    put_number(out, next, n as u64)
+}
+
+// Puts a kind and the space after it.
+fn put_kind(out: &mut [u8], at: usize, pool: &[u8], kind: Text) -> usize
+    ensures { λ r. ⌜ Puts (now (out .entry)) at (textOf (now (pool .entry)) kind ++ bytes " ") (now (out .exit)) r × (r ≤ at + 256) ⌝ }
+{
+    let next = put_text(out, at, pool, kind);
+    put(out, next, b" ")
+}
+
+// Puts a description.
+pub fn put_description(out: &mut [u8], at: usize, pool: &[u8], d: Description) -> usize
+    ensures { λ r. ⌜ Puts (now (out .entry)) at (describedAs (now (pool .entry)) d) (now (out .exit)) r × (r ≤ at + 559) ⌝ }
+{
+    match d {
+        Description::Plain(kind) => put_text(out, at, pool, kind),
+        Description::Named(kind, name) => {
+            let next = put_kind(out, at, pool, kind);
+            put_text(out, next, pool, name)
+        }
+        Description::Array(kind, element, n) => {
+            let next = put_kind(out, at, pool, kind);
+            let past = put_element(out, next, pool, element);
+            put_times(out, past, n)
+        }
+        Description::Array2d(kind, element, m, n) => {
+            let next = put_kind(out, at, pool, kind);
+            let past = put_element(out, next, pool, element);
+            let rows = put_times(out, past, m);
+            put_times(out, rows, n)
+        }
+        Description::Discriminant(name) => put_worded(out, at, b"enum ", pool, name),
+        Description::Length(word) => {
+            let next = put(out, at, b"scalar ");
+            put_element(out, next, pool, word)
         }
     }
 }

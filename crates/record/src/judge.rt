@@ -13,10 +13,10 @@ use crate::text::Text;
 ghost use mathlib.Core.Path.{_≡_};
 ghost use Prim.Native.Nat.{_≤_, _+_};
 ghost use lib.ListN.{length};
-ghost use lib.Dec.{leb, eqb};
+ghost use lib.Dec.{eqb};
 ghost use mathlib.Core.Bool.{not};
 ghost use Rattle.record.specs.Commands.{wide};
-ghost use Rattle.record.specs.Judge.{worseOf, ifAbsent, textFault, flagFault, operandFault, faultsFrom, parentAfter, moved, follows, isOpen, inFamily, ready, judgedWith, judgedAt};
+ghost use Rattle.record.specs.Judge.{worseOf, ifAbsent, textFault, flagFault, operandFault, faultsFrom, parentAfter, follows, isOpen, inFamily, ready, judgedWith, judgedAt};
 
 // The least refusal among a command's operands, 4 before 5 before 6.
 pub enum Fault {

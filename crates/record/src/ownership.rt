@@ -55,10 +55,9 @@ fn owner_in(stream: &[u8], pool: &[u8], marks: &[u8], name: &[u8], slot: &[u8], 
     Owner::Nobody
 }
 
-// The owner of a name, from the marks of the record: many names may be asked of one walk.
+// The owner of a name where the marks are the record's: many names may be asked of one walk.
 pub fn owner_among(stream: &[u8], pool: &[u8], marks: &[u8], name: &[u8]) -> Owner
-    requires { ⌜ OwnerMarks (now stream) (now pool) (now marks) ⌝ }
-    ensures { λ r. ⌜ Answered (now (stream .entry)) (now (pool .entry)) (now (name .entry)) r ⌝ }
+    ensures { λ r. ⌜ (OwnerMarks (now (stream .entry)) (now (pool .entry)) (now (marks .entry)) → Answered (now (stream .entry)) (now (pool .entry)) (now (name .entry)) r) ⌝ }
 {
     if let Owner::Owned(t) = owner_in(stream, pool, marks, name, b"metadata", 1) {
         return Owner::Owned(t);

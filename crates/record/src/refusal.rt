@@ -1,11 +1,22 @@
 // How a record is read, and why it is refused.
 ghost use mathlib.Core.Path.{_≡_};
-ghost use Rattle.record.specs.Refusals.{refusalNumber};
+ghost use Rattle.record.specs.Refusals.{refusalNumber, sideNumber};
 
 // A record is read as the one about to ship, or as the copy of the last release.
 pub enum Side {
     Current,
     Released,
+}
+
+impl Side {
+    pub fn number(self) -> u32
+        ensures { λ r. ⌜ r ≡ sideNumber self ⌝ }
+    {
+        match self {
+            Side::Current => 0,
+            Side::Released => 1,
+        }
+    }
 }
 
 pub enum Refusal {

@@ -5,7 +5,7 @@ use crate::cut::upto;
 use crate::text::same;
 ghost use mathlib.Core.Path.{_≡_};
 ghost use lib.ListN.{take, drop};
-ghost use Rattle.record.specs.Scalars.{beforeZero, scalarsOf, primSize};
+ghost use Rattle.record.specs.Scalars.{beforeZero, scalarsOf, primSize, builtInRows};
 
 // The word of the row at a place.
 pub fn row_word(rows: &[u8], at: usize) -> &[u8]
@@ -33,4 +33,11 @@ pub fn prim_size(rows: &[u8], word: &[u8]) -> u32
         at += 9;
     }
     0
+}
+
+// The table of the words that every schema has.
+pub fn built_in() -> [u8; 36]
+    ensures { λ r. ⌜ r ≡ builtInRows ⌝ }
+{
+    *b"char\x00\x00\x00\x00\x01u16\x00\x00\x00\x00\x00\x02u32\x00\x00\x00\x00\x00\x04u8\x00\x00\x00\x00\x00\x00\x01"
 }

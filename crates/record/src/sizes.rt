@@ -21,7 +21,7 @@ ghost use Rattle.record.specs.Base.{bytes, orElse};
 ghost use Rattle.record.specs.Scalars.{scalarsOf, primSize};
 ghost use Rattle.record.specs.Lists.{optOf, numberOf, fieldOf};
 ghost use Rattle.record.specs.Steps.{enumsAt, aliasesAt, bitfieldsAt};
-ghost use Rattle.record.specs.Shapes.{enumSize, aliasSize, bitfieldSize, sized, shapeSize, limit, capped};
+ghost use Rattle.record.specs.Shapes.{enumSize, aliasSize, bitfieldSize, sized, shapeSize, capped};
 ghost use Rattle.record.specs.Reading.{rec, schemaOf};
 
 // The largest end of a field that number 9 lets pass.

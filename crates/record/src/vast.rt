@@ -15,7 +15,7 @@ use crate::sizes::wide;
 ghost use mathlib.Core.Path.{_≡_};
 ghost use mathlib.Core.List.{[], _++_};
 ghost use Prim.Native.Nat.{_≤_};
-ghost use Rattle.record.specs.Base.{any, find};
+ghost use Rattle.record.specs.Base.{any};
 ghost use Rattle.record.specs.Scalars.{scalarsOf};
 ghost use Rattle.record.specs.Lists.{familyOf};
 ghost use Rattle.record.specs.Steps.{fieldsAt};

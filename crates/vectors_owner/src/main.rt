@@ -1,15 +1,11 @@
 // Replays the oracle's answers of owners, data/owners: each vector is a stream, a pool and a name (a length of four bytes, little-endian, and the
 // bytes), the answer (a byte: 0 none, 1 an owner, 2 a refused record) and two numbers of four bytes (the start and the length of the owner's name;
 // the refusal's number and place; 0 and 0). Prints how many there are and how many differ.
+use layout::owner::menqachu_owner;
 use parts::read_byte;
 use parts::read_number;
 use parts::read_part;
 use parts::report;
-use record::ownership::Owner;
-use record::ownership::owner_of;
-use record::read::Outcome;
-use record::read::read_record;
-use record::refusal::Side;
 
 enum Turn {
     Same,
@@ -24,36 +20,19 @@ struct Answer {
     second: usize,
 }
 
-fn owner_answer(stream: &[u8], pool: &[u8], name: &[u8]) -> Answer {
-    let Owner::Owned(t) = owner_of(stream, pool, name) else {
-        return Answer {
-            kind: 0,
-            first: 0,
-            second: 0,
-        };
-    };
-    Answer {
-        kind: 1,
-        first: t.start as usize,
-        second: t.len as usize,
-    }
-}
-
-// A refused record answers its refusal, whatever the name.
 fn reply(stream: &[u8], pool: &[u8], name: &[u8]) -> Answer {
-    let outcome = read_record(
-        Side::Current,
-        b"char\x00\x00\x00\x00\x01u16\x00\x00\x00\x00\x00\x02u32\x00\x00\x00\x00\x00\x04u8\x00\x00\x00\x00\x00\x00\x01",
-        stream,
-        pool,
-    );
-    let Outcome::Refused(refusal, place) = outcome else {
-        return owner_answer(stream, pool, name);
-    };
+    let f = menqachu_owner(stream, pool, name);
+    if f.number != 0 {
+        return Answer {
+            kind: 2,
+            first: f.number as usize,
+            second: f.place,
+        };
+    }
     Answer {
-        kind: 2,
-        first: refusal.number() as usize,
-        second: place,
+        kind: f.owned as usize,
+        first: f.start as usize,
+        second: f.len as usize,
     }
 }
 

@@ -8,6 +8,7 @@ use parts::report;
 use record::read::Outcome;
 use record::read::read_record;
 use record::refusal::Side;
+use record::scalars::built_in;
 
 enum Turn {
     Same,
@@ -35,12 +36,8 @@ fn side_of(n: usize) -> Side {
 }
 
 fn judge(stream: &[u8], pool: &[u8], side: usize, number: usize, place: usize) -> Turn {
-    let outcome = read_record(
-        side_of(side),
-        b"char\x00\x00\x00\x00\x01u16\x00\x00\x00\x00\x00\x02u32\x00\x00\x00\x00\x00\x04u8\x00\x00\x00\x00\x00\x00\x01",
-        stream,
-        pool,
-    );
+    let rows = built_in();
+    let outcome = read_record(side_of(side), &rows, stream, pool);
     if agrees(outcome, number, place) {
         Turn::Same
     } else {

@@ -263,6 +263,12 @@ fn e46_undeclared_names_cycles_and_depth() {
         names(&[r, r, r])
     );
     assert_eq!(owner_names("e46 a long chain"), names(&[Some("0")]));
+    for full in [
+        "e46 as many undeclared names as a stream holds",
+        "e46 the deepest walk",
+    ] {
+        assert_eq!(owner_names(full), names(&[r]), "{full}");
+    }
 }
 
 #[test]

@@ -202,6 +202,12 @@ fn walks() -> Vec<FixedQuestion> {
         ),
         fixed("e46 a long chain", long_chain(), &["759"]),
         fixed(
+            "e46 as many undeclared names as a stream holds",
+            undeclared(),
+            &["991"],
+        ),
+        fixed("e46 the deepest walk", deepest_walk(), &["t"]),
+        fixed(
             "d42 the call does not shorten its name",
             plain().with(metadata("a").field(pointer("p", "b"))),
             &["a::b", "b::c", "a", "b"],
@@ -221,6 +227,21 @@ fn long_chain() -> Content {
         });
     }
     chain
+}
+
+/// A root whose fields fill the stream, each with another undeclared name.
+fn undeclared() -> Content {
+    let names = (0..=991).map(|n| n.to_string());
+    plain().with(names.fold(metadata("r"), |r, n| r.field(pointer("p", &n))))
+}
+
+/// A type whose references to itself fill the stream: no walk has more of a
+/// record's fields under way at once.
+fn deepest_walk() -> Content {
+    let itself = std::iter::repeat_n(pointer("p", "t"), 991);
+    plain()
+        .with(metadata("r").field(pointer("p", "t")))
+        .with(itself.fold(structure("t"), Struct::field))
 }
 
 /// Finding C23: which operand a reference is in.

@@ -1,22 +1,23 @@
+use mathlib.Core.Path.{refl}
 use Rattle.record.specs.Base.{bytes}
-use Rattle.record.specs.Fill.{joined, pickOf, filled}
+use Rattle.record.specs.Fill.{joined}
+use Rattle.compare.specs.Template.{pickOf, filled}
 use Rattle.compare.specs.Verdicts.{messageOf, bitFieldGone}
-use borrow.Author.Needs.{needs}
 use Rattle.compare.proofs.messages.write_bit_field_gone.Statement.{statement}
 use Rattle.compare.proofs.messages.write_bit_field_gone.Tie as tie
 
-slice-aggregate-write : tie.Need-slice-aggregate-write
-slice-aggregate-write c = search needs
+slice-aggregate-write-one : tie.Need-slice-aggregate-write-one
+slice-aggregate-write-one c = refl
 
-write-requires : tie.Need-write-requires
-write-requires c κs = search needs
+write-one-requires : tie.Need-write-one-requires
+write-one-requires c κs = tt
 
 same-length : tie.Need-same-length
-same-length c = search needs
+same-length c = c .before .out .given
 
 returns : tie.Need-returns
 unfolding bytes joined pickOf filled messageOf bitFieldGone
-returns c = c .before .before .write .ensures
+returns c = c .before .before .write-one .ensures
 
 pub write-bit-field-gone-spec : {M : Type 1} → statement M
-write-bit-field-gone-spec = tie.close (tie.spec slice-aggregate-write write-requires same-length returns)
+write-bit-field-gone-spec = tie.close (tie.spec slice-aggregate-write-one write-one-requires same-length returns)

@@ -1,22 +1,23 @@
+use mathlib.Core.Path.{refl}
 use Rattle.record.specs.Base.{bytes}
-use Rattle.record.specs.Fill.{joined, pickOf, filled}
+use Rattle.record.specs.Fill.{joined}
+use Rattle.compare.specs.Template.{pickOf, filled}
 use Rattle.compare.specs.Verdicts.{messageOf, widthChanged}
-use borrow.Author.Needs.{needs}
 use Rattle.compare.proofs.messages.write_width_changed.Statement.{statement}
 use Rattle.compare.proofs.messages.write_width_changed.Tie as tie
 
-slice-aggregate-write : tie.Need-slice-aggregate-write
-slice-aggregate-write c = search needs
+slice-aggregate-write-four : tie.Need-slice-aggregate-write-four
+slice-aggregate-write-four c = refl
 
-write-requires : tie.Need-write-requires
-write-requires c κs = search needs
+write-four-requires : tie.Need-write-four-requires
+write-four-requires c κs = tt
 
 same-length : tie.Need-same-length
-same-length c = search needs
+same-length c = c .before .out .given
 
 returns : tie.Need-returns
 unfolding bytes joined pickOf filled messageOf widthChanged
-returns c = c .before .before .write .ensures
+returns c = c .before .before .write-four .ensures
 
 pub write-width-changed-spec : {M : Type 1} → statement M
-write-width-changed-spec = tie.close (tie.spec slice-aggregate-write write-requires same-length returns)
+write-width-changed-spec = tie.close (tie.spec slice-aggregate-write-four write-four-requires same-length returns)

@@ -1,7 +1,6 @@
 use Rattle.record.proofs.CommandLaws.{none-width}
 use Rattle.record.specs.Commands.{operands, wide, widths, widthWith, widthOf}
 use Rattle.record.specs.Base.{bytes}
-use borrow.Author.Needs.{needs}
 use Rattle.record.proofs.command.width_of.Statement.{statement}
 use Rattle.record.proofs.command.width_of.Tie as tie
 use Rattle.record.proofs.command.width_of.Reads as reads

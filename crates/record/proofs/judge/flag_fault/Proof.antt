@@ -1,5 +1,4 @@
 use Rattle.record.proofs.JudgeLaws.{flag-laws}
-use borrow.Author.Needs.{needs}
 use Rattle.record.proofs.judge.flag_fault.Statement.{statement}
 use Rattle.record.proofs.judge.flag_fault.Tie as tie
 use Rattle.record.proofs.judge.flag_fault.Reads as reads

@@ -1,5 +1,4 @@
 use Rattle.record.proofs.JudgeLaws.{parent-laws}
-use borrow.Author.Needs.{needs}
 use Rattle.record.proofs.judge.parent_after.Statement.{statement}
 use Rattle.record.proofs.judge.parent_after.Tie as tie
 use Rattle.record.proofs.judge.parent_after.Reads as reads

@@ -1,5 +1,4 @@
 use Rattle.record.proofs.JudgeLaws.{wide-laws}
-use borrow.Author.Needs.{needs}
 use Rattle.record.proofs.judge.width.Statement.{statement}
 use Rattle.record.proofs.judge.width.Tie as tie
 use Rattle.record.proofs.judge.width.Reads as reads

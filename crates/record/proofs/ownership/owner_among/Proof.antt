@@ -22,7 +22,7 @@ enum-known-t c = search needs
 -- src/ownership.rt:63:9
 returns : tie.Need-returns
 unfolding bytes
-returns c = search answer-first
+returns c = λ g. search answer-first
 
 enum-told : tie.Need-enum-told
 enum-told c = search needs
@@ -42,7 +42,7 @@ enum-known-t-2 c = search needs
 -- src/ownership.rt:66:9
 returns-2 : tie.Need-returns-2
 unfolding bytes
-returns-2 c = search answer-second
+returns-2 c = λ g. search answer-second
 
 enum-told-2 : tie.Need-enum-told-2
 enum-told-2 c = search needs
@@ -58,7 +58,7 @@ owner-in-requires-3 c κs = search needs
 -- src/ownership.rt:59:1
 returns-3 : tie.Need-returns-3
 unfolding bytes
-returns-3 c = search answer-third
+returns-3 c = λ g. search answer-third
 
 pub owner-among-spec : {M : Type 1} → statement M
 owner-among-spec =

@@ -1,4 +1,4 @@
-use Rattle.record.proofs.OwnerLaws.{marks-are, found-beyond, found-within}
+use Rattle.record.proofs.OwnerLaws.{found-beyond, found-within}
 use borrow.Author.Needs.{needs}
 use Rattle.record.proofs.ownership.owner_by.Statement.{statement}
 use Rattle.record.proofs.ownership.owner_by.Tie as tie
@@ -17,7 +17,7 @@ mark-owners-requires c κs = search needs
 
 -- src/ownership.rt:79:5
 owner-among-requires : tie.Need-owner-among-requires
-owner-among-requires c κs = search marks-are
+owner-among-requires c κs = search needs
 
 -- src/ownership.rt:72:1
 same-length : tie.Need-same-length

@@ -1,32 +1,26 @@
-use mathlib.Core.Path.{ap, _∙_}
-use Rattle.record.specs.Fill.{placed}
-use Rattle.record.proofs.WriterLaws.{rest-all}
+use mathlib.Core.Path.{_≡_}
+use lib.ListN.{length}
+use Rattle.record.proofs.WriterLaws.{puts-as, puts-near, rest-short}
+use native.Mathlib.Omega.{arith}
 use borrow.Author.Needs.{needs}
 use Rattle.record.proofs.writer.put_digits.Statement.{statement}
 use Rattle.record.proofs.writer.put_digits.Tie as tie
 
-sub-put : tie.Need-sub-put
-sub-put c = search needs
+slice-aggregate-from : tie.Need-slice-aggregate-from
+slice-aggregate-from c = search needs
 
-part-put-start : tie.Need-part-put-start
-part-put-start c = search needs
-
-part-put-end : tie.Need-part-put-end
-part-put-end c = search needs
+from-requires : tie.Need-from-requires
+from-requires c κs = search needs
 
 put-requires : tie.Need-put-requires
-put-requires c κs =
-    let a = c .before .before .before .before .before in
-    rw (rest-all (a .args .d .start) (a .args .d .bytes) (a .pre .2)) (a .pre .0)
+put-requires c κs = search needs
 
 same-length : tie.Need-same-length
 same-length c = search needs
 
 returns : tie.Need-returns
-returns c =
-    let a = c .before .before .before .before .before .before .before .before in
-    c .before .before .put .ensures ∙ ap (placed (a .args .out .now) (a .args .at)) (rest-all (a .args .d .start) (a .args .d .bytes) (a .pre .2))
+returns c = let l : length (c .before .before .before .before .before .before .before .before .args .d .bytes) ≡ 21 = search needs in (search puts-as, omega (arith, puts-near, rest-short))
 
 pub put-digits-spec : {M : Type 1} → statement M
 put-digits-spec =
-    tie.close (tie.spec sub-put part-put-start part-put-end put-requires same-length returns)
+    tie.close (tie.spec slice-aggregate-from from-requires put-requires same-length returns)

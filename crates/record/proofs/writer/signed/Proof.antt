@@ -10,7 +10,7 @@ decimal-requires : tie.Need-decimal-requires
 decimal-requires c κs = search needs
 
 returns : tie.Need-returns
-returns c = (c .decimal .ensures .0 ∙ no-sign _ (c .before .if1 .taken), omega arith, c .decimal .ensures .3)
+returns c = (c .decimal .ensures .0 ∙ no-sign _ (c .before .if1 .taken), c .decimal .ensures .3)
 
 sub-decimal : tie.Need-sub-decimal
 sub-decimal c = search needs
@@ -31,7 +31,7 @@ returns-2 : tie.Need-returns-2
 returns-2 c =
     let d = c .before .before .decimal2 in
     let s = c .before .before .before .before in
-    (sign (s .args .v) (d .result .start) (d .result .bytes) (c .before .before .before .if1 .left) (s .fits .v .fits) (omega arith) (omega arith) (d .ensures .0), omega arith, simp length-set (d .ensures .3))
+    (sign (s .args .v) (d .result .start) (d .result .bytes) (c .before .before .before .if1 .left) (s .fits .v .fits) (omega arith) (omega arith) (d .ensures .0), simp length-set (d .ensures .3))
 
 pub signed-spec : {M : Type 1} → statement M
 signed-spec =

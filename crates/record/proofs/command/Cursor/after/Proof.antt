@@ -1,5 +1,4 @@
 use Rattle.record.proofs.JudgeLaws.{follows-laws}
-use borrow.Author.Needs.{needs}
 use Rattle.record.proofs.command.Cursor.after.Statement.{statement}
 use Rattle.record.proofs.command.Cursor.after.Tie as tie
 use Rattle.record.proofs.command.Cursor.after.Reads as reads

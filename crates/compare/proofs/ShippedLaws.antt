@@ -1,0 +1,207 @@
+-- The look-ups of what the copy says of an item, as the code's branches need them. b and q are the released stream and pool, n the name sought.
+-- Assumes nothing.
+use mathlib.Core.Path.{_≡_, refl, sym, ap, _∙_}
+use mathlib.Core.List.{List, [], _∷_}
+use mathlib.Core.Option.{Option, none, some}
+use mathlib.Core.Bool.{Bool, true, false, _&&_, cond}
+use Prim.Native.Nat.{ℕ, suc, _<_}
+use native.Mathlib.Omega.{arith}
+use lib.ListN.{length}
+use Rattle.record.specs.Base.{Str, eqs, mapOption, lastOr, findLast}
+use Rattle.record.specs.Schema.{Const, Enum, Key}
+use Rattle.record.specs.Stretch.{textOf}
+use Rattle.record.specs.Commands.{start}
+use Rattle.record.specs.Steps.{constantsAt, enumsAt, valuesAt, structsAt, unstoredAt, ConstantsFrom, EnumsFrom, valueIn, enumFound, valueFound}
+use Rattle.record.specs.Keys.{pluginKeys, keysFrom, pluginKeysOf, AllKeys, PluginKeysFrom}
+use Rattle.record.specs.Dates.{Dated}
+use Rattle.record.specs.declared.text.Text.{Text}
+use Rattle.record.specs.declared.operands.OptText.{OptText}
+use Rattle.record.specs.declared.operands.OptText.the-variants as O
+use Rattle.record.specs.declared.command as D
+use Rattle.record.specs.declared.command.Cursor.{Cursor}
+use Rattle.record.specs.declared.keys.KeysAt.{KeysAt}
+use Rattle.record.specs.declared.keys.PluginKeyStep.{PluginKeyStep}
+use Rattle.record.specs.declared.keys.PluginKeyStep.the-variants.{NoPluginKey, APluginKey}
+use Rattle.record.specs.declared.lists.ConstantStep.{ConstantStep}
+use Rattle.record.specs.declared.lists.ConstantStep.the-variants.{NoConstant, AConstant}
+use Rattle.record.specs.declared.lists.EnumStep.{EnumStep}
+use Rattle.record.specs.declared.lists.EnumStep.the-variants.{NoEnum, AnEnum}
+use Rattle.record.specs.declared.lists.ValueStep.{ValueStep}
+use Rattle.record.specs.declared.lists.ValueStep.the-variants.{NoValue, AValue}
+use Rattle.record.proofs.StepLaws.{constants-now, constants-over-now, enums-now, enums-over-now}
+use Rattle.compare.specs.Shipped.{constantRelease, apiEnum, enumRelease, valueRelease, keyRelease, shippedOf, ShippedWith, EnumShipped}
+use Rattle.compare.specs.declared.shipped.Shipped.{Shipped}
+use Rattle.compare.specs.declared.shipped.Shipped.the-variants.{Absent, Named, Unstated}
+
+-- each step makes the list of keys shorter: its length is a measure for loops over them
+pub plugin-keys-nearer : (s p : Str) (at : KeysAt) (r : PluginKeyStep) → PluginKeysFrom s at r → (e : D.PluginKey.PluginKey) (k : KeysAt) → r ≡ APluginKey e k
+    → length (keysFrom s p k) < length (keysFrom s p at)
+plugin-keys-nearer s p at r f e k m =
+    let h : length (keysFrom s p at) ≡ suc (length (keysFrom s p k)) = ap length (f .list p) ∙ rw m in
+    omega arith
+
+-- an item that the copy has
+module _ (t : OptText) where
+  pub shipped-unstated : t ≡ O.Absent → ShippedWith t Unstated
+  shipped-unstated e = record { this = λ q. rw e }
+
+  pub shipped-named : (x : Text) → t ≡ O.Given x → ShippedWith t (Named x)
+  shipped-named x e = record { this = λ q. rw e }
+
+pub ruleset shipped-laws = (shipped-unstated, shipped-named)
+
+-- whether it counts
+module _ (q n x : Str) (api : Bool) (own : Text) (h : x ≡ textOf q own) where
+  pub counts-named : (t : Bool) → api ≡ true → t ≡ eqs x n → t ≡ (api && eqs (textOf q own) n)
+  counts-named t a e = rw (a, ← h) e
+
+pub counts-none : (q n : Str) (api : Bool) (own : Text) → api ≡ false → false ≡ (api && eqs (textOf q own) n)
+counts-none q n api own a = rw a
+
+pub ruleset counts-laws = (counts-named, counts-none)
+
+-- the last of a list ---------------------------------------------------------------------------------------------------------------
+
+-- what the last element that passes a test gives, after one that gave o
+module _ {A B : Type 0} (t : A → Bool) (f : A → B) where
+  latest : Option B → List A → Option B
+  latest o [] = o
+  latest o (x ∷ xs) = latest (cond (t x) (some (f x)) o) xs
+
+  last-latest : (o : Option A) (l : List A) → mapOption f (lastOr o t l) ≡ latest (mapOption f o) l
+  unfolding lastOr mapOption latest
+  last-latest o [] = refl
+  last-latest o (x ∷ xs) = last-latest (cond (t x) (some x) o) xs ∙ ap (λ y. latest y xs) (step (t x))
+    where
+      step : (b : Bool) → mapOption f (cond b (some x) o) ≡ cond b (some (f x)) (mapOption f o)
+      step true = refl
+      step false = refl
+
+  module _ (o : Option B) (l : List A) where
+    latest-end : l ≡ [] → latest o l ≡ o
+    unfolding latest
+    latest-end e = rw e
+
+    module _ (x : A) (m : List A) (e : l ≡ x ∷ m) where
+      latest-hit : t x ≡ true → latest o l ≡ latest (some (f x)) m
+      unfolding latest
+      latest-hit h = rw (e, h)
+
+      latest-miss : t x ≡ false → latest o l ≡ latest o m
+      unfolding latest
+      latest-miss h = rw (e, h)
+
+same-option : {A : Type 0} (o : Option A) → mapOption (λ (x : A). x) o ≡ o
+unfolding mapOption
+same-option none = refl
+same-option (some x) = refl
+
+-- constants
+pub constantLatest : Str → Option (Option Str) → List Const → Option (Option Str)
+constantLatest n = latest (λ (c : Const). c .api && eqs (c .name) n) (λ (c : Const). c .since)
+
+module _ (b q n : Str) where
+  pub constant-begin : (z : Cursor) → z ≡ start → constantRelease n (constantsAt b q 0) ≡ constantLatest n (shippedOf q Absent) (constantsAt b q (z .at))
+  unfolding constantRelease constantLatest findLast mapOption
+  constant-begin z y = last-latest _ _ none _ ∙ ap (λ (c : Cursor). constantLatest n none (constantsAt b q (c .at))) (sym y)
+
+  module _ (at : ℕ) (r : ConstantStep) (f : ConstantsFrom b at r) (o : Shipped) where
+    pub constant-end : r ≡ NoConstant → constantLatest n (shippedOf q o) (constantsAt b q at) ≡ shippedOf q o
+    unfolding constantLatest
+    constant-end m = latest-end _ _ _ _ (constants-over-now b at r f q m)
+
+    module _ (e : D.Constant.Constant) (k : Cursor) (t : Bool) (m : r ≡ AConstant e k) (h : t ≡ (e .«ora_api» && eqs (textOf q (e .name)) n)) where
+      pub constant-hit : (w : Shipped) → t ≡ true → ShippedWith (e .«first_release») w
+          → constantLatest n (shippedOf q o) (constantsAt b q at) ≡ constantLatest n (shippedOf q w) (constantsAt b q (k .at))
+      unfolding constantLatest
+      constant-hit w g i = latest-hit _ _ _ _ _ _ (constants-now b at r f q e k m) (sym h ∙ g) ∙ ap (λ y. constantLatest n y (constantsAt b q (k .at))) (sym (i .this q))
+
+      pub constant-miss : t ≡ false → constantLatest n (shippedOf q o) (constantsAt b q at) ≡ constantLatest n (shippedOf q o) (constantsAt b q (k .at))
+      unfolding constantLatest
+      constant-miss g = latest-miss _ _ _ _ _ _ (constants-now b at r f q e k m) (sym h ∙ g)
+
+pub ruleset constant-release-laws = (constant-end, constant-hit, constant-miss)
+
+-- enums
+pub enumLatest : Str → Option Enum → List Enum → Option Enum
+enumLatest n = latest (λ (e : Enum). e .api && eqs (e .name) n) (λ (e : Enum). e)
+
+module _ (b q n : Str) where
+  pub enum-begin : (z : Cursor) → z ≡ start → apiEnum n (enumsAt b q 0) ≡ enumLatest n (enumFound b q NoEnum) (enumsAt b q (z .at))
+  unfolding apiEnum enumLatest findLast mapOption
+  enum-begin z y = sym (same-option _) ∙ last-latest _ _ none _ ∙ ap (λ (c : Cursor). enumLatest n none (enumsAt b q (c .at))) (sym y)
+
+  module _ (at : ℕ) (r : EnumStep) (f : EnumsFrom b at r) (o : EnumStep) where
+    pub enum-end : r ≡ NoEnum → enumLatest n (enumFound b q o) (enumsAt b q at) ≡ enumFound b q o
+    unfolding enumLatest
+    enum-end m = latest-end _ _ _ _ (enums-over-now b at r f q m)
+
+    module _ (e : D.Enum.Enum) (k : Cursor) (t : Bool) (m : r ≡ AnEnum e k) (h : t ≡ (e .«ora_api» && eqs (textOf q (e .name)) n)) where
+      pub enum-hit : t ≡ true → enumLatest n (enumFound b q o) (enumsAt b q at) ≡ enumLatest n (enumFound b q (AnEnum e k)) (enumsAt b q (k .at))
+      unfolding enumLatest
+      enum-hit g = latest-hit _ _ _ _ _ _ (enums-now b at r f q e k m) (sym h ∙ g)
+
+      pub enum-miss : t ≡ false → enumLatest n (enumFound b q o) (enumsAt b q at) ≡ enumLatest n (enumFound b q o) (enumsAt b q (k .at))
+      unfolding enumLatest
+      enum-miss g = latest-miss _ _ _ _ _ _ (enums-now b at r f q e k m) (sym h ∙ g)
+
+pub ruleset api-enum-laws = (enum-end, enum-hit, enum-miss)
+
+-- plugin keys
+pub keyLatest : Str → Option (Option Str) → List Key → Option (Option Str)
+keyLatest n = latest (λ (k : Key). eqs (k .name) n) (λ (k : Key). k .since)
+
+module _ (b q n : Str) where
+  pub key-begin : (z : KeysAt) → AllKeys z → keyRelease n (pluginKeys (structsAt b q 0) (unstoredAt b q 0)) ≡ keyLatest n (shippedOf q Absent) (keysFrom b q z)
+  unfolding keyRelease keyLatest findLast mapOption
+  key-begin z y = last-latest _ _ none _ ∙ ap (keyLatest n none) (sym (y .list b q))
+
+  module _ (at : KeysAt) (r : PluginKeyStep) (f : PluginKeysFrom b at r) (o : Shipped) where
+    pub key-end : r ≡ NoPluginKey → keyLatest n (shippedOf q o) (keysFrom b q at) ≡ shippedOf q o
+    unfolding keyLatest
+    key-end m = latest-end _ _ _ _ (f .list q ∙ ap (pluginKeysOf b q) m)
+
+    module _ (e : D.PluginKey.PluginKey) (k : KeysAt) (x : Str) (t : Bool) (m : r ≡ APluginKey e k) (i : x ≡ textOf q (e .name)) (h : t ≡ eqs x n) where
+      named : eqs (textOf q (e .name)) n ≡ t
+      named = sym (h ∙ ap (λ y. eqs y n) i)
+
+      pub key-hit : (w : Shipped) → t ≡ true → ShippedWith (e .«first_release») w
+          → keyLatest n (shippedOf q o) (keysFrom b q at) ≡ keyLatest n (shippedOf q w) (keysFrom b q k)
+      unfolding keyLatest
+      key-hit w g j = latest-hit _ _ _ _ _ _ (f .list q ∙ ap (pluginKeysOf b q) m) (named ∙ g) ∙ ap (λ y. keyLatest n y (keysFrom b q k)) (sym (j .this q))
+
+      pub key-miss : t ≡ false → keyLatest n (shippedOf q o) (keysFrom b q at) ≡ keyLatest n (shippedOf q o) (keysFrom b q k)
+      unfolding keyLatest
+      key-miss g = latest-miss _ _ _ _ _ _ (f .list q ∙ ap (pluginKeysOf b q) m) (named ∙ g)
+
+pub ruleset key-release-laws = (key-end, key-hit, key-miss)
+
+-- enums that were looked up, and their values ---------------------------------------------------------------------------------------
+
+module _ (was : EnumStep) where
+  pub enum-absent : was ≡ NoEnum → EnumShipped was Absent
+  unfolding enumRelease mapOption
+  enum-absent m = record { this = λ s q. rw m }
+
+  pub enum-shipped : (e : D.Enum.Enum) (k : Cursor) (w : Shipped) → was ≡ AnEnum e k → ShippedWith (e .«first_release») w → EnumShipped was w
+  unfolding enumRelease mapOption
+  enum-shipped e k w m i = record { this = λ s q. rw m (i .this q) }
+
+pub ruleset enum-release-laws = (enum-absent, enum-shipped)
+
+module _ (b q n : Str) (was : EnumStep) where
+  pub value-alone : was ≡ NoEnum → shippedOf q Absent ≡ valueRelease (enumFound b q was) n
+  unfolding valueRelease
+  value-alone m = rw m
+
+  module _ (e : D.Enum.Enum) (k : Cursor) (r : ValueStep) (m : was ≡ AnEnum e k) (h : valueIn n (valuesAt b q (k .at)) ≡ valueFound b q r) where
+    pub value-absent : r ≡ NoValue → shippedOf q Absent ≡ valueRelease (enumFound b q was) n
+    unfolding valueRelease mapOption
+    value-absent g = rw (m, h, g)
+
+    pub value-shipped : (v : D.Value.Value) (j : Cursor) (t : OptText) (w : Shipped) → r ≡ AValue v j → Dated (v .«first_release») (e .«first_release») t → ShippedWith t w
+        → shippedOf q w ≡ valueRelease (enumFound b q was) n
+    unfolding valueRelease mapOption
+    value-shipped v j t w g d i = rw (m, h, g) (i .this q ∙ ap some (d .release q))
+
+pub ruleset value-release-laws = (value-alone, value-absent, value-shipped)

@@ -1,0 +1,191 @@
+// The pass over the releases of bit fields: what is new arrives in this release, and what shipped keeps the release it arrived in.
+use crate::arguments::Item;
+use crate::required::required_text;
+use crate::shipped::Shipped;
+use crate::shipped::shipped_with;
+use crate::verdict::Verdict;
+use record::command::Bitfield;
+use record::command::Cursor;
+use record::command::Member;
+use record::dates::member_release;
+use record::lists::BitfieldStep;
+use record::lists::MemberStep;
+use record::lists::find_bitfield;
+use record::lists::find_member;
+use record::lists::next_bitfield;
+use record::lists::next_member;
+use record::operands::OptText;
+use record::text::Text;
+use record::text::bytes_of;
+use record::text::same;
+ghost use mathlib.Core.Path.{_≡_};
+ghost use Rattle.record.specs.Stretch.{textOf};
+ghost use Rattle.record.specs.Lists.{optOf, bitfieldOf, memberOf};
+ghost use Rattle.record.specs.Steps.{bitfieldsAt, membersAt, bitfieldFound};
+ghost use Rattle.compare.specs.Pass.{required};
+ghost use Rattle.compare.specs.Arguments.{itemOf};
+ghost use Rattle.compare.specs.BitfieldReleases.{memberRelease, checkArrived, checkMemberArrived, checkMembersArrived, checkBitfieldArrived, checkBitfieldReleases};
+ghost use Rattle.compare.specs.Shipped.{shippedOf};
+ghost use Rattle.compare.specs.Sought.{BitfieldShipped};
+ghost use Rattle.compare.specs.Meaning.{meaning};
+
+// What the copy says of a bit field.
+fn bitfield_shipped(was: BitfieldStep) -> Shipped
+    ensures { λ r. ⌜ BitfieldShipped was r ⌝ }
+{
+    let BitfieldStep::ABitfield(b, _) = was else {
+        return Shipped::Absent;
+    };
+    let release = b.first_release;
+    shipped_with(release)
+}
+
+// What the copy says of a member of a bit field.
+fn member_shipped(past: &[u8], old: &[u8], was: BitfieldStep, name: &[u8]) -> Shipped
+    ensures { λ r. ⌜ shippedOf (now (old .entry)) r ≡ memberRelease (bitfieldFound (now (past .entry)) (now (old .entry)) was) (now (name .entry)) ⌝ }
+{
+    let BitfieldStep::ABitfield(b, from) = was else {
+        return Shipped::Absent;
+    };
+    let MemberStep::AMember(m, _) = find_member(past, old, from, name) else {
+        return Shipped::Absent;
+    };
+    let own = m.first_release;
+    let parent = b.first_release;
+    shipped_with(member_release(own, parent))
+}
+
+// What there is now, with its release, against what the copy says of it.
+fn check_arrived(
+    pool: &[u8],
+    old: &[u8],
+    current: Text,
+    what: Item,
+    release: Text,
+    shipped: Shipped,
+) -> Verdict
+    ensures { λ r. ⌜ meaning (now (pool .entry)) (now (old .entry)) r ≡ checkArrived (textOf (now (pool .entry)) current) (itemOf (now (pool .entry)) what) (textOf (now (pool .entry)) release) (shippedOf (now (old .entry)) shipped) ⌝ }
+{
+    match shipped {
+        Shipped::Absent => {
+            if same(bytes_of(pool, release), bytes_of(pool, current)) {
+                return Verdict::Passed;
+            }
+            Verdict::BitsLate {
+                what,
+                current,
+                release,
+            }
+        }
+        Shipped::Named(was) => {
+            if same(bytes_of(pool, release), bytes_of(old, was)) {
+                return Verdict::Passed;
+            }
+            Verdict::BitsRedated { what, was, release }
+        }
+        Shipped::Unstated => Verdict::Passed,
+    }
+}
+
+// One member of a bit field, whose name and release are given, against what the bit field was.
+fn check_member_arrived(
+    pool: &[u8],
+    past: &[u8],
+    old: &[u8],
+    current: Text,
+    owner: Text,
+    since: OptText,
+    was: BitfieldStep,
+    m: Member,
+) -> Verdict
+    ensures { λ r. ⌜ meaning (now (pool .entry)) (now (old .entry)) r ≡ checkMemberArrived (textOf (now (pool .entry)) current) (textOf (now (pool .entry)) owner) (required (optOf (now (pool .entry)) since)) (bitfieldFound (now (past .entry)) (now (old .entry)) was) (memberOf (now (pool .entry)) m) ⌝ }
+{
+    let name = m.name;
+    let own = m.first_release;
+    let release = required_text(member_release(own, since));
+    let shipped = member_shipped(past, old, was, bytes_of(pool, name));
+    check_arrived(
+        pool,
+        old,
+        current,
+        Item::Within(owner, name),
+        release,
+        shipped,
+    )
+}
+
+// The members of a bit field from a cursor on.
+fn check_members_arrived(
+    stream: &[u8],
+    pool: &[u8],
+    past: &[u8],
+    old: &[u8],
+    current: Text,
+    owner: Text,
+    since: OptText,
+    was: BitfieldStep,
+    from: Cursor,
+) -> Verdict
+    ensures { λ r. ⌜ meaning (now (pool .entry)) (now (old .entry)) r ≡ checkMembersArrived (textOf (now (pool .entry)) current) (textOf (now (pool .entry)) owner) (required (optOf (now (pool .entry)) since)) (bitfieldFound (now (past .entry)) (now (old .entry)) was) (membersAt (now (stream .entry)) (now (pool .entry)) (from .at)) ⌝ }
+{
+    let mut cursor = from;
+    loop {
+        let MemberStep::AMember(m, after) = next_member(stream, cursor) else {
+            return Verdict::Passed;
+        };
+        let verdict = check_member_arrived(pool, past, old, current, owner, since, was, m);
+        if let Verdict::Passed = verdict {
+            cursor = after;
+        } else {
+            return verdict;
+        }
+    }
+}
+
+// One current bit field, whose members begin at a cursor.
+fn check_bitfield_arrived(
+    stream: &[u8],
+    pool: &[u8],
+    past: &[u8],
+    old: &[u8],
+    current: Text,
+    is: Bitfield,
+    from: Cursor,
+) -> Verdict
+    ensures { λ r. ⌜ meaning (now (pool .entry)) (now (old .entry)) r ≡ checkBitfieldArrived (textOf (now (pool .entry)) current) (bitfieldsAt (now (past .entry)) (now (old .entry)) 0) (bitfieldOf (now (pool .entry)) is (membersAt (now (stream .entry)) (now (pool .entry)) (from .at))) ⌝ }
+{
+    let name = is.name;
+    let since = is.first_release;
+    let was = find_bitfield(past, old, Cursor::new(), bytes_of(pool, name));
+    let release = required_text(since);
+    let shipped = bitfield_shipped(was);
+    let verdict = check_arrived(pool, old, current, Item::Bitfield(name), release, shipped);
+    if let Verdict::Passed = verdict {
+        return check_members_arrived(stream, pool, past, old, current, name, since, was, from);
+    }
+    verdict
+}
+
+// The first bit field or member whose release is not the one that it arrived in.
+pub fn check_bitfield_releases(
+    stream: &[u8],
+    pool: &[u8],
+    past: &[u8],
+    old: &[u8],
+    current: Text,
+) -> Verdict
+    ensures { λ r. ⌜ meaning (now (pool .entry)) (now (old .entry)) r ≡ checkBitfieldReleases (textOf (now (pool .entry)) current) (bitfieldsAt (now (stream .entry)) (now (pool .entry)) 0) (bitfieldsAt (now (past .entry)) (now (old .entry)) 0) ⌝ }
+{
+    let mut cursor = Cursor::new();
+    loop {
+        let BitfieldStep::ABitfield(is, after) = next_bitfield(stream, cursor) else {
+            return Verdict::Passed;
+        };
+        let verdict = check_bitfield_arrived(stream, pool, past, old, current, is, after);
+        if let Verdict::Passed = verdict {
+            cursor = after;
+        } else {
+            return verdict;
+        }
+    }
+}

@@ -1,0 +1,196 @@
+// The pass over the constants: a released constant stays, and keeps its value unless it holds a generation.
+use crate::arguments::ConstantValue;
+use crate::required::required_text;
+use crate::verdict::Verdict;
+use layout::constants::constant_table;
+use layout::constants::placed_constant;
+use record::command::Constant;
+use record::command::Cursor;
+use record::cut::upto;
+use record::generation::Generation;
+use record::generation::generation_constant;
+use record::lists::ConstantStep;
+use record::lists::StructStep;
+use record::lists::next_constant;
+use record::text::bytes_of;
+use record::text::same;
+use record::versioned::versioned_structs;
+use record::writer::put_signed;
+ghost use mathlib.Core.Path.{_≡_};
+ghost use mathlib.Core.List.{[], map};
+ghost use Prim.Native.Nat.{_≤_};
+ghost use lib.ListN.{length};
+ghost use Rattle.record.specs.Base.{eqs, signed};
+ghost use Rattle.record.specs.Lists.{constantOf};
+ghost use Rattle.record.specs.Steps.{structsAt, constantsAt, structFound, constantFound};
+ghost use Rattle.record.specs.Owner.{withName};
+ghost use Rattle.layout.specs.Constants.{placedConstant};
+ghost use Rattle.compare.specs.Arguments.{valueMeant};
+ghost use Rattle.compare.specs.Constants.{valueText, lastConstant, heldByAny, isGeneration, checkConstant, checkConstantsIn, checkConstants};
+ghost use Rattle.compare.specs.Sought.{HoldsValue};
+ghost use Rattle.compare.specs.Meaning.{meaning};
+
+// What a constant holds.
+fn value_of(c: Constant) -> ConstantValue
+    ensures { λ r. ⌜ HoldsValue c r ⌝ }
+{
+    if c.is_text {
+        let text = c.text;
+        return ConstantValue::Words(text);
+    }
+    ConstantValue::Integer(c.integer)
+}
+
+// Whether two integers are the same in decimal: just where they are the same.
+fn same_integers(a: u64, b: u64) -> bool
+    ensures { λ r. ⌜ r ≡ eqs (signed a) (signed b) ⌝ }
+{
+    a == b
+}
+
+// Whether an integer in decimal is this text.
+fn integer_reads(n: u64, text: &[u8]) -> bool
+    ensures { λ r. ⌜ r ≡ eqs (signed n) (now (text .entry)) ⌝ }
+{
+    let mut digits = [0u8; 21];
+    let end = put_signed(&mut digits, 0, n);
+    same(upto(&digits, end), text)
+}
+
+// Whether an integer has the text of a value.
+fn integer_is(n: u64, pool: &[u8], value: ConstantValue) -> bool
+    ensures { λ r. ⌜ r ≡ eqs (signed n) (valueText (valueMeant (now (pool .entry)) value)) ⌝ }
+{
+    match value {
+        ConstantValue::Integer(m) => same_integers(n, m),
+        ConstantValue::Words(text) => integer_reads(n, bytes_of(pool, required_text(text))),
+    }
+}
+
+// Whether these words are the text of a value.
+fn words_are(words: &[u8], pool: &[u8], value: ConstantValue) -> bool
+    ensures { λ r. ⌜ r ≡ eqs (now (words .entry)) (valueText (valueMeant (now (pool .entry)) value)) ⌝ }
+{
+    match value {
+        ConstantValue::Integer(n) => integer_reads(n, words),
+        ConstantValue::Words(text) => same(words, bytes_of(pool, required_text(text))),
+    }
+}
+
+// Whether a value that is now and one that was have the same text.
+fn same_value(pool: &[u8], is: ConstantValue, old: &[u8], was: ConstantValue) -> bool
+    ensures { λ r. ⌜ r ≡ eqs (valueText (valueMeant (now (pool .entry)) is)) (valueText (valueMeant (now (old .entry)) was)) ⌝ }
+{
+    match is {
+        ConstantValue::Integer(n) => integer_is(n, old, was),
+        ConstantValue::Words(text) => words_are(bytes_of(pool, required_text(text)), old, was),
+    }
+}
+
+// The last constant of that name.
+fn last_constant(stream: &[u8], pool: &[u8], name: &[u8]) -> ConstantStep
+    ensures { λ r. ⌜ lastConstant (now (name .entry)) (constantsAt (now (stream .entry)) (now (pool .entry)) 0) ≡ constantFound (now (stream .entry)) (now (pool .entry)) r ⌝ }
+{
+    let mut cursor = Cursor::new();
+    let mut last = ConstantStep::NoConstant;
+    loop {
+        let ConstantStep::AConstant(c, after) = next_constant(stream, cursor) else {
+            return last;
+        };
+        let own = c.name;
+        if same(bytes_of(pool, own), name) {
+            last = ConstantStep::AConstant(c, after);
+            cursor = after;
+        } else {
+            cursor = after;
+        }
+    }
+}
+
+// Whether the structure in a slot keeps its generation in the constant of that name.
+fn slot_holds(stream: &[u8], pool: &[u8], slot: StructStep, name: &[u8]) -> bool
+    ensures { λ r. ⌜ r ≡ heldByAny (structsAt (now (stream .entry)) (now (pool .entry)) 0) (constantsAt (now (stream .entry)) (now (pool .entry)) 0) (withName (structFound (now (stream .entry)) (now (pool .entry)) slot) []) (now (name .entry)) ⌝ }
+{
+    let StructStep::AStruct(e, _) = slot else {
+        return false;
+    };
+    let root = e.name;
+    let generation = generation_constant(stream, pool, bytes_of(pool, root));
+    let Generation::Held(constant, _) = generation else {
+        return false;
+    };
+    same(bytes_of(pool, constant), name)
+}
+
+// Whether the constant of that name holds a generation: these are meant to change.
+fn is_generation(stream: &[u8], pool: &[u8], name: &[u8]) -> bool
+    ensures { λ r. ⌜ r ≡ isGeneration (structsAt (now (stream .entry)) (now (pool .entry)) 0) (constantsAt (now (stream .entry)) (now (pool .entry)) 0) (now (name .entry)) ⌝ }
+{
+    let slots = versioned_structs(stream, pool);
+    let info = slots.info;
+    let metadata = slots.metadata;
+    let runtime = slots.runtime;
+    if slot_holds(stream, pool, info, name) {
+        return true;
+    }
+    if slot_holds(stream, pool, metadata, name) {
+        return true;
+    }
+    slot_holds(stream, pool, runtime, name)
+}
+
+// One released constant against the last current one of its name; the values come first, since most are the same.
+fn check_constant(stream: &[u8], pool: &[u8], old: &[u8], was: Constant) -> Verdict
+    ensures { λ r. ⌜ meaning (now (pool .entry)) (now (old .entry)) r ≡ checkConstant (structsAt (now (stream .entry)) (now (pool .entry)) 0) (constantsAt (now (stream .entry)) (now (pool .entry)) 0) (constantOf (now (old .entry)) was) ⌝ }
+{
+    let name = was.name;
+    let ConstantStep::AConstant(c, _) = last_constant(stream, pool, bytes_of(old, name)) else {
+        return Verdict::ConstantGone { name };
+    };
+    let held = value_of(was);
+    let holds = value_of(c);
+    if same_value(pool, holds, old, held) {
+        return Verdict::Passed;
+    }
+    if is_generation(stream, pool, bytes_of(old, name)) {
+        return Verdict::Passed;
+    }
+    Verdict::ConstantChanged {
+        name,
+        was: held,
+        is: holds,
+    }
+}
+
+// The released constants at these places, one after the other.
+fn check_placed(stream: &[u8], pool: &[u8], past: &[u8], old: &[u8], table: &[u32]) -> Verdict
+    ensures { λ r. ⌜ meaning (now (pool .entry)) (now (old .entry)) r ≡ checkConstantsIn (structsAt (now (stream .entry)) (now (pool .entry)) 0) (constantsAt (now (stream .entry)) (now (pool .entry)) 0) (map (placedConstant (now (past .entry)) (now (old .entry))) (now (table .entry))) ⌝ }
+{
+    let mut i = 0;
+    while i < table.len() {
+        let was = placed_constant(past, table[i]);
+        let verdict = check_constant(stream, pool, old, was);
+        if let Verdict::Passed = verdict {
+            i += 1;
+        } else {
+            return verdict;
+        }
+    }
+    Verdict::Passed
+}
+
+// The first constant of the release, in byte order of the names, that does not stand as it was.
+pub fn check_constants(
+    stream: &[u8],
+    pool: &[u8],
+    past: &[u8],
+    old: &[u8],
+    table: &mut [u32],
+    scratch: &mut [u32],
+) -> Verdict
+    requires { ⌜ (length (now past) ≤ 32768) × (8192 ≤ length (now table)) × (8192 ≤ length (now scratch)) ⌝ }
+    ensures { λ r. ⌜ meaning (now (pool .entry)) (now (old .entry)) r ≡ checkConstants (structsAt (now (stream .entry)) (now (pool .entry)) 0) (constantsAt (now (stream .entry)) (now (pool .entry)) 0) (constantsAt (now (past .entry)) (now (old .entry)) 0) ⌝ }
+{
+    let n = constant_table(past, old, table, scratch);
+    check_placed(stream, pool, past, old, &table[..n])
+}

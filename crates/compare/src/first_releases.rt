@@ -1,0 +1,348 @@
+// The pass over the first releases of the plugin API: each says what the last release did. First releases compare as texts.
+use crate::arguments::Item;
+use crate::required::required_text;
+use crate::shipped::Shipped;
+use crate::shipped::api_enum;
+use crate::shipped::constant_release;
+use crate::shipped::enum_release;
+use crate::shipped::key_release;
+use crate::shipped::value_release;
+use crate::verdict::Verdict;
+use record::command::Constant;
+use record::command::Cursor;
+use record::command::Enum;
+use record::command::PluginKey;
+use record::command::Value;
+use record::dates::member_release;
+use record::keys::PluginKeyStep;
+use record::keys::first_key;
+use record::keys::next_plugin_key;
+use record::lists::ConstantStep;
+use record::lists::EnumStep;
+use record::lists::ValueStep;
+use record::lists::next_constant;
+use record::lists::next_enum;
+use record::lists::next_value;
+use record::operands::OptText;
+use record::text::Text;
+use record::text::bytes_of;
+use record::text::same;
+ghost use mathlib.Core.Path.{_≡_};
+ghost use Rattle.record.specs.Stretch.{textOf};
+ghost use Rattle.record.specs.Lists.{optOf, constantOf, enumOf, valueOf, keyOf};
+ghost use Rattle.record.specs.Steps.{constantsAt, enumsAt, valuesAt, structsAt, unstoredAt, enumFound};
+ghost use Rattle.record.specs.Keys.{pluginKeys};
+ghost use Rattle.compare.specs.Arguments.{itemOf};
+ghost use Rattle.compare.specs.Shipped.{shippedOf};
+ghost use Rattle.compare.specs.FirstReleases.{checkArrival, checkConstantArrival, checkConstantArrivals, checkValueArrival, checkValueArrivals, checkEnumArrival, checkEnumArrivals, checkKeyArrival, checkKeyArrivals, checkFirstReleases};
+ghost use Rattle.compare.specs.Sought.{PassedIf, ValueDated};
+ghost use Rattle.compare.specs.Meaning.{meaning};
+
+// Nothing where the test holds, else this verdict.
+fn passed_if(holds: bool, otherwise: Verdict) -> Verdict
+    ensures { λ r. ⌜ PassedIf holds otherwise r ⌝ }
+{
+    if holds {
+        return Verdict::Passed;
+    }
+    otherwise
+}
+
+// One item, the release that it names, and what the copy says of it.
+fn check_arrival(
+    pool: &[u8],
+    old: &[u8],
+    current: Text,
+    copy: OptText,
+    what: Item,
+    names: Text,
+    was: Shipped,
+) -> Verdict
+    ensures { λ r. ⌜ meaning (now (pool .entry)) (now (old .entry)) r ≡ checkArrival (textOf (now (pool .entry)) current) (optOf (now (old .entry)) copy) (itemOf (now (pool .entry)) what) (textOf (now (pool .entry)) names) (shippedOf (now (old .entry)) was) ⌝ }
+{
+    match was {
+        Shipped::Absent => passed_if(
+            same(bytes_of(pool, names), bytes_of(pool, current)),
+            Verdict::Late {
+                what,
+                current,
+                names,
+            },
+        ),
+        Shipped::Named(release) => passed_if(
+            same(bytes_of(pool, names), bytes_of(old, release)),
+            Verdict::Redated {
+                what,
+                was: release,
+                names,
+            },
+        ),
+        Shipped::Unstated => passed_if(
+            !same(bytes_of(pool, names), bytes_of(pool, current)),
+            Verdict::Backdated {
+                what,
+                copy,
+                current,
+            },
+        ),
+    }
+}
+
+// One constant. One outside the plugin API or without a first release is passed over.
+fn check_constant_arrival(
+    pool: &[u8],
+    past: &[u8],
+    old: &[u8],
+    current: Text,
+    copy: OptText,
+    is: Constant,
+) -> Verdict
+    ensures { λ r. ⌜ meaning (now (pool .entry)) (now (old .entry)) r ≡ checkConstantArrival (textOf (now (pool .entry)) current) (optOf (now (old .entry)) copy) (constantsAt (now (past .entry)) (now (old .entry)) 0) (constantOf (now (pool .entry)) is) ⌝ }
+{
+    if !is.ora_api {
+        return Verdict::Passed;
+    }
+    let first = is.first_release;
+    let OptText::Given(names) = first else {
+        return Verdict::Passed;
+    };
+    let name = is.name;
+    let was = constant_release(past, old, bytes_of(pool, name));
+    check_arrival(pool, old, current, copy, Item::Constant(name), names, was)
+}
+
+// The current constants.
+fn check_constant_arrivals(
+    stream: &[u8],
+    pool: &[u8],
+    past: &[u8],
+    old: &[u8],
+    current: Text,
+    copy: OptText,
+) -> Verdict
+    ensures { λ r. ⌜ meaning (now (pool .entry)) (now (old .entry)) r ≡ checkConstantArrivals (textOf (now (pool .entry)) current) (optOf (now (old .entry)) copy) (constantsAt (now (stream .entry)) (now (pool .entry)) 0) (constantsAt (now (past .entry)) (now (old .entry)) 0) ⌝ }
+{
+    let mut cursor = Cursor::new();
+    loop {
+        let ConstantStep::AConstant(is, after) = next_constant(stream, cursor) else {
+            return Verdict::Passed;
+        };
+        let verdict = check_constant_arrival(pool, past, old, current, copy, is);
+        if let Verdict::Passed = verdict {
+            cursor = after;
+        } else {
+            return verdict;
+        }
+    }
+}
+
+// Whether a value is dated: the copy has it, or it names its own release, or its release is the current one.
+fn is_dated(pool: &[u8], current: Text, was: Shipped, own: OptText, release: Text) -> bool
+    ensures { λ r. ⌜ ValueDated (now (pool .entry)) current was own release r ⌝ }
+{
+    match was {
+        Shipped::Absent => {
+            if let OptText::Given(_) = own {
+                return true;
+            }
+            same(bytes_of(pool, release), bytes_of(pool, current))
+        }
+        Shipped::Named(_) => true,
+        Shipped::Unstated => true,
+    }
+}
+
+// One value of an enum, against the copy's enum as it was looked up.
+fn check_value_arrival(
+    pool: &[u8],
+    past: &[u8],
+    old: &[u8],
+    current: Text,
+    copy: OptText,
+    parent: Enum,
+    was: EnumStep,
+    is: Value,
+) -> Verdict
+    ensures { λ r. ⌜ meaning (now (pool .entry)) (now (old .entry)) r ≡ checkValueArrival (textOf (now (pool .entry)) current) (optOf (now (old .entry)) copy) (textOf (now (pool .entry)) (parent .name)) (optOf (now (pool .entry)) (parent .«first_release»)) (enumFound (now (past .entry)) (now (old .entry)) was) (valueOf (now (pool .entry)) is) ⌝ }
+{
+    let own = is.first_release;
+    let since = parent.first_release;
+    let OptText::Given(release) = member_release(own, since) else {
+        return Verdict::Passed;
+    };
+    let owner = parent.name;
+    let name = is.name;
+    let then = value_release(past, old, was, bytes_of(pool, name));
+    if is_dated(pool, current, then, own, release) {
+        return check_arrival(
+            pool,
+            old,
+            current,
+            copy,
+            Item::Within(owner, name),
+            release,
+            then,
+        );
+    }
+    Verdict::ValueUndated {
+        owner,
+        name,
+        current,
+        release,
+    }
+}
+
+// The values of an enum from a cursor on.
+fn check_value_arrivals(
+    stream: &[u8],
+    pool: &[u8],
+    past: &[u8],
+    old: &[u8],
+    current: Text,
+    copy: OptText,
+    parent: Enum,
+    was: EnumStep,
+    from: Cursor,
+) -> Verdict
+    ensures { λ r. ⌜ meaning (now (pool .entry)) (now (old .entry)) r ≡ checkValueArrivals (textOf (now (pool .entry)) current) (optOf (now (old .entry)) copy) (textOf (now (pool .entry)) (parent .name)) (optOf (now (pool .entry)) (parent .«first_release»)) (enumFound (now (past .entry)) (now (old .entry)) was) (valuesAt (now (stream .entry)) (now (pool .entry)) (from .at)) ⌝ }
+{
+    let mut cursor = from;
+    loop {
+        let ValueStep::AValue(is, after) = next_value(stream, cursor) else {
+            return Verdict::Passed;
+        };
+        let verdict = check_value_arrival(pool, past, old, current, copy, parent, was, is);
+        if let Verdict::Passed = verdict {
+            cursor = after;
+        } else {
+            return verdict;
+        }
+    }
+}
+
+// One enum, whose values begin at a cursor. One outside the plugin API or without a first release is passed over with its values.
+fn check_enum_arrival(
+    stream: &[u8],
+    pool: &[u8],
+    past: &[u8],
+    old: &[u8],
+    current: Text,
+    copy: OptText,
+    is: Enum,
+    from: Cursor,
+) -> Verdict
+    ensures { λ r. ⌜ meaning (now (pool .entry)) (now (old .entry)) r ≡ checkEnumArrival (textOf (now (pool .entry)) current) (optOf (now (old .entry)) copy) (enumsAt (now (past .entry)) (now (old .entry)) 0) (enumOf (now (pool .entry)) is (valuesAt (now (stream .entry)) (now (pool .entry)) (from .at))) ⌝ }
+{
+    if !is.ora_api {
+        return Verdict::Passed;
+    }
+    let first = is.first_release;
+    let OptText::Given(names) = first else {
+        return Verdict::Passed;
+    };
+    let name = is.name;
+    let was = api_enum(past, old, bytes_of(pool, name));
+    let verdict = check_arrival(
+        pool,
+        old,
+        current,
+        copy,
+        Item::Enum(name),
+        names,
+        enum_release(was),
+    );
+    if let Verdict::Passed = verdict {
+        return check_value_arrivals(stream, pool, past, old, current, copy, is, was, from);
+    }
+    verdict
+}
+
+// The current enums with their values.
+fn check_enum_arrivals(
+    stream: &[u8],
+    pool: &[u8],
+    past: &[u8],
+    old: &[u8],
+    current: Text,
+    copy: OptText,
+) -> Verdict
+    ensures { λ r. ⌜ meaning (now (pool .entry)) (now (old .entry)) r ≡ checkEnumArrivals (textOf (now (pool .entry)) current) (optOf (now (old .entry)) copy) (enumsAt (now (stream .entry)) (now (pool .entry)) 0) (enumsAt (now (past .entry)) (now (old .entry)) 0) ⌝ }
+{
+    let mut cursor = Cursor::new();
+    loop {
+        let EnumStep::AnEnum(is, after) = next_enum(stream, cursor) else {
+            return Verdict::Passed;
+        };
+        let verdict = check_enum_arrival(stream, pool, past, old, current, copy, is, after);
+        if let Verdict::Passed = verdict {
+            cursor = after;
+        } else {
+            return verdict;
+        }
+    }
+}
+
+// One plugin key.
+fn check_key_arrival(
+    pool: &[u8],
+    past: &[u8],
+    old: &[u8],
+    current: Text,
+    copy: OptText,
+    is: PluginKey,
+) -> Verdict
+    ensures { λ r. ⌜ meaning (now (pool .entry)) (now (old .entry)) r ≡ checkKeyArrival (textOf (now (pool .entry)) current) (optOf (now (old .entry)) copy) (pluginKeys (structsAt (now (past .entry)) (now (old .entry)) 0) (unstoredAt (now (past .entry)) (now (old .entry)) 0)) (keyOf (now (pool .entry)) is) ⌝ }
+{
+    let first = is.first_release;
+    let names = required_text(first);
+    let name = is.name;
+    let was = key_release(past, old, bytes_of(pool, name));
+    check_arrival(pool, old, current, copy, Item::Key(name), names, was)
+}
+
+// The current plugin keys.
+fn check_key_arrivals(
+    stream: &[u8],
+    pool: &[u8],
+    past: &[u8],
+    old: &[u8],
+    current: Text,
+    copy: OptText,
+) -> Verdict
+    ensures { λ r. ⌜ meaning (now (pool .entry)) (now (old .entry)) r ≡ checkKeyArrivals (textOf (now (pool .entry)) current) (optOf (now (old .entry)) copy) (pluginKeys (structsAt (now (stream .entry)) (now (pool .entry)) 0) (unstoredAt (now (stream .entry)) (now (pool .entry)) 0)) (pluginKeys (structsAt (now (past .entry)) (now (old .entry)) 0) (unstoredAt (now (past .entry)) (now (old .entry)) 0)) ⌝ }
+{
+    let mut at = first_key();
+    loop {
+        let PluginKeyStep::APluginKey(is, rest) = next_plugin_key(stream, at) else {
+            return Verdict::Passed;
+        };
+        let verdict = check_key_arrival(pool, past, old, current, copy, is);
+        if let Verdict::Passed = verdict {
+            at = rest;
+        } else {
+            return verdict;
+        }
+    }
+}
+
+// The constants, then the enums with their values, then the plugin keys.
+pub fn check_first_releases(
+    stream: &[u8],
+    pool: &[u8],
+    past: &[u8],
+    old: &[u8],
+    current: Text,
+    copy: OptText,
+) -> Verdict
+    ensures { λ r. ⌜ meaning (now (pool .entry)) (now (old .entry)) r ≡ checkFirstReleases (textOf (now (pool .entry)) current) (optOf (now (old .entry)) copy) (constantsAt (now (stream .entry)) (now (pool .entry)) 0) (constantsAt (now (past .entry)) (now (old .entry)) 0) (enumsAt (now (stream .entry)) (now (pool .entry)) 0) (enumsAt (now (past .entry)) (now (old .entry)) 0) (pluginKeys (structsAt (now (stream .entry)) (now (pool .entry)) 0) (unstoredAt (now (stream .entry)) (now (pool .entry)) 0)) (pluginKeys (structsAt (now (past .entry)) (now (old .entry)) 0) (unstoredAt (now (past .entry)) (now (old .entry)) 0)) ⌝ }
+{
+    let constants = check_constant_arrivals(stream, pool, past, old, current, copy);
+    let Verdict::Passed = constants else {
+        return constants;
+    };
+    let enums = check_enum_arrivals(stream, pool, past, old, current, copy);
+    let Verdict::Passed = enums else {
+        return enums;
+    };
+    check_key_arrivals(stream, pool, past, old, current, copy)
+}

@@ -1,0 +1,134 @@
+// What the copy of the last release says of one item of the plugin API. Of two of one name the later counts, and one outside the plugin API does not.
+use record::command::Cursor;
+use record::dates::member_release;
+use record::keys::PluginKeyStep;
+use record::keys::first_key;
+use record::keys::next_plugin_key;
+use record::lists::ConstantStep;
+use record::lists::EnumStep;
+use record::lists::ValueStep;
+use record::lists::find_value;
+use record::lists::next_constant;
+use record::lists::next_enum;
+use record::operands::OptText;
+use record::text::Text;
+use record::text::bytes_of;
+use record::text::same;
+ghost use mathlib.Core.Path.{_≡_};
+ghost use mathlib.Core.Bool.{_&&_};
+ghost use Rattle.record.specs.Base.{eqs};
+ghost use Rattle.record.specs.Stretch.{textOf};
+ghost use Rattle.record.specs.Steps.{constantsAt, enumsAt, structsAt, unstoredAt, enumFound};
+ghost use Rattle.record.specs.Keys.{pluginKeys};
+ghost use Rattle.compare.specs.Shipped.{constantRelease, apiEnum, valueRelease, keyRelease, shippedOf, ShippedWith, EnumShipped};
+
+pub enum Shipped {
+    // The copy has no such item: it arrives now.
+    Absent,
+    // It has the item and names the release in which that arrived.
+    Named(Text),
+    // It has the item and does not say since when.
+    Unstated,
+}
+
+// What the copy says of an item that it has, by the release that it gives or does not.
+pub fn shipped_with(release: OptText) -> Shipped
+    ensures { λ r. ⌜ ShippedWith release r ⌝ }
+{
+    match release {
+        OptText::Absent => Shipped::Unstated,
+        OptText::Given(t) => Shipped::Named(t),
+    }
+}
+
+// Whether an item of the copy is of the plugin API and has that name.
+fn counts(old: &[u8], api: bool, own: Text, name: &[u8]) -> bool
+    ensures { λ r. ⌜ r ≡ (api && eqs (textOf (now (old .entry)) own) (now (name .entry))) ⌝ }
+{
+    if api {
+        return same(bytes_of(old, own), name);
+    }
+    false
+}
+
+// What the copy says of a constant.
+pub fn constant_release(past: &[u8], old: &[u8], name: &[u8]) -> Shipped
+    ensures { λ r. ⌜ shippedOf (now (old .entry)) r ≡ constantRelease (now (name .entry)) (constantsAt (now (past .entry)) (now (old .entry)) 0) ⌝ }
+{
+    let mut found = Shipped::Absent;
+    let mut cursor = Cursor::new();
+    loop {
+        let ConstantStep::AConstant(c, after) = next_constant(past, cursor) else {
+            return found;
+        };
+        cursor = after;
+        let own = c.name;
+        let release = c.first_release;
+        if counts(old, c.ora_api, own, name) {
+            found = shipped_with(release);
+        }
+    }
+}
+
+// The copy's enum of that name, with the cursor at its values.
+pub fn api_enum(past: &[u8], old: &[u8], name: &[u8]) -> EnumStep
+    ensures { λ r. ⌜ apiEnum (now (name .entry)) (enumsAt (now (past .entry)) (now (old .entry)) 0) ≡ enumFound (now (past .entry)) (now (old .entry)) r ⌝ }
+{
+    let mut found = EnumStep::NoEnum;
+    let mut cursor = Cursor::new();
+    loop {
+        let EnumStep::AnEnum(e, after) = next_enum(past, cursor) else {
+            return found;
+        };
+        cursor = after;
+        let own = e.name;
+        if counts(old, e.ora_api, own, name) {
+            found = EnumStep::AnEnum(e, after);
+        }
+    }
+}
+
+// What the copy says of an enum that was looked up there.
+pub fn enum_release(was: EnumStep) -> Shipped
+    ensures { λ r. ⌜ EnumShipped was r ⌝ }
+{
+    let EnumStep::AnEnum(e, _) = was else {
+        return Shipped::Absent;
+    };
+    let release = e.first_release;
+    shipped_with(release)
+}
+
+// What the copy says of a value of an enum that was looked up there: the value's own release, else its enum's.
+pub fn value_release(past: &[u8], old: &[u8], was: EnumStep, name: &[u8]) -> Shipped
+    ensures { λ r. ⌜ shippedOf (now (old .entry)) r ≡ valueRelease (enumFound (now (past .entry)) (now (old .entry)) was) (now (name .entry)) ⌝ }
+{
+    let EnumStep::AnEnum(e, from) = was else {
+        return Shipped::Absent;
+    };
+    let ValueStep::AValue(v, _) = find_value(past, old, from, name) else {
+        return Shipped::Absent;
+    };
+    let own = v.first_release;
+    let parent = e.first_release;
+    shipped_with(member_release(own, parent))
+}
+
+// What the copy says of a plugin key.
+pub fn key_release(past: &[u8], old: &[u8], name: &[u8]) -> Shipped
+    ensures { λ r. ⌜ shippedOf (now (old .entry)) r ≡ keyRelease (now (name .entry)) (pluginKeys (structsAt (now (past .entry)) (now (old .entry)) 0) (unstoredAt (now (past .entry)) (now (old .entry)) 0)) ⌝ }
+{
+    let mut found = Shipped::Absent;
+    let mut at = first_key();
+    loop {
+        let PluginKeyStep::APluginKey(k, rest) = next_plugin_key(past, at) else {
+            return found;
+        };
+        at = rest;
+        let own = k.name;
+        let release = k.first_release;
+        if same(bytes_of(old, own), name) {
+            found = shipped_with(release);
+        }
+    }
+}

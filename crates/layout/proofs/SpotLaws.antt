@@ -1,0 +1,297 @@
+-- A step along the fields of a type, and where the fields of a type begin. Assumes nothing.
+use Prim.Native.Nat.{ℕ, suc, _+_, _-_, _/_, _≤_, _<_}
+use mathlib.Core.List.{List, [], _∷_, _++_, List·Memᴰ, List·Memᴰ·head, List·Memᴰ·tail}
+use mathlib.Core.Option.{none, some}
+use mathlib.Core.Bool.{Bool, false}
+use mathlib.Core.Path.{_≡_, refl, sym, ap, ap₂, subst, _∙_}
+use native.Mathlib.Omega.{arith}
+use types.Run.{OneOf}
+use denote.Enum.Declared.{tagOf}
+use lib.ListN.{length, getD, drop}
+use Rattle.record.specs.Base.{Str, bytes, eqs, orElse, orOption}
+use Rattle.record.specs.Stretch.{textOf}
+use Rattle.record.specs.Scalars.{Scalar, primSize}
+use Rattle.record.specs.Schema.{Schema, Field}
+use Rattle.record.specs.Commands.{operands, wide, widths, widthWith, widthOf, commandOf, familyAt, stepAt}
+use Rattle.record.specs.Lists.{optOf, fieldOf, familyOf}
+use Rattle.record.specs.Steps.{enumsAt, fieldKeyAt, fieldsAt, FieldsFrom, FieldPlace}
+use Rattle.record.specs.Kind.{words, meaning, kindOf, isPadding}
+use Rattle.record.specs.Shapes.{enumSize, sized, scalarSize, sizeAs, shapeSize, spaced, named, restAs, shapeType, Place, placeOf, places, plain, prefix, limit, capped}
+use Rattle.record.specs.Describe.{describedAs}
+use Rattle.record.specs.Reading.{Rec, rec, schemaFrom, schemaOf}
+use Rattle.record.specs.Read.{Exact}
+use Rattle.record.specs.declared.operands.OptText.{OptText}
+use Rattle.record.specs.declared.operands.OptText.the-variants.{Given}
+use Rattle.record.specs.declared.command as D
+use Rattle.record.specs.declared.command.Cursor.{Cursor}
+use Rattle.record.specs.declared.command.Command.{Command}
+use Rattle.record.specs.declared.command.Command.the-variants as C
+use Rattle.record.specs.declared.command.Step.{Step}
+use Rattle.record.specs.declared.command.Step.the-variants.{Next, Stop}
+use Rattle.record.specs.declared.describe.Description.{Description}
+use Rattle.record.specs.declared.describe.Description.the-variants.{Discriminant, Length}
+use Rattle.record.specs.declared.kind.Kind.{Kind}
+use Rattle.record.specs.declared.lists.FieldStep.{FieldStep}
+use Rattle.record.specs.declared.lists.FieldStep.the-variants.{NoField, AField}
+use Rattle.record.proofs.command.Command.{the-type}
+use Rattle.record.proofs.Stream.{step-found}
+use Rattle.record.proofs.ListLaws.{byteOf, other, byte-is, operands-are}
+use Rattle.record.proofs.StepLaws.{fields-over-now, fields-now, fields-nearer, fields-stand}
+use Rattle.record.proofs.SizeLaws.{cap-low, keyless}
+use Rattle.record.proofs.DescribeLaws.{described-keyless}
+use Rattle.layout.specs.declared.spots.Spot.{Spot}
+use Rattle.layout.specs.declared.spots.Ahead.{Ahead}
+use Rattle.layout.specs.declared.spots.Ahead.the-variants.{Front, Middle, Body}
+use Rattle.layout.specs.declared.spots.SpotCursor.{SpotCursor}
+use Rattle.layout.specs.declared.spots.SpotStep.{SpotStep}
+use Rattle.layout.specs.declared.spots.SpotStep.the-variants.{NoSpot, ASpot}
+use Rattle.layout.specs.Handles.{placePart, handleFields, layoutOf}
+use Rattle.layout.specs.Table.{Typed, TypesTable}
+use Rattle.layout.specs.FieldSizes.{fieldSize, SizesFrom, SizesTable}
+use Rattle.layout.specs.Spots.{spotOf, cursorAt, bodyPlace, fieldsAhead, placesFrom, aheadLeft, spotsLeft, Sound, spotsOf, soundAfter, stepLeft, SpotsFrom, TypeSpots}
+use Rattle.layout.proofs.Along.{place-stands}
+use Rattle.layout.proofs.Flattened.{own-fields, family-fields}
+use Rattle.layout.proofs.Openings.{typed-place, typed-opened}
+use Rattle.layout.proofs.FieldSizeLaws.{sizes-later}
+
+-- one field more ----------------------------------------------------------------------------------------------------------
+
+-- what a cursor has ahead is a field and what another has ahead; where the first is sound the sizes are exact
+module _ (r : Rec) (t : List ℕ) (a b : Ahead) (offset : ℕ) (f : Field) (more : fieldsAhead (r .stream) (r .pool) a ≡ f ∷ fieldsAhead (r .stream) (r .pool) b) where
+  abbrev S : Schema
+  S = schemaOf r
+
+  all-places : placesFrom r (cursorAt a offset) ≡ placeOf S offset f ∷ places S (offset + shapeSize S f) (fieldsAhead (r .stream) (r .pool) b)
+  unfolding placesFrom places
+  all-places = ap (places S offset) more
+
+  module _ (d : Sound r t (cursorAt a offset)) where
+    first-ends : offset + shapeSize S f ≤ limit
+    unfolding placeOf
+    first-ends = d .ends (placeOf S offset f) (subst (λ (l : List Place). List·Memᴰ (placeOf S offset f) l) (sym all-places) (List·Memᴰ·head refl))
+
+    size-exact : (z : ℕ) → z ≡ capped (shapeSize S f) → z ≡ shapeSize S f
+    size-exact z e = let l = first-ends in e ∙ sym (cap-low (shapeSize S f) (omega arith))
+
+    end-exact : (z e : ℕ) → z ≡ shapeSize S f → e ≡ capped (offset + z) → e ≡ offset + shapeSize S f
+    end-exact z e q u = u ∙ ap (λ (n : ℕ). capped (offset + n)) q ∙ sym (cap-low (offset + shapeSize S f) first-ends)
+
+  module _ (z e : ℕ) (size : Sound r t (cursorAt a offset) → z ≡ shapeSize S f) (u : e ≡ capped (offset + z)) (x : Spot) (is : z ≡ shapeSize S f → spotOf (r .pool) x ≡ placeOf S offset f)
+      (kept : SizesFrom r t (bodyPlace a) → SizesFrom r t (bodyPlace b)) (left : suc (aheadLeft (r .stream) b) ≤ aheadLeft (r .stream) a) where
+    stepped : SpotsFrom r t (cursorAt a offset) (ASpot x (cursorAt b e))
+    unfolding placesFrom
+    stepped =
+        record {
+          list = λ d.
+              all-places
+              ∙ ap₂ (λ (y : Place) (n : ℕ). y ∷ places S n (fieldsAhead (r .stream) (r .pool) b)) (sym (is (size d))) (sym (end-exact d z e (size d) u));
+          sound = λ d.
+              record {
+                sizes = kept (d .sizes);
+                ends = λ g m.
+                    d .ends g
+                    (subst (λ (l : List Place). List·Memᴰ g l) (sym all-places)
+                    (List·Memᴰ·tail (subst (λ (n : ℕ). List·Memᴰ g (places S n (fieldsAhead (r .stream) (r .pool) b))) (end-exact d z e (size d) u) m)));
+              };
+          left = left;
+        }
+
+-- the front of a family ---------------------------------------------------------------------------------------------------
+
+module _ (s p : Str) (w : List Scalar) (t : List ℕ) (f : D.Family.Family) (k : Cursor) (offset : ℕ) where
+  abbrev R : Rec
+  R = rec s p w
+
+  abbrev disc : Field
+  disc = plain (textOf p (f .«discriminant_field»)) (bytes "enum") (textOf p (f .«discriminant_type»))
+
+  abbrev len : Field
+  len = plain (textOf p (f .«param_len_field»)) (bytes "scalar") (orElse (optOf p (f .«param_len_type»)) (bytes "u8"))
+
+  disc-size : shapeSize (schemaOf R) disc ≡ sized (some (textOf p (f .«discriminant_type»))) (enumSize (enumsAt s p 0)) 1
+  unfolding shapeSize plain kindOf meaning words eqs bytes sizeAs schemaOf schemaFrom enumsAt
+  disc-size = refl
+
+  len-size : shapeSize (schemaOf R) len ≡ primSize w (orElse (optOf p (f .«param_len_type»)) (bytes "u8"))
+  unfolding shapeSize plain kindOf meaning words eqs bytes sizeAs scalarSize orElse schemaOf schemaFrom
+  len-size = refl
+
+  disc-place : (z : ℕ) → z ≡ shapeSize (schemaOf R) disc
+      → _≡_ {A = Place} (record { name = textOf p (f .«discriminant_field»); offset = offset; size = z; described = describedAs p (Discriminant (f .«discriminant_type»)); padding = false })
+      (placeOf (schemaOf R) offset disc)
+  unfolding placeOf plain shapeType kindOf meaning words eqs bytes restAs named spaced orOption
+  disc-place z e i = record { name = disc .name; offset = offset; size = e i; described = shapeType disc; padding = false }
+
+  len-place : (z : ℕ) → z ≡ shapeSize (schemaOf R) len
+      → _≡_ {A = Place} (record { name = textOf p (f .«param_len_field»); offset = offset; size = z; described = describedAs p (Length (f .«param_len_type»)); padding = false })
+      (placeOf (schemaOf R) offset len)
+  unfolding placeOf plain shapeType kindOf meaning words eqs bytes restAs named spaced orOption
+  len-place z e i = record { name = len .name; offset = offset; size = e i; described = shapeType len; padding = false }
+
+  pub spot-disc : (o : OptText) (b z e : ℕ) → o ≡ Given (f .«discriminant_type») → b ≡ sized (optOf p o) (enumSize (enumsAt s p 0)) 1 → z ≡ b → e ≡ capped (offset + z)
+      → SpotsFrom R t (cursorAt (Front f k) offset)
+      (ASpot (record { name = f .«discriminant_field»; offset = offset; size = z; described = Discriminant (f .«discriminant_type»); padding = false }) (cursorAt (Middle f k) e))
+  unfolding prefix
+  spot-disc o b z e g h j u =
+      stepped R t (Front f k) (Middle f k) offset disc refl z e
+      (λ d. j ∙ h ∙ ap (λ (y : OptText). sized (optOf p y) (enumSize (enumsAt s p 0)) 1) g ∙ sym disc-size) u _ (disc-place z) (λ q. q) (omega arith)
+
+  pub spot-len : (b z e : ℕ) → b ≡ primSize w (orElse (optOf p (f .«param_len_type»)) (bytes "u8")) → z ≡ b → e ≡ capped (offset + z)
+      → SpotsFrom R t (cursorAt (Middle f k) offset)
+      (ASpot (record { name = f .«param_len_field»; offset = offset; size = z; described = Length (f .«param_len_type»); padding = false }) (cursorAt (Body k) e))
+  unfolding prefix
+  spot-len b z e h j u = stepped R t (Middle f k) (Body k) offset len refl z e (λ d. j ∙ h ∙ sym len-size) u _ (len-place z) (λ q. q) (omega arith)
+
+-- a field of the record ----------------------------------------------------------------------------------------------------
+
+module _ (s p : Str) (w : List Scalar) (t : List ℕ) (k : Cursor) (offset : ℕ) (r : FieldStep) (h : FieldsFrom s (k .at) r) where
+  pub spot-none : r ≡ NoField → SpotsFrom (rec s p w) t (cursorAt (Body k) offset) NoSpot
+  unfolding placesFrom places
+  spot-none m = record { list = λ d. rw (fields-over-now s (k .at) r h p m); sound = λ d. tt; left = omega arith }
+
+  module _ (f : D.Field.Field) (j : Cursor) (m : r ≡ AField f j) where
+    abbrev T : Schema
+    T = schemaOf (rec s p w)
+
+    abbrev whole : Field
+    whole = fieldOf p f (fieldKeyAt s p (j .at))
+
+    stands : FieldPlace s (k .at) f j
+    stands = fields-stand s (k .at) r h f j m
+
+    keyless-size : shapeSize T whole ≡ shapeSize T (fieldOf p f none)
+    unfolding shapeSize
+    keyless-size = keyless (kindOf (textOf p (f .kind))) T p f (fieldKeyAt s p (j .at))
+
+    table-size : SizesFrom (rec s p w) t (k .at) → getD t (j .at / 33) 0 ≡ capped (shapeSize T whole)
+    unfolding fieldSize
+    table-size z =
+        let y = stands in
+        let l = y .past in
+        let n : j .at - 33 + 33 ≡ j .at = omega arith in
+        ap (λ (i : ℕ). getD t (i / 33) 0) (sym n) ∙ z .sized (j .at - 33) (y .in-stream) (y .number)
+        ∙ ap (λ (x : D.Field.Field). capped (shapeSize T (fieldOf p x none))) (sym (y .operands)) ∙ ap capped (sym keyless-size)
+
+    -- the table serves the fields after this one
+    table-kept : SizesFrom (rec s p w) t (k .at) → SizesFrom (rec s p w) t (j .at)
+    unfolding widthOf widthWith operands widths wide bytes
+    table-kept z =
+        let y = stands in
+        let l = y .past in
+        let g = place-stands s (k .at) (j .at - 33) (y .in-stream) in
+        let q = step-found s (j .at - 33) (g .command) (g .after) (g .step) in
+        let n : g .after .at ≡ j .at - 33 + 33 = q .wide ∙ ap (λ (i : ℕ). j .at - 33 + widthOf i) (y .number) in
+        let e : g .after .at ≡ j .at = omega arith in
+        subst (λ (i : ℕ). SizesFrom (rec s p w) t i) e (sizes-later (rec s p w) t (k .at) (j .at - 33) (g .command) (g .after) z (y .in-stream) (g .step))
+
+    pub spot-field : (z e : ℕ) (d : Description) (x : Str) (q : Kind) (b : Bool) → z ≡ getD t (j .at / 33) 0 → describedAs p d ≡ shapeType (fieldOf p f none)
+        → x ≡ textOf p (f .kind) → q ≡ kindOf x → b ≡ isPadding q → e ≡ capped (offset + z)
+        → SpotsFrom (rec s p w) t (cursorAt (Body k) offset) (ASpot (record { name = f .name; offset = offset; size = z; described = d; padding = b }) (cursorAt (Body j) e))
+    unfolding placeOf
+    spot-field z e d x q b u v n o g i =
+        let more : fieldsAt s p (k .at) ≡ whole ∷ fieldsAt s p (j .at) = fields-now s (k .at) r h p f j m in
+        let read : describedAs p d ≡ shapeType whole = v ∙ sym (described-keyless p f (fieldKeyAt s p (j .at))) in
+        let pad : b ≡ isPadding (kindOf (textOf p (f .kind))) = g ∙ ap isPadding (o ∙ ap kindOf n) in
+        let near = fields-nearer s (k .at) r h f j m in
+        stepped (rec s p w) t (Body k) (Body j) offset whole more z e (λ y. size-exact (rec s p w) t (Body k) (Body j) offset whole more y z (u ∙ table-size (y .sizes))) i
+        (record { name = f .name; offset = offset; size = z; described = d; padding = b })
+        (λ y a. record { name = textOf p (f .name); offset = offset; size = y a; described = read a; padding = pad a }) table-kept (omega arith)
+
+-- a step from any cursor ---------------------------------------------------------------------------------------------------
+
+module _ (s p : Str) (w : List Scalar) (t : List ℕ) (c : SpotCursor) (r : SpotStep) where
+  pub next-front : (f : D.Family.Family) (k : Cursor) → c .ahead ≡ Front f k → ((v : List Scalar) (u : List ℕ) → SpotsFrom (rec s p v) u (cursorAt (Front f k) (c .offset)) r) → SpotsFrom (rec s p w) t c r
+  next-front f k m g = subst (λ (a : Ahead). SpotsFrom (rec s p w) t (cursorAt a (c .offset)) r) (sym m) (g w t)
+
+  pub next-middle : (f : D.Family.Family) (k : Cursor) → c .ahead ≡ Middle f k → ((v : Str) (u : List ℕ) → SpotsFrom (rec v p w) u (cursorAt (Middle f k) (c .offset)) r) → SpotsFrom (rec s p w) t c r
+  next-middle f k m g = subst (λ (a : Ahead). SpotsFrom (rec s p w) t (cursorAt a (c .offset)) r) (sym m) (g s t)
+
+  pub next-body : (k : Cursor) → c .ahead ≡ Body k → ((v : List Scalar) → SpotsFrom (rec s p v) t (cursorAt (Body k) (c .offset)) r) → SpotsFrom (rec s p w) t c r
+  next-body k m g = subst (λ (a : Ahead). SpotsFrom (rec s p w) t (cursorAt a (c .offset)) r) (sym m) (g w)
+
+-- where the fields of a type begin ------------------------------------------------------------------------------------------
+
+module _ (s : Str) (h n : ℕ) (e : n ≡ placePart h) (r : Step) (i : r ≡ stepAt s n) where
+  pub first-none : (k : Cursor) → r ≡ Stop → TypeSpots s h (cursorAt (Body k) 0)
+  first-none k m = record { list = λ y. absurd (none y); sound = λ y. absurd (none y) }
+    where
+      none : Typed s h → ⊥
+      none y =
+          let g = place-stands s 0 (placePart h) (typed-place s h y) in
+          let q : Next (g .command) (g .after) ≡ Stop = sym (g .step) ∙ ap (stepAt s) (sym e) ∙ sym i ∙ m in
+          let z : _≡_ {A = ℕ} 0 1 = cc in omega arith
+
+  module _ (c : Command) (k : Cursor) (m : r ≡ Next c k) where
+    at-step : stepAt s (placePart h) ≡ Next c k
+    at-step = ap (stepAt s) (sym e) ∙ sym i ∙ m
+
+    begins : (a : Ahead) → bodyPlace a ≡ k .at → ((p : Str) → fieldsAhead s p a ≡ handleFields s p (placePart h)) → TypeSpots s h (cursorAt a 0)
+    unfolding placesFrom layoutOf
+    begins a b f =
+        record {
+          list = λ y p w. ap (places (schemaOf (rec s p w)) 0) (f p);
+          sound = λ y p w t z x.
+              record {
+                sizes = subst (λ (j : ℕ). SizesFrom (rec s p w) t j) (sym b) (sizes-later (rec s p w) t 0 (placePart h) c k z (typed-place s h y) at-step);
+                ends = λ g q. x _ (typed-opened s h p y) g (subst (λ (fs : List Field). List·Memᴰ g (places (schemaOf (rec s p w)) 0 fs)) (f p) q) .ends;
+              };
+        }
+
+    family-is : (f : D.Family.Family) → c ≡ C.Family f → familyAt (drop (placePart h) s) ≡ f
+    unfolding commandOf
+    family-is f g = let q = operands-are s (placePart h) c k at-step 9 (ap byteOf g) ∙ g in cc
+
+    pub first-family : (f : D.Family.Family) → c ≡ C.Family f → TypeSpots s h (cursorAt (Front f k) 0)
+    first-family f g =
+        begins (Front f k) refl
+        (λ p. ap (λ (x : D.Family.Family). prefix (familyOf p x [] []) ++ fieldsAt s p (k .at)) (sym (family-is f g))
+        ∙ sym (family-fields s p (placePart h) c k at-step (byte-is s (placePart h) c k at-step ∙ ap byteOf g)))
+
+    pub first-body : OneOf (0 ∷ 1 ∷ 2 ∷ 3 ∷ 4 ∷ 5 ∷ 6 ∷ 7 ∷ 9 ∷ 10 ∷ 11 ∷ 12 ∷ 13 ∷ []) (tagOf the-type c) → TypeSpots s h (cursorAt (Body k) 0)
+    first-body g =
+        let ks : List ℕ = 0 ∷ 1 ∷ 2 ∷ 3 ∷ 4 ∷ 5 ∷ 6 ∷ 7 ∷ 9 ∷ 10 ∷ 11 ∷ 12 ∷ 13 ∷ [] in
+        let b = byte-is s (placePart h) c k at-step in
+        begins (Body k) refl (λ p. sym (own-fields s p (placePart h) c k at-step (λ q. other ks 8 c tt g (sym b ∙ q))))
+
+pub ruleset first-laws = (first-none, first-family, first-body)
+
+-- for loops over the fields --------------------------------------------------------------------------------------------------
+
+module _ (s p : Str) (w : List Scalar) (t : List ℕ) (c : SpotCursor) (o : SpotStep) (f : SpotsFrom (rec s p w) t c o) where
+  pub spots-over-now : Sound (rec s p w) t c → o ≡ NoSpot → placesFrom (rec s p w) c ≡ []
+  spots-over-now d m = f .list d ∙ ap (spotsOf (rec s p w)) m
+
+  module _ (x : Spot) (k : SpotCursor) (m : o ≡ ASpot x k) where
+    pub spots-now : Sound (rec s p w) t c → placesFrom (rec s p w) c ≡ spotOf p x ∷ placesFrom (rec s p w) k
+    spots-now d = f .list d ∙ ap (spotsOf (rec s p w)) m
+
+    -- the cursor after a step is sound too
+    pub spots-sound : Sound (rec s p w) t c → Sound (rec s p w) t k
+    spots-sound d = subst (λ (y : SpotStep). soundAfter (rec s p w) t y) m (f .sound d)
+
+    pub spots-nearer : spotsLeft s k < spotsLeft s c
+    spots-nearer = let h : suc (spotsLeft s k) ≤ spotsLeft s c = subst (λ (y : SpotStep). stepLeft s y ≤ spotsLeft s c) m (f .left) in omega arith
+
+    -- a field of a sound cursor ends within the limit
+    pub spot-ends : Sound (rec s p w) t c → x .offset + x .size ≤ limit
+    spot-ends d = d .ends (spotOf p x) (subst (λ (l : List Place). List·Memᴰ (spotOf p x) l) (sym (spots-now d)) (List·Memᴰ·head refl))
+
+-- how many fields there can be
+pub spots-few : (s : Str) (c : SpotCursor) → spotsLeft s c ≤ length s + 2
+spots-few s c = go (c .ahead)
+  where
+    go : (a : Ahead) → aheadLeft s a ≤ length s + 2
+    go (Front f k) = omega arith
+    go (Middle f k) = omega arith
+    go (Body k) = omega arith
+
+-- for loops over the types: every handle of the table begins with its layout's fields, and sound
+module _ (s p : Str) (y : List ℕ) (table : TypesTable s p y) (i h : ℕ) (inside : i < length y) (e : h ≡ getD y i 0) (c : SpotCursor) (f : TypeSpots s h c) (w : List Scalar) where
+  typed : Typed s h
+  typed = subst (λ (n : ℕ). Typed s n) (sym e) (table .typed i inside)
+
+  pub table-list : placesFrom (rec s p w) c ≡ layoutOf (rec s p w) h .fields
+  table-list = f .list typed p w
+
+  pub table-sound : (t : List ℕ) → SizesTable (rec s p w) t → Exact (rec s p w) → Sound (rec s p w) t c
+  table-sound t = f .sound typed p w t

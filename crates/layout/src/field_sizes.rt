@@ -1,0 +1,51 @@
+// The sizes of a record's fields, each computed once, in a table that the caller lends.
+use record::command::Command;
+use record::command::Cursor;
+use record::command::Step;
+use record::sizes::shape_size;
+ghost use Prim.Native.Nat.{_/_, _≤_};
+ghost use mathlib.Core.Path.{_≡_};
+ghost use lib.ListN.{length, getD, set};
+ghost use Rattle.record.specs.Scalars.{scalarsOf};
+ghost use Rattle.record.specs.Reading.{rec};
+ghost use Rattle.layout.specs.FieldSizes.{SizesTable};
+
+// A field takes 33 bytes of the stream, so no two fields have one entry: the place after a field divided by 33.
+fn put_size(sizes: &mut [u64], after: usize, size: u64)
+    ensures { λ r. ⌜ now (sizes .exit) ≡ set (now (sizes .entry)) (after / 33) size ⌝ }
+{
+    let entry = after / 33;
+    if sizes.len() <= entry {
+        return;
+    }
+    sizes[entry] = size;
+}
+
+// The size of the field before a place; a table that is too short has 0 for it.
+pub fn size_before(sizes: &[u64], after: usize) -> u64
+    ensures { λ r. ⌜ r ≡ getD (now (sizes .entry)) (after / 33) 0 ⌝ }
+{
+    let entry = after / 33;
+    if sizes.len() <= entry {
+        return 0;
+    }
+    sizes[entry]
+}
+
+// The sizes of all fields. A stream as long as number 8 lets pass needs 993 entries.
+pub fn fill_sizes(rows: &[u8], stream: &[u8], pool: &[u8], sizes: &mut [u64])
+    ensures { λ r. ⌜ (length (now (stream .entry)) ≤ 32768 → 993 ≤ length (now (sizes .entry)) → SizesTable (rec (now (stream .entry)) (now (pool .entry)) (scalarsOf (now (rows .entry)))) (now (sizes .exit))) ⌝ }
+{
+    let mut cursor = Cursor::new();
+    loop {
+        let Step::Next(command, after) = cursor.next(stream) else {
+            return;
+        };
+        if let Command::Field(f) = command {
+            put_size(sizes, after.at, shape_size(rows, stream, pool, f));
+            cursor = after;
+        } else {
+            cursor = after;
+        }
+    }
+}

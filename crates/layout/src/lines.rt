@@ -1,0 +1,107 @@
+// The lines of the list: a type's name, a dot, a field's name, its offset, its size and its description.
+use crate::names::TypeName;
+use crate::names::put_name;
+use crate::names::type_name;
+use crate::spots::Spot;
+use crate::spots::SpotStep;
+use crate::spots::first_spot;
+use crate::spots::next_spot;
+use record::describe::put_description;
+use record::text::Text;
+use record::writer::put;
+use record::writer::put_number;
+use record::writer::put_text;
+ghost use Prim.Native.Nat.{_+_, _*_, _≤_};
+ghost use mathlib.Core.List.{_++_};
+ghost use lib.ListN.{length};
+ghost use Rattle.record.specs.Base.{bytes, decimal};
+ghost use Rattle.record.specs.Stretch.{textOf};
+ghost use Rattle.record.specs.Scalars.{scalarsOf};
+ghost use Rattle.record.specs.Reading.{rec, schemaOf};
+ghost use Rattle.record.specs.Read.{Exact};
+ghost use Rattle.record.specs.Write.{Puts};
+ghost use Rattle.layout.specs.Listing.{lineOf, linesOf, listOf};
+ghost use Rattle.layout.specs.Handles.{layoutOf};
+ghost use Rattle.layout.specs.Names.{nameOf};
+ghost use Rattle.layout.specs.Table.{Typed};
+ghost use Rattle.layout.specs.FieldSizes.{SizesTable};
+ghost use Rattle.layout.specs.Spots.{spotOf};
+ghost use Rattle.layout.specs.Tables.{Tables};
+
+// Puts the names of a type and of its field, each with what follows it.
+fn put_names(out: &mut [u8], at: usize, pool: &[u8], owner: TypeName, name: Text) -> usize
+    ensures { λ r. ⌜ Puts (now (out .entry)) at (nameOf (now (pool .entry)) owner ++ (bytes "." ++ (textOf (now (pool .entry)) name ++ bytes " "))) (now (out .exit)) r × (r ≤ at + 769) ⌝ }
+{
+    let a = put_name(out, at, pool, owner);
+    let b = put(out, a, b".");
+    let c = put_text(out, b, pool, name);
+    put(out, c, b" ")
+}
+
+// Puts an offset and a size, each with a space after it.
+fn put_extent(out: &mut [u8], at: usize, offset: u64, size: u64) -> usize
+    ensures { λ r. ⌜ Puts (now (out .entry)) at (decimal offset ++ (bytes " " ++ (decimal size ++ bytes " "))) (now (out .exit)) r × (r ≤ at + 44) ⌝ }
+{
+    let a = put_number(out, at, offset);
+    let b = put(out, a, b" ");
+    let c = put_number(out, b, size);
+    put(out, c, b" ")
+}
+
+// Puts the line of one field.
+fn put_line(out: &mut [u8], at: usize, pool: &[u8], owner: TypeName, x: Spot) -> usize
+    ensures { λ r. ⌜ Puts (now (out .entry)) at (lineOf (nameOf (now (pool .entry)) owner) (spotOf (now (pool .entry)) x)) (now (out .exit)) r × (r ≤ at + 2048) ⌝ }
+{
+    let name = x.name;
+    let described = x.described;
+    let a = put_names(out, at, pool, owner, name);
+    let b = put_extent(out, a, x.offset, x.size);
+    let c = put_description(out, b, pool, described);
+    put(out, c, b"\n")
+}
+
+// Puts the lines of one type.
+fn put_type(
+    out: &mut [u8],
+    at: usize,
+    rows: &[u8],
+    stream: &[u8],
+    pool: &[u8],
+    sizes: &[u64],
+    handle: u32,
+) -> usize
+    requires { ⌜ Typed (now stream) handle × SizesTable (rec (now stream) (now pool) (scalarsOf (now rows))) (now sizes) × Exact (rec (now stream) (now pool) (scalarsOf (now rows))) ⌝ }
+    ensures { λ r. ⌜ Puts (now (out .entry)) at (linesOf (layoutOf (rec (now (stream .entry)) (now (pool .entry)) (scalarsOf (now (rows .entry)))) handle .name) (layoutOf (rec (now (stream .entry)) (now (pool .entry)) (scalarsOf (now (rows .entry)))) handle .fields)) (now (out .exit)) r × (r ≤ at + 2048 * (length (now (stream .entry)) + 2)) ⌝ }
+{
+    let owner = type_name(stream, handle);
+    let mut cursor = first_spot(stream, handle);
+    let mut end = at;
+    loop {
+        let SpotStep::ASpot(x, after) = next_spot(rows, stream, pool, sizes, cursor) else {
+            return end;
+        };
+        end = put_line(out, end, pool, owner, x);
+        cursor = after;
+    }
+}
+
+// Puts the lines of all types at the front of the buffer; answers where they end.
+pub(crate) fn put_types(
+    out: &mut [u8],
+    rows: &[u8],
+    stream: &[u8],
+    pool: &[u8],
+    types: &[u32],
+    sizes: &[u64],
+) -> usize
+    requires { ⌜ Tables (rec (now stream) (now pool) (scalarsOf (now rows))) (now types) (now sizes) ⌝ }
+    ensures { λ r. ⌜ Puts (now (out .entry)) 0 (listOf (schemaOf (rec (now (stream .entry)) (now (pool .entry)) (scalarsOf (now (rows .entry)))))) (now (out .exit)) r × (r ≤ 1099511627776) ⌝ }
+{
+    let mut end: usize = 0;
+    let mut i = 0;
+    while i < types.len() {
+        end = put_type(out, end, rows, stream, pool, sizes, types[i]);
+        i += 1;
+    }
+    end
+}

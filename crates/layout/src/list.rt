@@ -1,0 +1,72 @@
+// The list call: the layouts of a record, one line a field.
+use crate::answer::Answer;
+use crate::answer::refused;
+use crate::lines::put_types;
+use crate::tables::fill_tables;
+use record::read::Outcome;
+use record::read::read_record;
+use record::refusal::Side;
+use record::scalars::built_in;
+ghost use Prim.Native.Nat.{_≤_};
+ghost use lib.ListN.{length};
+ghost use Rattle.record.specs.Scalars.{scalarsOf, builtIn};
+ghost use Rattle.record.specs.Reading.{rec, schemaOf};
+ghost use Rattle.record.specs.Read.{Exact};
+ghost use Rattle.record.specs.declared.refusal.Side.the-variants.{Current, Released};
+ghost use mathlib.Core.Bool.{cond};
+ghost use Rattle.layout.specs.Listing.{listOf};
+ghost use Rattle.layout.specs.Answer.{textOr, list, Answered};
+
+// The list of a record that can be read: measured first, then put at the front of the buffer.
+fn list_read(rows: &[u8], stream: &[u8], pool: &[u8], out: &mut [u8]) -> Answer
+    requires { ⌜ (length (now stream) ≤ 32768) × Exact (rec (now stream) (now pool) (scalarsOf (now rows))) ⌝ }
+    ensures { λ r. ⌜ Answered (now (out .entry)) (now (out .exit)) (textOr (length (now (out .entry))) 0 (listOf (schemaOf (rec (now (stream .entry)) (now (pool .entry)) (scalarsOf (now (rows .entry))))))) r ⌝ }
+{
+    let mut types = [0u32; 8192];
+    let mut scratch = [0u32; 8192];
+    let mut sizes = [0u64; 993];
+    let n = fill_tables(rows, stream, pool, &mut types, &mut scratch, &mut sizes);
+    let len = put_types(&mut out[..0], rows, stream, pool, &types[..n], &sizes);
+    if out.len() < len {
+        return Answer {
+            number: 10,
+            side: 0,
+            place: 0,
+            len,
+        };
+    }
+    put_types(out, rows, stream, pool, &types[..n], &sizes);
+    Answer {
+        number: 0,
+        side: 0,
+        place: 0,
+        len,
+    }
+}
+
+// The list of a record, read as one side.
+pub fn list_layouts(side: Side, stream: &[u8], pool: &[u8], out: &mut [u8]) -> Answer
+    ensures { λ r. ⌜ Answered (now (out .entry)) (now (out .exit)) (list (length (now (out .entry))) side (rec (now (stream .entry)) (now (pool .entry)) builtIn)) r ⌝ }
+{
+    let rows = built_in();
+    if let Outcome::Refused(refusal, place) = read_record(side, &rows, stream, pool) {
+        return refused(side, refusal, place);
+    }
+    list_read(&rows, stream, pool, out)
+}
+
+// The same for a caller outside: read as released, or as current.
+#[no_mangle]
+pub extern "C" fn menqachu_list(
+    released: bool,
+    stream: &[u8],
+    pool: &[u8],
+    out: &mut [u8],
+) -> Answer
+    ensures { λ r. ⌜ Answered (now (out .entry)) (now (out .exit)) (list (length (now (out .entry))) (cond released Released Current) (rec (now (stream .entry)) (now (pool .entry)) builtIn)) r ⌝ }
+{
+    if released {
+        return list_layouts(Side::Released, stream, pool, out);
+    }
+    list_layouts(Side::Current, stream, pool, out)
+}

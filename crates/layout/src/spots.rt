@@ -1,0 +1,163 @@
+// The fields of a type one after the other, each with its offset and its size: add_type and fam_prefix of layout.rs.
+use crate::field_sizes::size_before;
+use crate::names::place_part;
+use record::command::Command;
+use record::command::Cursor;
+use record::command::Family;
+use record::command::Parent;
+use record::command::Step;
+use record::describe::Description;
+use record::describe::shape_type;
+use record::kind::is_padding;
+use record::kind::kind_of;
+use record::lists::FieldStep;
+use record::lists::next_field;
+use record::operands::OptText;
+use record::sizes::enum_bytes;
+use record::sizes::scalar_bytes;
+use record::sizes::sum;
+use record::sizes::wide;
+use record::text::Text;
+use record::text::bytes_of;
+ghost use mathlib.Core.List.{List};
+ghost use Prim.Native.Nat.{ℕ};
+ghost use Rattle.record.specs.Base.{Str};
+ghost use Rattle.record.specs.Scalars.{Scalar, scalarsOf};
+ghost use Rattle.record.specs.Reading.{rec};
+ghost use Rattle.layout.specs.Spots.{cursorAt, SpotsFrom, TypeSpots};
+
+// A field of a type: where it is and how it reads.
+pub struct Spot {
+    pub name: Text,
+    pub offset: u64,
+    pub size: u64,
+    pub described: Description,
+    pub padding: bool,
+}
+
+// What comes next of a type: a family's discriminant, its length field, then the fields of the record.
+pub enum Ahead {
+    Front(Family, Cursor),
+    Middle(Family, Cursor),
+    Body(Cursor),
+}
+
+// What is ahead, and its offset as far as the limit of number 9.
+pub struct SpotCursor {
+    pub ahead: Ahead,
+    pub offset: u64,
+}
+
+pub enum SpotStep {
+    NoSpot,
+    ASpot(Spot, SpotCursor),
+}
+
+// The front of a type, by its handle.
+pub fn first_spot(stream: &[u8], handle: u32) -> SpotCursor
+    ensures { λ r. ⌜ TypeSpots (now (stream .entry)) handle r ⌝ }
+{
+    let here = Cursor {
+        at: place_part(handle),
+        last: 0,
+        parent: Parent::NoParent,
+    };
+    let Step::Next(command, after) = here.next(stream) else {
+        return SpotCursor {
+            ahead: Ahead::Body(here),
+            offset: 0,
+        };
+    };
+    let Command::Family(f) = command else {
+        return SpotCursor {
+            ahead: Ahead::Body(after),
+            offset: 0,
+        };
+    };
+    SpotCursor {
+        ahead: Ahead::Front(f, after),
+        offset: 0,
+    }
+}
+
+// The next field of a type.
+pub fn next_spot(rows: &[u8], stream: &[u8], pool: &[u8], sizes: &[u64], c: SpotCursor) -> SpotStep
+    ensures { λ r. ⌜ SpotsFrom (rec (now (stream .entry)) (now (pool .entry)) (scalarsOf (now (rows .entry)))) (now (sizes .entry)) c r ⌝ }
+{
+    let ahead = c.ahead;
+    let offset = c.offset;
+    match ahead {
+        Ahead::Front(f, k) => discriminant_spot(stream, pool, f, k, offset),
+        Ahead::Middle(f, k) => length_spot(rows, pool, f, k, offset),
+        Ahead::Body(k) => field_spot(stream, pool, sizes, k, offset),
+    }
+}
+
+// A family's discriminant, an enum.
+fn discriminant_spot(stream: &[u8], pool: &[u8], f: Family, k: Cursor, offset: u64) -> SpotStep
+    ensures { λ r. ⌜ ((w : List Scalar) (t : List ℕ) → SpotsFrom (rec (now (stream .entry)) (now (pool .entry)) w) t (cursorAt (Ahead.Front f k) offset) r) ⌝ }
+{
+    let name = f.discriminant_field;
+    let named = f.discriminant_type;
+    let size = wide(enum_bytes(stream, pool, OptText::Given(named)));
+    SpotStep::ASpot(
+        Spot {
+            name,
+            offset,
+            size,
+            described: Description::Discriminant(named),
+            padding: false,
+        },
+        SpotCursor {
+            ahead: Ahead::Middle(f, k),
+            offset: sum(offset, size),
+        },
+    )
+}
+
+// A family's length field, a scalar.
+fn length_spot(rows: &[u8], pool: &[u8], f: Family, k: Cursor, offset: u64) -> SpotStep
+    ensures { λ r. ⌜ ((s : Str) (t : List ℕ) → SpotsFrom (rec s (now (pool .entry)) (scalarsOf (now (rows .entry)))) t (cursorAt (Ahead.Middle f k) offset) r) ⌝ }
+{
+    let name = f.param_len_field;
+    let word = f.param_len_type;
+    let size = wide(scalar_bytes(rows, pool, word));
+    SpotStep::ASpot(
+        Spot {
+            name,
+            offset,
+            size,
+            described: Description::Length(word),
+            padding: false,
+        },
+        SpotCursor {
+            ahead: Ahead::Body(k),
+            offset: sum(offset, size),
+        },
+    )
+}
+
+// The next field of the record, its size from the table.
+fn field_spot(stream: &[u8], pool: &[u8], sizes: &[u64], k: Cursor, offset: u64) -> SpotStep
+    ensures { λ r. ⌜ ((w : List Scalar) → SpotsFrom (rec (now (stream .entry)) (now (pool .entry)) w) (now (sizes .entry)) (cursorAt (Ahead.Body k) offset) r) ⌝ }
+{
+    let FieldStep::AField(f, after) = next_field(stream, k) else {
+        return SpotStep::NoSpot;
+    };
+    let name = f.name;
+    let kind = f.kind;
+    let size = size_before(sizes, after.at);
+    SpotStep::ASpot(
+        Spot {
+            name,
+            offset,
+            size,
+            described: shape_type(pool, f),
+            padding: is_padding(kind_of(bytes_of(pool, kind))),
+        },
+        SpotCursor {
+            ahead: Ahead::Body(after),
+            offset: sum(offset, size),
+        },
+    )
+}

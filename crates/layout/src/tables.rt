@@ -1,0 +1,25 @@
+// The tables of a record: its types in byte order of their names, and the sizes of their fields.
+use crate::field_sizes::fill_sizes;
+use crate::table::type_table;
+ghost use Prim.Native.Nat.{_≤_};
+ghost use lib.ListN.{length, take};
+ghost use Rattle.record.specs.Scalars.{scalarsOf};
+ghost use Rattle.record.specs.Reading.{rec};
+ghost use Rattle.record.specs.Read.{Exact};
+ghost use Rattle.layout.specs.Tables.{Tables};
+
+// Fills the tables; answers how many types there are.
+pub fn fill_tables(
+    rows: &[u8],
+    stream: &[u8],
+    pool: &[u8],
+    types: &mut [u32],
+    scratch: &mut [u32],
+    sizes: &mut [u64],
+) -> usize
+    requires { ⌜ (length (now stream) ≤ 32768) × (8192 ≤ length (now types)) × (8192 ≤ length (now scratch)) × (993 ≤ length (now sizes)) ⌝ }
+    ensures { λ r. ⌜ (Exact (rec (now (stream .entry)) (now (pool .entry)) (scalarsOf (now (rows .entry)))) → Tables (rec (now (stream .entry)) (now (pool .entry)) (scalarsOf (now (rows .entry)))) (take r (now (types .exit))) (now (sizes .exit))) × (r ≤ 8192) ⌝ }
+{
+    fill_sizes(rows, stream, pool, sizes);
+    type_table(stream, pool, types, scratch)
+}

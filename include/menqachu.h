@@ -1,0 +1,36 @@
+/* The calls of the release check. A slice is a pointer and a length; a length of 0 may come with any pointer that is not null.
+   No call changes a byte of a record; text is written at the front of the lent buffer and nothing after it. */
+#ifndef MENQACHU_H
+#define MENQACHU_H
+
+#include <stdbool.h>
+#include <stddef.h>
+#include <stdint.h>
+
+/* Number 0: accepted, or the list is written. 1 to 9: a record is refused, with its side (0 current, 1 released) and the place.
+   10: no room, with the length needed. 11 to 46: a verdict, with its message of that length. */
+typedef struct {
+    uint32_t number;
+    uint32_t side;
+    size_t place;
+    size_t len;
+} menqachu_answer;
+
+/* owned is 1 where there is an owner: its name is len bytes of the pool from start. A refused record gives number and place. */
+typedef struct {
+    uint32_t number;
+    size_t place;
+    uint32_t owned;
+    uint32_t start;
+    uint32_t len;
+} menqachu_owner_answer;
+
+/* The layouts of a record, one line a field. */
+menqachu_answer menqachu_list(bool released, const uint8_t *stream, size_t stream_len, const uint8_t *pool, size_t pool_len,
+                              uint8_t *out, size_t out_len);
+
+/* The owner of a name in a current record. */
+menqachu_owner_answer menqachu_owner(const uint8_t *stream, size_t stream_len, const uint8_t *pool, size_t pool_len,
+                                     const uint8_t *name, size_t name_len);
+
+#endif

@@ -1,0 +1,102 @@
+//! The proved calls as safe functions over byte slices.
+
+/// A record: its command stream and its text pool.
+#[derive(Clone, Copy, Debug)]
+pub struct Record<'a> {
+    pub stream: &'a [u8],
+    pub pool: &'a [u8],
+}
+
+/// How a record is read.
+#[derive(Clone, Copy, Debug, PartialEq, Eq)]
+pub enum Side {
+    Current,
+    Released,
+}
+
+/// What a call answers: a number of document 01, the side and the place of a refusal, and the length of the text.
+#[repr(C)]
+#[derive(Clone, Copy, Debug, Default, PartialEq, Eq)]
+pub struct Answer {
+    pub number: u32,
+    pub side: u32,
+    pub place: usize,
+    pub len: usize,
+}
+
+/// The owner of a name: its own name as a stretch of the pool, none, or the record's refusal.
+#[derive(Clone, Copy, Debug, PartialEq, Eq)]
+pub enum Owner {
+    Named { start: usize, len: usize },
+    Nobody,
+    Refused { number: u32, place: usize },
+}
+
+#[repr(C)]
+struct OwnerAnswer {
+    number: u32,
+    place: usize,
+    owned: u32,
+    start: u32,
+    len: u32,
+}
+
+unsafe extern "C" {
+    fn menqachu_list(
+        released: bool,
+        stream: *const u8,
+        stream_len: usize,
+        pool: *const u8,
+        pool_len: usize,
+        out: *mut u8,
+        out_len: usize,
+    ) -> Answer;
+    fn menqachu_owner(
+        stream: *const u8,
+        stream_len: usize,
+        pool: *const u8,
+        pool_len: usize,
+        name: *const u8,
+        name_len: usize,
+    ) -> OwnerAnswer;
+}
+
+/// The layouts of a record, one line a field, at the front of `out`.
+pub fn list(record: Record, side: Side, out: &mut [u8]) -> Answer {
+    let (stream, pool) = (record.stream, record.pool);
+    // SAFETY: each pointer comes with the length of its slice, and only `out` is written to.
+    unsafe {
+        menqachu_list(
+            side == Side::Released,
+            stream.as_ptr(),
+            stream.len(),
+            pool.as_ptr(),
+            pool.len(),
+            out.as_mut_ptr(),
+            out.len(),
+        )
+    }
+}
+
+/// The owner of a name in a current record.
+pub fn owner(record: Record, name: &[u8]) -> Owner {
+    let (stream, pool) = (record.stream, record.pool);
+    // SAFETY: each pointer comes with the length of its slice, and nothing is written to.
+    let answer = unsafe {
+        menqachu_owner(
+            stream.as_ptr(),
+            stream.len(),
+            pool.as_ptr(),
+            pool.len(),
+            name.as_ptr(),
+            name.len(),
+        )
+    };
+    if answer.number != 0 {
+        return Owner::Refused { number: answer.number, place: answer.place };
+    }
+    if answer.owned == 0 {
+        return Owner::Nobody;
+    }
+    Owner::Named { start: answer.start as usize, len: answer.len as usize }
+}
