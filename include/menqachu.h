@@ -25,6 +25,11 @@ typedef struct {
     uint32_t len;
 } menqachu_owner_answer;
 
+/* A current record against a released one. */
+menqachu_answer menqachu_check(const uint8_t *stream, size_t stream_len, const uint8_t *pool, size_t pool_len,
+                               const uint8_t *past, size_t past_len, const uint8_t *old, size_t old_len,
+                               uint8_t *out, size_t out_len);
+
 /* The layouts of a record, one line a field. */
 menqachu_answer menqachu_list(bool released, const uint8_t *stream, size_t stream_len, const uint8_t *pool, size_t pool_len,
                               uint8_t *out, size_t out_len);

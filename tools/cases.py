@@ -29,6 +29,14 @@ class Record:
         self.stream += b'\x01' + self.optional(release) + b'\x00'
         return self
 
+    def constant(self, name, value):
+        self.stream += b'\x02' + self.text(name) + b'\x00' + struct.pack('<q', value) + self.optional(None) + b'\x00' + self.optional(None)
+        return self
+
+    def version(self, name, number):
+        self.stream += b'\x0e' + self.text(name) + struct.pack('<I', number)
+        return self
+
     def struct(self, name, slot=None, version=None):
         self.stream += b'\x08' + self.text(name) + self.optional(slot) + self.optional(version)
         return self
@@ -95,8 +103,51 @@ def layout_list():
     yield 'one_byte_more', wide(65537)[0].parts(), '10 0 0\n'
 
 
+def scan(release, generation=3, last='gap', entry=None):
+    """A root with a generation number over the tile, whose last byte is padding or a field; the padding may come first."""
+    r = Record().head(release).constant('GENERATION', generation).struct('scan', 'metadata', 'GENERATION').field('tiles', 'struct_ptr', 'tile')
+    r.struct('tile')
+    if last == 'moved':
+        r.field('gap', 'padding', size=1)
+    r.field('n', 'scalar', 'u16').field('skip', 'scalar', 'u8')
+    if last == 'gap':
+        r.field('gap', 'padding', size=1)
+    if last == 'mode':
+        r.field('mode', 'scalar', 'u8')
+    if entry:
+        r.version('scan', entry)
+    return r.end()
+
+
+MOVED = "35 tile.n was at offset 0 in the last release and is at 1 now - a shipped field's bytes stay where they are\n"
+UNRAISED = ("43 scan is still generation 3, and tile's layout has changed since the last release - raise GENERATION to 4, and add a [[versions]] "
+            'entry saying which release that generation ships in\n')
+REPEATED = ('15 the released schema names 1.0.0 and this schema names 1.0.0, so there is no released layout to compare against - raise [schema] '
+            'firmware_release, or refresh the copy with ci/update-released-schema.sh\n')
+
+
+def release_check():
+    was = scan('1.0.0')
+    yield 'accepted', scan('1.1.0').parts() + was.parts(), '0\n'
+    yield 'field_added', scan('1.1.0', 4, 'mode', 4).parts() + was.parts(), '0\n'
+    yield 'field_moved', scan('1.1.0', 4, 'moved', 4).parts() + was.parts(), MOVED
+    yield 'generation_unraised', scan('1.1.0', 3, 'mode').parts() + was.parts(), UNRAISED
+    yield 'release_repeated', was.parts() + was.parts(), REPEATED
+    yield 'bytes_after', scan('1.1.0').parts() + was.parts() + b'more', '0\n'
+    yield 'no_input', b'', '1 0 0\n'
+    yield 'no_release', was.parts(), '1 1 0\n'
+    yield 'cut_length', scan('1.1.0').parts() + part(was.stream) + b'\x05', '4 1 0\n'
+    yield 'cut_part', scan('1.1.0').parts() + struct.pack('<I', len(was.stream)) + was.stream[:-1], '4 1 0\n'
+    yield 'cut_stream', scan('1.1.0').parts() + part(was.stream[:-1]) + part(was.pool), '1 1 %d\n' % (len(was.stream) - 1)
+    # an over-long part is 8, but a fault of the current record comes before one of the release
+    yield 'long_stream', struct.pack('<I', 32769) + was.parts(), '8 0 0\n'
+    yield 'long_release', scan('1.1.0').parts() + struct.pack('<I', 32769) + was.stream, '8 1 0\n'
+    yield 'long_after_cut', part(b'\x01') + part(b'') + struct.pack('<I', 32769), '1 0 0\n'
+    yield 'long_pool_first', part(b'\x01') + struct.pack('<I', 16385), '8 0 0\n'
+
+
 def main():
-    for program in (layout_list,):
+    for program in (layout_list, release_check):
         folder = 'cases/%s/' % program.__name__
         os.makedirs(folder, exist_ok=True)
         for name, given, expected in program():

@@ -1,8 +1,10 @@
 #!/usr/bin/env python3
 """planted.py CRATE: for each row of tools/planted-CRATE.txt, plants the mistake in a copy of the repository, runs the program CRATE
-unproved (`rt try`), and sees that what it prints is no longer its stdout. A row is NUMBER ~ FILE ~ OLD ~ NEW, OLD a text that stands once in
-FILE. Run from the repository's top, outside the gate; it ends with how many were caught."""
+unproved (`rt try`), and sees that it prints `N vectors, M differ` with M above 0. A row is NUMBER ~ FILE ~ OLD ~ NEW, OLD a text that stands once
+in FILE; other lines are passed over. A mistake that does not compile, or with which the program prints no such line, is not caught. Run from the
+repository's top, outside the gate; it ends with how many were caught."""
 import os
+import re
 import shutil
 import subprocess
 import sys
@@ -10,11 +12,29 @@ import tempfile
 
 crate = sys.argv[1]
 rows = [line.rstrip('\n').split(' ~ ') for line in open(f'tools/planted-{crate}.txt') if ' ~ ' in line]
+stdout = open(f'crates/{crate}/stdout').read()
+
+
+def tried(work):
+    """How many vectors the program says differ, none if it does not say, and what `rt try` prints."""
+    run = subprocess.run(['rt', 'try', crate], cwd=work, capture_output=True, text=True)
+    said = run.stdout + run.stderr
+    if 'ok: the native program at -O0' in said:
+        return 0, said
+    # rt shows what the program printed from the first byte that is not its stdout's
+    shown = re.search(r'at byte (\d+), expected ".*", found "(.*)\\n"', said)
+    line = shown and re.fullmatch(r'\d+ vectors, (\d+) differ', stdout[:int(shown[1])] + shown[2])
+    return int(line[1]) if line else None, said
+
+
 caught = 0
 with tempfile.TemporaryDirectory() as top:
     work = os.path.join(top, 'copy')
     shutil.copytree('.', work, ignore=shutil.ignore_patterns('target', '.git', 'oracle'))
     subprocess.run(['git', 'init', '-q', work], check=True)
+    count, said = tried(work)
+    if count != 0:
+        sys.exit(f'with nothing planted, the program does not print its stdout:\n{said}')
     for number, path, old, new in rows:
         path = os.path.join(work, path)
         text = open(path).read()
@@ -22,12 +42,16 @@ with tempfile.TemporaryDirectory() as top:
             print(f'{number}: the old text stands {text.count(old)} times in {path}')
             continue
         open(path, 'w').write(text.replace(old, new))
-        run = subprocess.run(['rt', 'try', crate], cwd=work, capture_output=True, text=True)
+        count, said = tried(work)
         open(path, 'w').write(text)
-        if run.returncode == 0:
-            print(f'{number}: NOT CAUGHT  {old} -> {new}')
-        else:
+        if count:
             caught += 1
-            print(f'{number}: caught')
+            print(f'{number}: caught, {count} differ', flush=True)
+        elif count == 0:
+            print(f'{number}: NOT CAUGHT  {old} -> {new}', flush=True)
+        elif 'the native program' in said:
+            print(f'{number}: PRINTS NO COUNT  {old} -> {new}\n{said}', flush=True)
+        else:
+            print(f'{number}: DOES NOT COMPILE  {old} -> {new}\n{said}', flush=True)
 print(f'{caught} of {len(rows)} planted mistakes caught')
 sys.exit(0 if caught == len(rows) else 1)

@@ -1,7 +1,7 @@
 #!/usr/bin/env python3
-"""samples.py SAMPLES..: computes the definition on the oracle's samples. SAMPLES are files of JSON lines from `oracle samples` (check),
-`oracle samples-list` or `oracle samples-owner`. Copies the repository to a temporary folder, adds a crate `samples` whose theorems say that the
-definition gives each answer, by computation alone (`refl`), and has it checked. Run from the repository's top, outside the gate."""
+"""samples.py SAMPLES..: computes the definition on the oracle's samples. SAMPLES are files of JSON lines from `oracle samples`. Copies the repository
+to a temporary folder, adds a crate `samples` whose theorems say that the definition gives each answer, by computation alone (`refl`), and has it
+checked. Run from the repository's top, outside the gate."""
 import glob
 import json
 import os
@@ -36,7 +36,7 @@ def definitions(crates):
 
 def check_term(c):
     rec = lambda side: 'rec (%s) (%s) builtIn' % (nat_list(c[side + '_stream']), nat_list(c[side + '_pool']))
-    return ('Rattle.compare.specs.Answer.check %d (%s) (%s)' % (c['room'], rec('cur'), rec('rel')),
+    return ('check %d (%s) (%s)' % (c['room'], rec('cur'), rec('rel')),
             'record { number = %d; side = %d; place = %d; len = %d; text = %s }' % (c['number'], c['side'], c['place'], c['length'], text_list(c['text'])))
 
 
@@ -46,22 +46,21 @@ def write_crate(top, cases):
         os.makedirs(os.path.join(folder, sub))
     open(os.path.join(folder, 'src/lib.rt'), 'w').write('// Nothing: the theorems are all.\n')
     open(os.path.join(folder, 'specs/Lib.antt'), 'w').write('')
-    found = definitions(['record', 'layout', 'compare'] if os.path.isdir('crates/compare') else ['record', 'layout'])
+    found = definitions(['record', 'layout', 'definition'])
     uses = ''.join('use Rattle.%s.specs.%s as %s-%s\n' % (c, m, c, m) for c, m, _ in found)
     opened = ' '.join('%s-%s.%s' % (c, m, n) for c, m, names in found for n in names)
     modules = []
     for k in range(0, len(cases), BATCH):
         name = 'Batch%d' % (k // BATCH)
         modules.append(name)
-        o = 'use mathlib.Core.Path.{_≡_, refl}\nuse mathlib.Core.List.{List, [], _∷_}\nuse Rattle.compare.specs.Answer.{Answer, check}\nuse Rattle.record.specs.Reading.{rec}\nuse Rattle.record.specs.Scalars.{builtIn}\n' + uses
+        o = 'use mathlib.Core.Path.{_≡_, refl}\nuse mathlib.Core.List.{List, [], _∷_}\nuse Rattle.layout.specs.Answer.{Answer}\nuse Rattle.definition.specs.Answer.{check}\nuse Rattle.record.specs.Reading.{rec}\nuse Rattle.record.specs.Scalars.{builtIn}\n' + uses
         for i, c in enumerate(cases[k:k + BATCH]):
             term, answer = check_term(c)
-            term = term.replace('Rattle.compare.specs.Answer.check', 'check')
             o += '\n-- number %d\nsample-%d : _≡_ {A = Answer} (%s) (%s)\nunfolding %s\nsample-%d = refl\n' % (c['number'], i, term, answer, opened, i)
         open(os.path.join(folder, 'proofs/%s.antt' % name), 'w').write(o)
     open(os.path.join(folder, 'proofs/Lib.antt'), 'w').write(''.join('pub mod %s\n' % m for m in modules))
     with open(os.path.join(top, 'crates.txt'), 'a') as f:
-        f.write('samples: record layout compare\n')
+        f.write('samples: record layout definition\n')
 
 
 def main():

@@ -1,7 +1,7 @@
 #!/usr/bin/env python3
-"""verdicts.py: writes what crate compare says of each verdict, from the table below: specs/Verdicts.antt and proofs/Words.antt, src/verdict.rt,
-src/messages.rt, specs/Meaning.antt, proofs/VerdictLaws.antt, and the proof files of the functions in verdict.rt and messages.rt. Run from the
-repository's top; then `rt fmt`.
+"""verdicts.py: writes what is said of each verdict, from the table below: specs/Verdicts.antt and proofs/Words.antt of crate definition, and of crate
+verdicts src/verdict.rt, src/messages.rt, specs/Meaning.antt, proofs/VerdictLaws.antt and the proof files of the functions in verdict.rt and
+messages.rt. Run from the repository's top; then `rt fmt`.
 
 A row: 01's number, 01's word, the arguments with their kinds, the message as layout.rs formats it.
 Kinds: `now` and `was` are texts of the current and of the released pool; u32, u64 and i64 are numbers; the others, each of a side where it has
@@ -127,8 +127,8 @@ KINDS = {
 TYPES = {'Text': 'record::text', 'OptText': 'record::operands', 'Description': 'record::describe', 'TypeName': 'layout::names',
          'Item': 'crate::arguments', 'ConstantValue': 'crate::arguments'}
 MEANINGS = {'textOf': 'Rattle.record.specs.Stretch', 'optOf': 'Rattle.record.specs.Lists', 'describedAs': 'Rattle.record.specs.Describe',
-            'nameOf': 'Rattle.layout.specs.Names', 'valueText': 'Rattle.compare.specs.Constants',
-            'itemOf': 'Rattle.compare.specs.Arguments', 'valueMeant': 'Rattle.compare.specs.Arguments'}
+            'nameOf': 'Rattle.layout.specs.Names', 'valueText': 'Rattle.definition.specs.Constants',
+            'itemOf': 'Rattle.verdicts.specs.Arguments', 'valueMeant': 'Rattle.verdicts.specs.Arguments'}
 
 
 class Row:
@@ -149,7 +149,8 @@ class Row:
 TABLE = [Row(*row) for row in ROWS]
 assert [r.number for r in TABLE] == list(range(11, 47))
 
-C = 'crates/compare/'
+D = 'crates/definition/'
+C = 'crates/verdicts/'
 
 
 def definition():
@@ -215,7 +216,7 @@ changeText (some f) = bytes "gained " ++ f
 unfoldable pub %s : %s
 %s = stop %s (joined (%s))
 ''' % (r.number, r.name, ' → '.join([k.type for k in r.kinds.values()] + ['Verdict']), ' '.join([r.name] + list(r.kinds)), r.word, ' ∷ '.join(shown + ['[]']))
-    open(C + 'specs/Verdicts.antt', 'w').write(o)
+    open(D + 'specs/Verdicts.antt', 'w').write(o)
 
 
 def numbers():
@@ -223,12 +224,12 @@ def numbers():
     o = '''-- No verdict has the number of an acceptance or of a refusal. Written by tools/verdicts.py. Assumes nothing.
 use Prim.Native.Nat.{_≤_}
 use lib.Dec.{lit≤}
-use Rattle.compare.specs.Verdicts.{Word, wordNumber, %s}
+use Rattle.definition.specs.Verdicts.{Word, wordNumber, %s}
 
 pub word-large : (w : Word) → 11 ≤ wordNumber w
 unfolding wordNumber
 %s''' % (', '.join(r.word for r in TABLE), ''.join('word-large %s = lit≤ tt\n' % r.word for r in TABLE))
-    open(C + 'proofs/Words.antt', 'w').write(o)
+    open(D + 'proofs/Words.antt', 'w').write(o)
 
 
 def snake(r):
@@ -271,7 +272,7 @@ def code():
 // Written by tools/verdicts.py.
 %s
 ghost use mathlib.Core.Path.{_≡_};
-ghost use Rattle.compare.specs.Meaning.{numberFor};
+ghost use Rattle.verdicts.specs.Meaning.{numberFor};
 
 pub enum Verdict {
     Passed,
@@ -294,9 +295,9 @@ impl Verdict {
     o = '''// The messages of the verdicts, written from their templates: a byte below 32 is the number of an argument. Written by tools/verdicts.py.
 %s
 %s
-ghost use Rattle.compare.specs.Verdicts.{messageOf, %s};
-ghost use Rattle.compare.specs.Template.{Writes};
-ghost use Rattle.compare.specs.Meaning.{meaning};
+ghost use Rattle.definition.specs.Verdicts.{messageOf, %s};
+ghost use Rattle.verdicts.specs.Template.{Writes};
+ghost use Rattle.verdicts.specs.Meaning.{meaning};
 ''' % (type_uses(['use crate::template::%s;' % n for n in ['Arg', 'Written'] + [writer(r) for r in TABLE]] + ['use crate::verdict::Verdict;']),
        meaning_uses(ghost=True), ', '.join(r.name for r in TABLE))
     for r in TABLE:
@@ -343,10 +344,10 @@ def meaning():
 use Prim.Native.Nat.{ℕ}
 use Rattle.record.specs.Base.{Str}
 %s
-use Rattle.compare.specs.Verdicts as D
-use Rattle.compare.specs.Verdicts.{%s}
-use Rattle.compare.specs.declared.verdict.Verdict.{Verdict}
-use Rattle.compare.specs.declared.verdict.Verdict.the-variants.{Passed, %s}
+use Rattle.definition.specs.Verdicts as D
+use Rattle.definition.specs.Verdicts.{%s}
+use Rattle.verdicts.specs.declared.verdict.Verdict.{Verdict}
+use Rattle.verdicts.specs.declared.verdict.Verdict.the-variants.{Passed, %s}
 
 unfoldable pub meaning : Str → Str → Verdict → D.Verdict
 meaning pool old Passed = D.pass
@@ -370,13 +371,13 @@ use types.Run.{OneOf}
 use denote.Enum.Declared.{tagOf}
 use Rattle.record.specs.Base.{Str}
 use Rattle.record.proofs.Tags.{not-one-of}
-use Rattle.compare.specs.Verdicts as D
-use Rattle.compare.specs.Verdicts.{wordNumber, verdictNumber, %(names)s}
-use Rattle.compare.specs.Pass.{_then_}
-use Rattle.compare.specs.Meaning.{meaning, numberFor}
-use Rattle.compare.proofs.verdict.Verdict.{the-type}
-use Rattle.compare.specs.declared.verdict.Verdict.{Verdict}
-use Rattle.compare.specs.declared.verdict.Verdict.the-variants.{Passed, %(variants)s}
+use Rattle.definition.specs.Verdicts as D
+use Rattle.definition.specs.Verdicts.{wordNumber, verdictNumber, %(names)s}
+use Rattle.definition.specs.Pass.{_then_}
+use Rattle.verdicts.specs.Meaning.{meaning, numberFor}
+use Rattle.verdicts.proofs.verdict.Verdict.{the-type}
+use Rattle.verdicts.specs.declared.verdict.Verdict.{Verdict}
+use Rattle.verdicts.specs.declared.verdict.Verdict.the-variants.{Passed, %(variants)s}
 
 -- what the else of a test for Passed knows
 abbrev pub violated : Verdict → Type 0
@@ -409,8 +410,8 @@ def proofs():
         call = writer(r).replace('_', '-')
         proof('messages/' + snake(r), [('slice-aggregate-' + call, 'c', 'refl'), (call + '-requires', 'c κs', 'tt'), ('same-length', 'c', 'c .before .out .given'),
                                        ('returns', 'c', 'c .before .before .%s .ensures' % call)],
-              ['use mathlib.Core.Path.{refl}', 'use Rattle.record.specs.Base.{bytes}', 'use Rattle.record.specs.Fill.{joined}', 'use Rattle.compare.specs.Template.{pickOf, filled}',
-               'use Rattle.compare.specs.Verdicts.{messageOf, %s}' % r.name], {'returns': 'bytes joined pickOf filled messageOf ' + r.name})
+              ['use mathlib.Core.Path.{refl}', 'use Rattle.record.specs.Base.{bytes}', 'use Rattle.record.specs.Fill.{joined}', 'use Rattle.verdicts.specs.Template.{pickOf, filled}',
+               'use Rattle.definition.specs.Verdicts.{messageOf, %s}' % r.name], {'returns': 'bytes joined pickOf filled messageOf ' + r.name})
     needs, ends, unfolding = [], [], {'returns': 'meaning messageOf'}
     counts = {'enum-told': 0, 'enum-known-v': 0}
 
@@ -436,12 +437,12 @@ def proofs():
         unfolding['returns-%d' % (i + 2)] = 'meaning'
     proof('messages/write_verdict', needs + ends,
           ['use mathlib.Core.Path.{refl}', 'use mathlib.Core.List.{[]}', 'use native.Mathlib.Omega.{arith}',
-           'use Rattle.record.proofs.WriterLaws.{front-none}', 'use Rattle.compare.proofs.TemplateLaws.{writes-whole}', 'use Rattle.compare.specs.Verdicts.{messageOf}',
-           'use Rattle.compare.specs.Meaning.{meaning}'], unfolding)
+           'use Rattle.record.proofs.WriterLaws.{front-none}', 'use Rattle.verdicts.proofs.TemplateLaws.{writes-whole}', 'use Rattle.definition.specs.Verdicts.{messageOf}',
+           'use Rattle.verdicts.specs.Meaning.{meaning}'], unfolding)
 
 
 def proof(function, needs, uses, unfolding):
-    module = 'Rattle.compare.proofs.' + function.replace('/', '.')
+    module = 'Rattle.verdicts.proofs.' + function.replace('/', '.')
     o = '\n'.join(uses + ['use %s.Statement.{statement}' % module, 'use %s.Tie as tie' % module]) + '\n'
     for name, arguments, answer in needs:
         o += '\n%s : tie.Need-%s\n' % (name, name)

@@ -42,6 +42,18 @@ struct OwnerAnswer {
 }
 
 unsafe extern "C" {
+    fn menqachu_check(
+        stream: *const u8,
+        stream_len: usize,
+        pool: *const u8,
+        pool_len: usize,
+        past: *const u8,
+        past_len: usize,
+        old: *const u8,
+        old_len: usize,
+        out: *mut u8,
+        out_len: usize,
+    ) -> Answer;
     fn menqachu_list(
         released: bool,
         stream: *const u8,
@@ -59,6 +71,25 @@ unsafe extern "C" {
         name: *const u8,
         name_len: usize,
     ) -> OwnerAnswer;
+}
+
+/// Checks a current record against a released one; a verdict's message stands at the front of `out`.
+pub fn check(current: Record, released: Record, out: &mut [u8]) -> Answer {
+    // SAFETY: each pointer comes with the length of its slice, and only `out` is written to.
+    unsafe {
+        menqachu_check(
+            current.stream.as_ptr(),
+            current.stream.len(),
+            current.pool.as_ptr(),
+            current.pool.len(),
+            released.stream.as_ptr(),
+            released.stream.len(),
+            released.pool.as_ptr(),
+            released.pool.len(),
+            out.as_mut_ptr(),
+            out.len(),
+        )
+    }
 }
 
 /// The layouts of a record, one line a field, at the front of `out`.

@@ -76,6 +76,31 @@ fn list(tally: &mut Tally, encoded: &Encoded, side: Side, room: usize) {
     tally.count(expected.number, same, (encoded, side, room));
 }
 
+/// Pairs checked with the room that the programs lend, with the room that the message needs, and with a byte less.
+pub fn checks(seed: u64, count: u64) -> Tally {
+    let mut rng = Rng::new(seed);
+    let mut tally = Tally::default();
+    for _ in 0..count {
+        let pair = generate::pair(&mut rng);
+        let needed = pair.check(65_536).length as usize;
+        for room in [65_536, needed, needed.saturating_sub(1)] {
+            check(&mut tally, &pair, room);
+        }
+    }
+    tally
+}
+
+fn check(tally: &mut Tally, pair: &generate::Pair, room: usize) {
+    let expected = pair.check(room);
+    let mut out = vec![MARK; room];
+    let answer = menqachu::check(record(&pair.current), record(&pair.released), &mut out);
+    let numbers = (answer.number, answer.side, answer.place, answer.len);
+    let meant = (expected.number, expected.side, expected.place as usize, expected.length as usize);
+    let (front, rest) = out.split_at(expected.text.len().min(room));
+    let same = numbers == meant && front == expected.text.as_bytes() && rest.iter().all(|&b| b == MARK);
+    tally.count(expected.number, same, (pair, room, numbers, meant));
+}
+
 /// Every current record asked for names that it has, and for one that it does not have. The tally is by 0 none, 1 owner, 2 refusal.
 pub fn owners(seed: u64, count: u64) -> Tally {
     let mut rng = Rng::new(seed);

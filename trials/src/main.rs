@@ -1,5 +1,6 @@
 //! Holds the proved calls against the Rust.
 //!
+//!     trials checks SEED COUNT    pairs drawn, and checked
 //!     trials lists SEED COUNT     records drawn, listed as current and as released
 //!     trials owners SEED COUNT    records drawn, asked for owners
 //!     trials bench                the time of each call beside the Rust's
@@ -9,7 +10,7 @@ mod differ;
 
 use std::process::ExitCode;
 
-const USAGE: &str = "usage: trials lists SEED COUNT | trials owners SEED COUNT | trials bench";
+const USAGE: &str = "usage: trials checks|lists|owners SEED COUNT | trials bench";
 
 fn main() -> ExitCode {
     let words: Vec<String> = std::env::args().skip(1).collect();
@@ -20,6 +21,7 @@ fn main() -> ExitCode {
             return ExitCode::SUCCESS;
         }
         [call, seed, count] => match (call, seed.parse(), count.parse()) {
+            ("checks", Ok(seed), Ok(count)) => differ::checks(seed, count),
             ("lists", Ok(seed), Ok(count)) => differ::lists(seed, count),
             ("owners", Ok(seed), Ok(count)) => differ::owners(seed, count),
             _ => return usage(),

@@ -10,16 +10,16 @@ use borrow.Author.Tests.{le-leb}
 use Rattle.record.specs.Base.{Str}
 use Rattle.record.specs.Fill.{fronted}
 use Rattle.record.proofs.WriterLaws.{front-none}
-use Rattle.compare.specs.Verdicts as D
-use Rattle.compare.specs.Verdicts.{verdictNumber, messageOf}
+use Rattle.definition.specs.Verdicts as D
+use Rattle.definition.specs.Verdicts.{verdictNumber, messageOf}
 use Rattle.layout.specs.Answer.{textOr, Answered}
-use Rattle.compare.specs.Answer.{verdictOf}
-use Rattle.compare.specs.Template.{Writes, answerIf}
-use Rattle.compare.specs.Meaning.{meaning, numberFor}
-use Rattle.compare.specs.declared.template.Written.{Written}
-use Rattle.compare.specs.declared.template.Written.the-variants.{Whole, NoRoom}
-use Rattle.compare.specs.declared.verdict.Verdict.{Verdict}
-use Rattle.compare.proofs.VerdictLaws.{number-is}
+use Rattle.definition.specs.Answer.{verdictOf}
+use Rattle.verdicts.specs.Template.{Writes, answerIf}
+use Rattle.verdicts.specs.Meaning.{meaning, numberFor}
+use Rattle.verdicts.specs.declared.template.Written.{Written}
+use Rattle.verdicts.specs.declared.template.Written.the-variants.{Whole, NoRoom}
+use Rattle.verdicts.specs.declared.verdict.Verdict.{Verdict}
+use Rattle.verdicts.proofs.VerdictLaws.{number-is}
 
 -- one case for each answer of the writer
 module _ (out after : Str) (n k : ℕ) where

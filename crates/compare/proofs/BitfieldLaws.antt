@@ -22,15 +22,15 @@ use Rattle.record.specs.declared.lists.MemberStep.{MemberStep}
 use Rattle.record.specs.declared.lists.MemberStep.the-variants.{NoMember, AMember}
 use Rattle.record.proofs.ListLaws.{find-none, find-hit, find-miss}
 use Rattle.record.proofs.StepLaws.{members-over-now, members-now, bitfields-over-now, bitfields-now}
-use Rattle.compare.specs.Verdicts.{bitMoved}
-use Rattle.compare.specs.Pass.{_then_, ensure, onFound}
-use Rattle.compare.specs.Bitfields.{widthOf, spanIn, checkMember, checkMembers, checkBitfield, checkBitfields}
+use Rattle.definition.specs.Verdicts.{bitMoved}
+use Rattle.definition.specs.Pass.{_then_, ensure, onFound}
+use Rattle.definition.specs.Bitfields.{widthOf, spanIn, checkMember, checkMembers, checkBitfield, checkBitfields}
 use Rattle.compare.specs.Sought.{spansOf, SpanFrom}
-use Rattle.compare.specs.Meaning.{meaning}
-use Rattle.compare.specs.declared.verdict.Verdict.{Verdict}
-use Rattle.compare.specs.declared.verdict.Verdict.the-variants.{Passed, BitFieldGone, MemberRenamed, MemberGone, BitMoved, WidthChanged}
-use Rattle.compare.proofs.VerdictLaws.{violated}
-use Rattle.compare.proofs.Each.{each-end, each-on, each-stop}
+use Rattle.verdicts.specs.Meaning.{meaning}
+use Rattle.verdicts.specs.declared.verdict.Verdict.{Verdict}
+use Rattle.verdicts.specs.declared.verdict.Verdict.the-variants.{Passed, BitFieldGone, MemberRenamed, MemberGone, BitMoved, WidthChanged}
+use Rattle.verdicts.proofs.VerdictLaws.{violated}
+use Rattle.verdicts.proofs.Each.{each-end, each-on, each-stop}
 
 -- a member's width
 pub width-none : (g : OptNumber) → g ≡ Missing → 1 ≡ orElse (numberOf g) 1

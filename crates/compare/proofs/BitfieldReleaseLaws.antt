@@ -20,22 +20,22 @@ use Rattle.record.specs.declared.lists.BitfieldStep.the-variants.{NoBitfield, A
 use Rattle.record.specs.declared.lists.MemberStep.{MemberStep}
 use Rattle.record.specs.declared.lists.MemberStep.the-variants.{NoMember, AMember}
 use Rattle.record.proofs.StepLaws.{members-over-now, members-now, bitfields-over-now, bitfields-now}
-use Rattle.compare.specs.Verdicts as D
-use Rattle.compare.specs.Pass.{_then_, ensure, required}
-use Rattle.compare.specs.Arguments.{itemOf}
-use Rattle.compare.specs.BitfieldReleases.{bitfieldRelease, memberRelease, checkArrived, checkMemberArrived, checkMembersArrived, checkBitfieldArrived, checkBitfieldReleases}
+use Rattle.definition.specs.Verdicts as D
+use Rattle.definition.specs.Pass.{_then_, ensure, required}
+use Rattle.verdicts.specs.Arguments.{itemOf}
+use Rattle.definition.specs.BitfieldReleases.{bitfieldRelease, memberRelease, checkArrived, checkMemberArrived, checkMembersArrived, checkBitfieldArrived, checkBitfieldReleases}
 use Rattle.compare.specs.Required.{RequiredText}
 use Rattle.compare.specs.Shipped.{shippedOf, ShippedWith}
 use Rattle.compare.specs.Sought.{BitfieldShipped}
-use Rattle.compare.specs.Meaning.{meaning}
-use Rattle.compare.specs.declared.arguments.Item.{Item}
-use Rattle.compare.specs.declared.arguments.Item.the-variants as I
+use Rattle.verdicts.specs.Meaning.{meaning}
+use Rattle.verdicts.specs.declared.arguments.Item.{Item}
+use Rattle.verdicts.specs.declared.arguments.Item.the-variants as I
 use Rattle.compare.specs.declared.shipped.Shipped.{Shipped}
 use Rattle.compare.specs.declared.shipped.Shipped.the-variants.{Absent, Named, Unstated}
-use Rattle.compare.specs.declared.verdict.Verdict.{Verdict}
-use Rattle.compare.specs.declared.verdict.Verdict.the-variants.{Passed, BitsLate, BitsRedated}
-use Rattle.compare.proofs.VerdictLaws.{violated, stays}
-use Rattle.compare.proofs.Each.{each-end, each-on, each-stop}
+use Rattle.verdicts.specs.declared.verdict.Verdict.{Verdict}
+use Rattle.verdicts.specs.declared.verdict.Verdict.the-variants.{Passed, BitsLate, BitsRedated}
+use Rattle.verdicts.proofs.VerdictLaws.{violated, stays}
+use Rattle.verdicts.proofs.Each.{each-end, each-on, each-stop}
 
 -- what the copy says of a bit field
 module _ (w : BitfieldStep) where

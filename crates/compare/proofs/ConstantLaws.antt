@@ -36,19 +36,20 @@ use Rattle.record.proofs.VersionedLaws.{versioned-are-roots}
 use Rattle.record.proofs.WriterLaws.{puts-exact, puts-front}
 use Rattle.record.proofs.StepLaws.{constants-over-now, constants-now}
 use Rattle.layout.specs.Constants.{placedConstant, ConstantsTable}
-use Rattle.compare.specs.Verdicts as D
-use Rattle.compare.specs.Pass.{ensure, required, onFound}
-use Rattle.compare.specs.Arguments.{valueMeant}
-use Rattle.compare.specs.Constants.{valueText, lastConstant, holdsIn, heldByAny, isGeneration, checkConstant, checkConstantsIn, checkConstants}
+use Rattle.definition.specs.Verdicts as D
+use Rattle.definition.specs.Pass.{ensure, required, onFound}
+use Rattle.definition.specs.Constants.{valueText}
+use Rattle.verdicts.specs.Arguments.{valueMeant}
+use Rattle.definition.specs.Constants.{lastConstant, holdsIn, heldByAny, isGeneration, checkConstant, checkConstantsIn, checkConstants}
 use Rattle.compare.specs.Required.{RequiredText}
 use Rattle.compare.specs.Sought.{HoldsValue}
-use Rattle.compare.specs.Meaning.{meaning}
-use Rattle.compare.specs.declared.arguments.ConstantValue.{ConstantValue}
-use Rattle.compare.specs.declared.arguments.ConstantValue.the-variants.{Integer, Words}
-use Rattle.compare.specs.declared.verdict.Verdict.{Verdict}
-use Rattle.compare.specs.declared.verdict.Verdict.the-variants.{Passed, ConstantGone, ConstantChanged}
-use Rattle.compare.proofs.VerdictLaws.{violated}
-use Rattle.compare.proofs.Each.{each-end, each-on, each-stop}
+use Rattle.verdicts.specs.Meaning.{meaning}
+use Rattle.verdicts.specs.declared.arguments.ConstantValue.{ConstantValue}
+use Rattle.verdicts.specs.declared.arguments.ConstantValue.the-variants.{Integer, Words}
+use Rattle.verdicts.specs.declared.verdict.Verdict.{Verdict}
+use Rattle.verdicts.specs.declared.verdict.Verdict.the-variants.{Passed, ConstantGone, ConstantChanged}
+use Rattle.verdicts.proofs.VerdictLaws.{violated}
+use Rattle.verdicts.proofs.Each.{each-end, each-on, each-stop}
 
 -- what a constant holds
 module _ (c : C.Constant.Constant) where
@@ -279,7 +280,8 @@ module _ (s p b q : Str) (t : List ℕ) (i : ℕ) where
 pub ruleset placed-laws = (placed-end, placed-on, placed-stop)
 
 -- the table holds the released constants in byte order of their names
-pub table-checked : (s p b q : Str) (t : List ℕ) (v : Verdict) → ConstantsTable b q t
+pub table-checked : (s p b q : Str) (t x y : List ℕ) (v : Verdict) → length b ≤ 32768 → 8192 ≤ length x → 8192 ≤ length y
+    → (length b ≤ 32768 → 8192 ≤ length x → 8192 ≤ length y → ConstantsTable b q t)
     → meaning p q v ≡ checkConstantsIn (structsAt s p 0) (constantsAt s p 0) (map (placedConstant b q) t) → meaning p q v ≡ checkConstants (structsAt s p 0) (constantsAt s p 0) (constantsAt b q 0)
 unfolding checkConstants
-table-checked s p b q t v h e = e ∙ ap (checkConstantsIn (structsAt s p 0) (constantsAt s p 0)) (h .constants)
+table-checked s p b q t x y v i j k h e = e ∙ ap (checkConstantsIn (structsAt s p 0) (constantsAt s p 0)) (h i j k .constants)

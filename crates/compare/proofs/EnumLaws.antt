@@ -20,14 +20,14 @@ use Rattle.record.specs.declared.lists.ValueStep.{ValueStep}
 use Rattle.record.specs.declared.lists.ValueStep.the-variants.{NoValue, AValue}
 use Rattle.record.proofs.ListLaws.{find-none, find-hit, find-miss}
 use Rattle.record.proofs.StepLaws.{values-over-now, values-now, enums-over-now, enums-now}
-use Rattle.compare.specs.Pass.{ensure, onFound, empty}
-use Rattle.compare.specs.Enums.{numberIn, checkValue, checkValues, checkEnum, checkEnums}
+use Rattle.definition.specs.Pass.{ensure, onFound, empty}
+use Rattle.definition.specs.Enums.{numberIn, checkValue, checkValues, checkEnum, checkEnums}
 use Rattle.compare.specs.Sought.{NumberFrom}
-use Rattle.compare.specs.Meaning.{meaning}
-use Rattle.compare.specs.declared.verdict.Verdict.{Verdict}
-use Rattle.compare.specs.declared.verdict.Verdict.the-variants.{Passed, EnumGone, Renumbered, Renamed, ValueGone}
-use Rattle.compare.proofs.VerdictLaws.{violated}
-use Rattle.compare.proofs.Each.{each-end, each-on, each-stop}
+use Rattle.verdicts.specs.Meaning.{meaning}
+use Rattle.verdicts.specs.declared.verdict.Verdict.{Verdict}
+use Rattle.verdicts.specs.declared.verdict.Verdict.the-variants.{Passed, EnumGone, Renumbered, Renamed, ValueGone}
+use Rattle.verdicts.proofs.VerdictLaws.{violated}
+use Rattle.verdicts.proofs.Each.{each-end, each-on, each-stop}
 
 -- a value by its number
 pub record NumberOn (n : ℕ) (s : Str) (a b : ℕ) : Type 0 where

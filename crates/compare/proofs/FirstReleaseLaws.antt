@@ -30,21 +30,22 @@ use Rattle.record.specs.declared.lists.EnumStep.the-variants.{NoEnum, AnEnum}
 use Rattle.record.specs.declared.lists.ValueStep.{ValueStep}
 use Rattle.record.specs.declared.lists.ValueStep.the-variants.{NoValue, AValue}
 use Rattle.record.proofs.StepLaws.{constants-now, constants-over-now, enums-now, enums-over-now, values-now, values-over-now}
-use Rattle.compare.specs.Verdicts.{aConstant, anEnum, aKey, within, valueUndated}
-use Rattle.compare.specs.Pass.{_then_, ensure, onFound}
-use Rattle.compare.specs.Arguments.{itemOf}
+use Rattle.definition.specs.Verdicts.{aConstant, anEnum, aKey, within, valueUndated}
+use Rattle.definition.specs.Pass.{_then_, ensure, onFound}
+use Rattle.verdicts.specs.Arguments.{itemOf}
 use Rattle.compare.specs.Required.{RequiredText}
-use Rattle.compare.specs.Shipped.{constantRelease, apiEnum, valueRelease, keyRelease, shippedOf, EnumShipped}
+use Rattle.definition.specs.FirstReleases.{constantRelease, apiEnum, valueRelease, keyRelease}
+use Rattle.compare.specs.Shipped.{shippedOf, EnumShipped}
 use Rattle.compare.specs.Sought.{PassedIf, ValueDated}
-use Rattle.compare.specs.FirstReleases.{checkArrival, checkConstantArrival, checkConstantArrivals, checkValueArrival, checkValueArrivals, checkEnumArrival, checkEnumArrivals, checkKeyArrival, checkKeyArrivals, checkFirstReleases}
-use Rattle.compare.specs.Meaning.{meaning}
-use Rattle.compare.specs.declared.arguments.Item.{Item}
+use Rattle.definition.specs.FirstReleases.{checkArrival, checkConstantArrival, checkConstantArrivals, checkValueArrival, checkValueArrivals, checkEnumArrival, checkEnumArrivals, checkKeyArrival, checkKeyArrivals, checkFirstReleases}
+use Rattle.verdicts.specs.Meaning.{meaning}
+use Rattle.verdicts.specs.declared.arguments.Item.{Item}
 use Rattle.compare.specs.declared.shipped.Shipped.{Shipped}
 use Rattle.compare.specs.declared.shipped.Shipped.the-variants.{Absent, Named, Unstated}
-use Rattle.compare.specs.declared.verdict.Verdict.{Verdict}
-use Rattle.compare.specs.declared.verdict.Verdict.the-variants.{Passed, ValueUndated, Late, Redated, Backdated}
-use Rattle.compare.proofs.VerdictLaws.{violated, stays}
-use Rattle.compare.proofs.Each.{each-end, each-on, each-stop}
+use Rattle.verdicts.specs.declared.verdict.Verdict.{Verdict}
+use Rattle.verdicts.specs.declared.verdict.Verdict.the-variants.{Passed, ValueUndated, Late, Redated, Backdated}
+use Rattle.verdicts.proofs.VerdictLaws.{violated, stays}
+use Rattle.verdicts.proofs.Each.{each-end, each-on, each-stop}
 
 -- a verdict unless a test holds
 module _ (holds : Bool) (v : Verdict) where

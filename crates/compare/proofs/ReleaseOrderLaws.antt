@@ -11,11 +11,11 @@ use Rattle.record.specs.declared.operands.OptText.the-variants.{Absent, Given}
 use Rattle.record.specs.declared.release.Release.{Release}
 use Rattle.record.specs.declared.release.ReleaseParts.{ReleaseParts}
 use Rattle.record.specs.declared.release.ReleaseParts.the-variants.{NotARelease, Parts}
-use Rattle.compare.specs.Pass.{ensure}
-use Rattle.compare.specs.ReleaseOrder.{checkEarlier, checkCopy, checkReleaseOrder}
-use Rattle.compare.specs.Meaning.{meaning}
-use Rattle.compare.specs.declared.verdict.Verdict.{Verdict}
-use Rattle.compare.specs.declared.verdict.Verdict.the-variants.{Passed, NowUnreadable, BeforeNaming, WasUnreadable, NotLater}
+use Rattle.definition.specs.Pass.{ensure}
+use Rattle.definition.specs.ReleaseOrder.{checkEarlier, checkCopy, checkReleaseOrder}
+use Rattle.verdicts.specs.Meaning.{meaning}
+use Rattle.verdicts.specs.declared.verdict.Verdict.{Verdict}
+use Rattle.verdicts.specs.declared.verdict.Verdict.the-variants.{Passed, NowUnreadable, BeforeNaming, WasUnreadable, NotLater}
 
 -- the copy's release: x is its bytes and r what was read there
 module _ (p q x : Str) (now was : Text) (n : Release) (r : ReleaseParts) (t : x ≡ textOf q was) (h : r ≡ releaseParts x) where

@@ -5,7 +5,7 @@ use Rattle.record.specs.Stretch.{textOf}
 use Rattle.record.specs.declared.text.Text.{Text}
 use Rattle.record.specs.declared.operands.OptText.{OptText}
 use Rattle.record.specs.declared.operands.OptText.the-variants.{Absent, Given}
-use Rattle.compare.specs.Pass.{required}
+use Rattle.definition.specs.Pass.{required}
 use Rattle.compare.specs.Required.{RequiredText}
 
 module _ (t : OptText) where

@@ -29,7 +29,8 @@ use Rattle.record.specs.declared.lists.EnumStep.the-variants.{NoEnum, AnEnum}
 use Rattle.record.specs.declared.lists.ValueStep.{ValueStep}
 use Rattle.record.specs.declared.lists.ValueStep.the-variants.{NoValue, AValue}
 use Rattle.record.proofs.StepLaws.{constants-now, constants-over-now, enums-now, enums-over-now}
-use Rattle.compare.specs.Shipped.{constantRelease, apiEnum, enumRelease, valueRelease, keyRelease, shippedOf, ShippedWith, EnumShipped}
+use Rattle.definition.specs.FirstReleases.{constantRelease, apiEnum, enumRelease, valueRelease, keyRelease}
+use Rattle.compare.specs.Shipped.{shippedOf, ShippedWith, EnumShipped}
 use Rattle.compare.specs.declared.shipped.Shipped.{Shipped}
 use Rattle.compare.specs.declared.shipped.Shipped.the-variants.{Absent, Named, Unstated}
 

@@ -20,11 +20,11 @@ use Rattle.record.specs.declared.lists.StructStep.the-variants.{NoStruct, AStru
 use Rattle.record.specs.declared.lists.FamilyStep.{FamilyStep}
 use Rattle.record.specs.declared.lists.FamilyStep.the-variants.{NoFamily, AFamily}
 use Rattle.record.proofs.StepLaws.{constants-now, constants-over-now, aliases-now, aliases-over-now, enums-now, enums-over-now, bitfields-now, bitfields-over-now, structs-now, structs-over-now, families-now, families-over-now}
-use Rattle.compare.specs.Pass.{ensure, empty}
-use Rattle.compare.specs.Unreleased.{checkUnreleased}
+use Rattle.definition.specs.Pass.{ensure, empty}
+use Rattle.definition.specs.Unreleased.{checkUnreleased}
 use Rattle.compare.specs.Sought.{UnreleasedFrom}
-use Rattle.compare.specs.Meaning.{meaning}
-use Rattle.compare.specs.declared.verdict.Verdict.the-variants.{Passed, Described}
+use Rattle.verdicts.specs.Meaning.{meaning}
+use Rattle.verdicts.specs.declared.verdict.Verdict.the-variants.{Passed, Described}
 
 module _ (s : Str) (z : Cursor) (y : z ≡ start) where
   whole : {A : Type 0} (f : Str → Str → ℕ → List A) (q : Str) → f s q 0 ≡ f s q (z .at)

@@ -5,7 +5,7 @@ use Rattle.record.specs.Stretch.{textOf}
 use Rattle.record.specs.Lists.{optOf}
 use Rattle.record.specs.declared.text.Text.{Text}
 use Rattle.record.specs.declared.operands.OptText.{OptText}
-use Rattle.compare.specs.Pass.{required}
+use Rattle.definition.specs.Pass.{required}
 
 pub record RequiredText (t : OptText) (r : Text) : Type 0 where
   pub this : (p : Str) → textOf p r ≡ required (optOf p t)

@@ -14,17 +14,17 @@ use Rattle.record.specs.declared.command.Member.{Member}
 use Rattle.record.specs.declared.lists.ValueStep.{ValueStep}
 use Rattle.record.specs.declared.lists.MemberStep.{MemberStep}
 use Rattle.record.specs.declared.lists.BitfieldStep.{BitfieldStep}
-use Rattle.compare.specs.Pass.{ensure}
-use Rattle.compare.specs.Arguments.{valueMeant}
-use Rattle.compare.specs.Unreleased.{checkUnreleased}
+use Rattle.definition.specs.Pass.{ensure}
+use Rattle.verdicts.specs.Arguments.{valueMeant}
+use Rattle.definition.specs.Unreleased.{checkUnreleased}
 use Rattle.compare.specs.Shipped.{shippedOf}
-use Rattle.compare.specs.Enums.{numberIn}
-use Rattle.compare.specs.Bitfields.{spanIn}
-use Rattle.compare.specs.BitfieldReleases.{bitfieldRelease}
-use Rattle.compare.specs.Meaning.{meaning}
-use Rattle.compare.specs.declared.arguments.ConstantValue.{ConstantValue}
+use Rattle.definition.specs.Enums.{numberIn}
+use Rattle.definition.specs.Bitfields.{spanIn}
+use Rattle.definition.specs.BitfieldReleases.{bitfieldRelease}
+use Rattle.verdicts.specs.Meaning.{meaning}
+use Rattle.verdicts.specs.declared.arguments.ConstantValue.{ConstantValue}
 use Rattle.compare.specs.declared.shipped.Shipped.{Shipped}
-use Rattle.compare.specs.declared.verdict.Verdict.{Verdict}
+use Rattle.verdicts.specs.declared.verdict.Verdict.{Verdict}
 
 -- the test holds, or this verdict
 pub record PassedIf (holds : Bool) (v r : Verdict) : Type 0 where

@@ -1,9 +1,7 @@
 // The pass over the releases of bit fields: what is new arrives in this release, and what shipped keeps the release it arrived in.
-use crate::arguments::Item;
 use crate::required::required_text;
 use crate::shipped::Shipped;
 use crate::shipped::shipped_with;
-use crate::verdict::Verdict;
 use record::command::Bitfield;
 use record::command::Cursor;
 use record::command::Member;
@@ -18,16 +16,18 @@ use record::operands::OptText;
 use record::text::Text;
 use record::text::bytes_of;
 use record::text::same;
+use verdicts::arguments::Item;
+use verdicts::verdict::Verdict;
 ghost use mathlib.Core.Path.{_≡_};
 ghost use Rattle.record.specs.Stretch.{textOf};
 ghost use Rattle.record.specs.Lists.{optOf, bitfieldOf, memberOf};
 ghost use Rattle.record.specs.Steps.{bitfieldsAt, membersAt, bitfieldFound};
-ghost use Rattle.compare.specs.Pass.{required};
-ghost use Rattle.compare.specs.Arguments.{itemOf};
-ghost use Rattle.compare.specs.BitfieldReleases.{memberRelease, checkArrived, checkMemberArrived, checkMembersArrived, checkBitfieldArrived, checkBitfieldReleases};
+ghost use Rattle.definition.specs.Pass.{required};
+ghost use Rattle.verdicts.specs.Arguments.{itemOf};
+ghost use Rattle.definition.specs.BitfieldReleases.{memberRelease, checkArrived, checkMemberArrived, checkMembersArrived, checkBitfieldArrived, checkBitfieldReleases};
 ghost use Rattle.compare.specs.Shipped.{shippedOf};
 ghost use Rattle.compare.specs.Sought.{BitfieldShipped};
-ghost use Rattle.compare.specs.Meaning.{meaning};
+ghost use Rattle.verdicts.specs.Meaning.{meaning};
 
 // What the copy says of a bit field.
 fn bitfield_shipped(was: BitfieldStep) -> Shipped

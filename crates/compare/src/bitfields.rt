@@ -1,5 +1,4 @@
 // The pass over the bit fields: a released member keeps its name and its bits.
-use crate::verdict::Verdict;
 use record::command::Bitfield;
 use record::command::Cursor;
 use record::command::Member;
@@ -12,14 +11,15 @@ use record::lists::next_member;
 use record::operands::OptNumber;
 use record::text::Text;
 use record::text::bytes_of;
+use verdicts::verdict::Verdict;
 ghost use mathlib.Core.Path.{_≡_};
 ghost use Rattle.record.specs.Base.{orElse};
 ghost use Rattle.record.specs.Stretch.{textOf};
 ghost use Rattle.record.specs.Lists.{numberOf, bitfieldOf, memberOf};
 ghost use Rattle.record.specs.Steps.{bitfieldsAt, membersAt};
-ghost use Rattle.compare.specs.Bitfields.{checkMember, checkMembers, checkBitfield, checkBitfields};
+ghost use Rattle.definition.specs.Bitfields.{checkMember, checkMembers, checkBitfield, checkBitfields};
 ghost use Rattle.compare.specs.Sought.{spansOf, SpanFrom};
-ghost use Rattle.compare.specs.Meaning.{meaning};
+ghost use Rattle.verdicts.specs.Meaning.{meaning};
 
 // A member's width: one bit where none is given.
 fn width(given: OptNumber) -> u32

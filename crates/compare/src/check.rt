@@ -1,15 +1,23 @@
-// A verdict as an answer: its number, and its message in the lent buffer.
-use crate::messages::write_verdict;
-use crate::template::Written;
-use crate::verdict::Verdict;
+// The check: both records read, the passes, and the verdict as an answer with its message in the lent buffer.
+use crate::compare::compare;
 use layout::answer::Answer;
-ghost use Rattle.compare.specs.Meaning.{meaning};
+use layout::answer::refused;
+use record::read::Outcome;
+use record::read::read_record;
+use record::refusal::Side;
+use record::scalars::built_in;
+use verdicts::messages::write_verdict;
+use verdicts::template::Written;
+use verdicts::verdict::Verdict;
+ghost use Rattle.verdicts.specs.Meaning.{meaning};
 ghost use lib.ListN.{length};
 ghost use Rattle.layout.specs.Answer.{Answered};
-ghost use Rattle.compare.specs.Answer.{verdictOf};
+ghost use Rattle.record.specs.Scalars.{builtIn};
+ghost use Rattle.record.specs.Reading.{rec};
+ghost use Rattle.definition.specs.Answer.{verdictOf, check};
 
 // Answers a verdict, with its message in the lent buffer.
-pub fn answer_verdict(out: &mut [u8], v: Verdict, pool: &[u8], old: &[u8]) -> Answer
+fn answer_verdict(out: &mut [u8], v: Verdict, pool: &[u8], old: &[u8]) -> Answer
     ensures { λ r. ⌜ Answered (now (out .entry)) (now (out .exit)) (verdictOf (length (now (out .entry))) (meaning (now (pool .entry)) (now (old .entry)) v)) r ⌝ }
 {
     let number = v.number();
@@ -27,4 +35,19 @@ pub fn answer_verdict(out: &mut [u8], v: Verdict, pool: &[u8], old: &[u8]) -> An
             len: n,
         },
     }
+}
+
+// Checks a current record against a released one, with the message of a verdict in the lent buffer.
+pub fn check(stream: &[u8], pool: &[u8], past: &[u8], old: &[u8], out: &mut [u8]) -> Answer
+    ensures { λ r. ⌜ Answered (now (out .entry)) (now (out .exit)) (check (length (now (out .entry))) (rec (now (stream .entry)) (now (pool .entry)) builtIn) (rec (now (past .entry)) (now (old .entry)) builtIn)) r ⌝ }
+{
+    let rows = built_in();
+    if let Outcome::Refused(refusal, place) = read_record(Side::Current, &rows, stream, pool) {
+        return refused(Side::Current, refusal, place);
+    }
+    if let Outcome::Refused(refusal, place) = read_record(Side::Released, &rows, past, old) {
+        return refused(Side::Released, refusal, place);
+    }
+    let verdict = compare(&rows, stream, pool, past, old);
+    answer_verdict(out, verdict, pool, old)
 }

@@ -3,29 +3,48 @@ use crate::bitfield_releases::check_bitfield_releases;
 use crate::bitfields::check_bitfields;
 use crate::constants::check_constants;
 use crate::enums::check_enums;
+use crate::fields::check_fields;
 use crate::first_releases::check_first_releases;
+use crate::generations::check_generations;
+use crate::heads::head_release;
+use crate::heads::head_unreleased;
 use crate::release_order::check_release_order;
-use crate::verdict::Verdict;
+use crate::required::required_text;
+use crate::standalone::check_standalone;
+use crate::unreleased::check_unreleased;
+use layout::tables::fill_tables;
 use record::operands::OptText;
 use record::text::Text;
+use verdicts::verdict::Verdict;
 ghost use mathlib.Core.Path.{_≡_};
 ghost use Prim.Native.Nat.{_≤_};
 ghost use lib.ListN.{length};
 ghost use Rattle.record.specs.Stretch.{textOf};
 ghost use Rattle.record.specs.Lists.{optOf};
-ghost use Rattle.record.specs.Steps.{constantsAt, enumsAt, bitfieldsAt, structsAt, unstoredAt};
+ghost use Rattle.record.specs.Scalars.{scalarsOf};
+ghost use Rattle.record.specs.Steps.{constantsAt, enumsAt, bitfieldsAt, structsAt, familiesAt, unstoredAt, versionsAt};
 ghost use Rattle.record.specs.Keys.{pluginKeys};
-ghost use Rattle.compare.specs.Pass.{_then_};
-ghost use Rattle.compare.specs.ReleaseOrder.{checkReleaseOrder};
-ghost use Rattle.compare.specs.FirstReleases.{checkFirstReleases};
-ghost use Rattle.compare.specs.Constants.{checkConstants};
-ghost use Rattle.compare.specs.Enums.{checkEnums};
-ghost use Rattle.compare.specs.Bitfields.{checkBitfields};
-ghost use Rattle.compare.specs.BitfieldReleases.{checkBitfieldReleases};
-ghost use Rattle.compare.specs.Meaning.{meaning};
+ghost use Rattle.record.specs.References.{typesAt};
+ghost use Rattle.record.specs.Reading.{rec, schemaOf};
+ghost use Rattle.record.specs.Read.{Exact};
+ghost use Rattle.layout.specs.Tables.{Tables};
+ghost use Rattle.definition.specs.Pass.{_then_};
+ghost use Rattle.definition.specs.ReleaseOrder.{checkReleaseOrder};
+ghost use Rattle.definition.specs.FirstReleases.{checkFirstReleases};
+ghost use Rattle.definition.specs.Constants.{checkConstants};
+ghost use Rattle.definition.specs.Enums.{checkEnums};
+ghost use Rattle.definition.specs.Bitfields.{checkBitfields};
+ghost use Rattle.definition.specs.BitfieldReleases.{checkBitfieldReleases};
+ghost use Rattle.compare.specs.Layouts.{typesOf};
+ghost use Rattle.definition.specs.Fields.{checkFields};
+ghost use Rattle.definition.specs.Standalone.{checkStandalone};
+ghost use Rattle.definition.specs.Generations.{checkGenerations};
+ghost use Rattle.compare.specs.CoverTable.{changedTypes};
+ghost use Rattle.definition.specs.Compare.{compare};
+ghost use Rattle.verdicts.specs.Meaning.{meaning};
 
 // The releases of the two records, then the first releases of what the plugin API has.
-pub fn check_releases(
+fn check_releases(
     stream: &[u8],
     pool: &[u8],
     past: &[u8],
@@ -43,7 +62,7 @@ pub fn check_releases(
 }
 
 // Constants, then enums.
-pub fn check_numbers(
+fn check_numbers(
     stream: &[u8],
     pool: &[u8],
     past: &[u8],
@@ -62,7 +81,7 @@ pub fn check_numbers(
 }
 
 // Bit fields, then their releases.
-pub fn check_bits(stream: &[u8], pool: &[u8], past: &[u8], old: &[u8], current: Text) -> Verdict
+fn check_bits(stream: &[u8], pool: &[u8], past: &[u8], old: &[u8], current: Text) -> Verdict
     ensures { λ r. ⌜ meaning (now (pool .entry)) (now (old .entry)) r ≡ (checkBitfields (bitfieldsAt (now (stream .entry)) (now (pool .entry)) 0) (bitfieldsAt (now (past .entry)) (now (old .entry)) 0) then checkBitfieldReleases (textOf (now (pool .entry)) current) (bitfieldsAt (now (stream .entry)) (now (pool .entry)) 0) (bitfieldsAt (now (past .entry)) (now (old .entry)) 0)) ⌝ }
 {
     let verdict = check_bitfields(stream, pool, past, old);
@@ -70,4 +89,183 @@ pub fn check_bits(stream: &[u8], pool: &[u8], past: &[u8], old: &[u8], current: 
         return check_bitfield_releases(stream, pool, past, old, current);
     }
     verdict
+}
+
+// What a record declares outside its types: releases, then numbers, then bits.
+fn check_declared(
+    stream: &[u8],
+    pool: &[u8],
+    past: &[u8],
+    old: &[u8],
+    current: Text,
+    copy: OptText,
+    table: &mut [u32],
+    scratch: &mut [u32],
+) -> Verdict
+    requires { ⌜ (length (now past) ≤ 32768) × (8192 ≤ length (now table)) × (8192 ≤ length (now scratch)) ⌝ }
+    ensures { λ r. ⌜ meaning (now (pool .entry)) (now (old .entry)) r ≡ ((checkReleaseOrder (textOf (now (pool .entry)) current) (optOf (now (old .entry)) copy) then checkFirstReleases (textOf (now (pool .entry)) current) (optOf (now (old .entry)) copy) (constantsAt (now (stream .entry)) (now (pool .entry)) 0) (constantsAt (now (past .entry)) (now (old .entry)) 0) (enumsAt (now (stream .entry)) (now (pool .entry)) 0) (enumsAt (now (past .entry)) (now (old .entry)) 0) (pluginKeys (structsAt (now (stream .entry)) (now (pool .entry)) 0) (unstoredAt (now (stream .entry)) (now (pool .entry)) 0)) (pluginKeys (structsAt (now (past .entry)) (now (old .entry)) 0) (unstoredAt (now (past .entry)) (now (old .entry)) 0))) then (checkConstants (structsAt (now (stream .entry)) (now (pool .entry)) 0) (constantsAt (now (stream .entry)) (now (pool .entry)) 0) (constantsAt (now (past .entry)) (now (old .entry)) 0) then checkEnums (enumsAt (now (stream .entry)) (now (pool .entry)) 0) (enumsAt (now (past .entry)) (now (old .entry)) 0)) then (checkBitfields (bitfieldsAt (now (stream .entry)) (now (pool .entry)) 0) (bitfieldsAt (now (past .entry)) (now (old .entry)) 0) then checkBitfieldReleases (textOf (now (pool .entry)) current) (bitfieldsAt (now (stream .entry)) (now (pool .entry)) 0) (bitfieldsAt (now (past .entry)) (now (old .entry)) 0))) ⌝ }
+{
+    let first = check_releases(stream, pool, past, old, current, copy);
+    let Verdict::Passed = first else {
+        return first;
+    };
+    let second = check_numbers(stream, pool, past, old, table, scratch);
+    let Verdict::Passed = second else {
+        return second;
+    };
+    check_bits(stream, pool, past, old, current)
+}
+
+// Fields, then standalone families.
+fn check_types(
+    rows: &[u8],
+    stream: &[u8],
+    pool: &[u8],
+    types: &[u32],
+    sizes: &[u64],
+    past: &[u8],
+    old: &[u8],
+    shipped: &[u32],
+    widths: &[u64],
+) -> Verdict
+    requires { ⌜ Tables (rec (now stream) (now pool) (scalarsOf (now rows))) (now types) (now sizes) × Tables (rec (now past) (now old) (scalarsOf (now rows))) (now shipped) (now widths) ⌝ }
+    ensures { λ r. ⌜ meaning (now (pool .entry)) (now (old .entry)) r ≡ (checkFields (typesOf (rec (now (stream .entry)) (now (pool .entry)) (scalarsOf (now (rows .entry))))) (typesOf (rec (now (past .entry)) (now (old .entry)) (scalarsOf (now (rows .entry))))) then checkStandalone (familiesAt (now (stream .entry)) (now (pool .entry)) 0) (familiesAt (now (past .entry)) (now (old .entry)) 0) (typesOf (rec (now (stream .entry)) (now (pool .entry)) (scalarsOf (now (rows .entry))))) (typesOf (rec (now (past .entry)) (now (old .entry)) (scalarsOf (now (rows .entry)))))) ⌝ }
+{
+    let verdict = check_fields(rows, stream, pool, types, sizes, past, old, shipped, widths);
+    if let Verdict::Passed = verdict {
+        return check_standalone(rows, stream, pool, types, sizes, past, old, shipped, widths);
+    }
+    verdict
+}
+
+// Types, then generations.
+fn check_layouts(
+    rows: &[u8],
+    stream: &[u8],
+    pool: &[u8],
+    types: &[u32],
+    sizes: &[u64],
+    past: &[u8],
+    old: &[u8],
+    shipped: &[u32],
+    widths: &[u64],
+    marks: &mut [u8],
+    cover: &mut [u32],
+    current: Text,
+    copy: OptText,
+) -> Verdict
+    requires { ⌜ Tables (rec (now stream) (now pool) (scalarsOf (now rows))) (now types) (now sizes) × Tables (rec (now past) (now old) (scalarsOf (now rows))) (now shipped) (now widths) × (length (now stream) ≤ length (now marks)) × (length (now types) ≤ length (now cover)) ⌝ }
+    ensures { λ r. ⌜ meaning (now (pool .entry)) (now (old .entry)) r ≡ ((checkFields (typesOf (rec (now (stream .entry)) (now (pool .entry)) (scalarsOf (now (rows .entry))))) (typesOf (rec (now (past .entry)) (now (old .entry)) (scalarsOf (now (rows .entry))))) then checkStandalone (familiesAt (now (stream .entry)) (now (pool .entry)) 0) (familiesAt (now (past .entry)) (now (old .entry)) 0) (typesOf (rec (now (stream .entry)) (now (pool .entry)) (scalarsOf (now (rows .entry))))) (typesOf (rec (now (past .entry)) (now (old .entry)) (scalarsOf (now (rows .entry)))))) then checkGenerations (textOf (now (pool .entry)) current) (optOf (now (old .entry)) copy) (versionsAt (now (stream .entry)) (now (pool .entry)) 0) (typesAt (now (stream .entry)) (now (pool .entry))) (constantsAt (now (stream .entry)) (now (pool .entry)) 0) (constantsAt (now (past .entry)) (now (old .entry)) 0) (changedTypes (rec (now (stream .entry)) (now (pool .entry)) (scalarsOf (now (rows .entry)))) (rec (now (past .entry)) (now (old .entry)) (scalarsOf (now (rows .entry)))))) ⌝ }
+{
+    let verdict = check_types(rows, stream, pool, types, sizes, past, old, shipped, widths);
+    if let Verdict::Passed = verdict {
+        return check_generations(
+            rows,
+            stream,
+            pool,
+            types,
+            sizes,
+            past,
+            old,
+            shipped,
+            widths,
+            marks,
+            cover,
+            current,
+            copy,
+        );
+    }
+    verdict
+}
+
+// The layouts, over tables that stand in this call.
+fn check_tables(
+    rows: &[u8],
+    stream: &[u8],
+    pool: &[u8],
+    past: &[u8],
+    old: &[u8],
+    types: &mut [u32],
+    scratch: &mut [u32],
+    current: Text,
+    copy: OptText,
+) -> Verdict
+    requires { ⌜ (length (now stream) ≤ 32768) × Exact (rec (now stream) (now pool) (scalarsOf (now rows))) × (length (now past) ≤ 32768) × Exact (rec (now past) (now old) (scalarsOf (now rows))) × (8192 ≤ length (now types)) × (8192 ≤ length (now scratch)) ⌝ }
+    ensures { λ r. ⌜ meaning (now (pool .entry)) (now (old .entry)) r ≡ ((checkFields (typesOf (rec (now (stream .entry)) (now (pool .entry)) (scalarsOf (now (rows .entry))))) (typesOf (rec (now (past .entry)) (now (old .entry)) (scalarsOf (now (rows .entry))))) then checkStandalone (familiesAt (now (stream .entry)) (now (pool .entry)) 0) (familiesAt (now (past .entry)) (now (old .entry)) 0) (typesOf (rec (now (stream .entry)) (now (pool .entry)) (scalarsOf (now (rows .entry))))) (typesOf (rec (now (past .entry)) (now (old .entry)) (scalarsOf (now (rows .entry)))))) then checkGenerations (textOf (now (pool .entry)) current) (optOf (now (old .entry)) copy) (versionsAt (now (stream .entry)) (now (pool .entry)) 0) (typesAt (now (stream .entry)) (now (pool .entry))) (constantsAt (now (stream .entry)) (now (pool .entry)) 0) (constantsAt (now (past .entry)) (now (old .entry)) 0) (changedTypes (rec (now (stream .entry)) (now (pool .entry)) (scalarsOf (now (rows .entry)))) (rec (now (past .entry)) (now (old .entry)) (scalarsOf (now (rows .entry)))))) ⌝ }
+{
+    let mut sizes = [0u64; 993];
+    let mut widths = [0u64; 993];
+    let mut shipped = [0u32; 8192];
+    let mut marks = [0u8; 32768];
+    let n = fill_tables(rows, stream, pool, types, scratch, &mut sizes);
+    let m = fill_tables(rows, past, old, &mut shipped, scratch, &mut widths);
+    check_layouts(
+        rows,
+        stream,
+        pool,
+        &types[..n],
+        &sizes,
+        past,
+        old,
+        &shipped[..m],
+        &widths,
+        &mut marks,
+        scratch,
+        current,
+        copy,
+    )
+}
+
+// The passes after that on the unreleased copy.
+fn check_passes(
+    rows: &[u8],
+    stream: &[u8],
+    pool: &[u8],
+    past: &[u8],
+    old: &[u8],
+    current: Text,
+    copy: OptText,
+) -> Verdict
+    requires { ⌜ (length (now stream) ≤ 32768) × Exact (rec (now stream) (now pool) (scalarsOf (now rows))) × (length (now past) ≤ 32768) × Exact (rec (now past) (now old) (scalarsOf (now rows))) ⌝ }
+    ensures { λ r. ⌜ meaning (now (pool .entry)) (now (old .entry)) r ≡ ((checkReleaseOrder (textOf (now (pool .entry)) current) (optOf (now (old .entry)) copy) then checkFirstReleases (textOf (now (pool .entry)) current) (optOf (now (old .entry)) copy) (constantsAt (now (stream .entry)) (now (pool .entry)) 0) (constantsAt (now (past .entry)) (now (old .entry)) 0) (enumsAt (now (stream .entry)) (now (pool .entry)) 0) (enumsAt (now (past .entry)) (now (old .entry)) 0) (pluginKeys (structsAt (now (stream .entry)) (now (pool .entry)) 0) (unstoredAt (now (stream .entry)) (now (pool .entry)) 0)) (pluginKeys (structsAt (now (past .entry)) (now (old .entry)) 0) (unstoredAt (now (past .entry)) (now (old .entry)) 0))) then (checkConstants (structsAt (now (stream .entry)) (now (pool .entry)) 0) (constantsAt (now (stream .entry)) (now (pool .entry)) 0) (constantsAt (now (past .entry)) (now (old .entry)) 0) then checkEnums (enumsAt (now (stream .entry)) (now (pool .entry)) 0) (enumsAt (now (past .entry)) (now (old .entry)) 0)) then (checkBitfields (bitfieldsAt (now (stream .entry)) (now (pool .entry)) 0) (bitfieldsAt (now (past .entry)) (now (old .entry)) 0) then checkBitfieldReleases (textOf (now (pool .entry)) current) (bitfieldsAt (now (stream .entry)) (now (pool .entry)) 0) (bitfieldsAt (now (past .entry)) (now (old .entry)) 0)) then ((checkFields (typesOf (rec (now (stream .entry)) (now (pool .entry)) (scalarsOf (now (rows .entry))))) (typesOf (rec (now (past .entry)) (now (old .entry)) (scalarsOf (now (rows .entry))))) then checkStandalone (familiesAt (now (stream .entry)) (now (pool .entry)) 0) (familiesAt (now (past .entry)) (now (old .entry)) 0) (typesOf (rec (now (stream .entry)) (now (pool .entry)) (scalarsOf (now (rows .entry))))) (typesOf (rec (now (past .entry)) (now (old .entry)) (scalarsOf (now (rows .entry)))))) then checkGenerations (textOf (now (pool .entry)) current) (optOf (now (old .entry)) copy) (versionsAt (now (stream .entry)) (now (pool .entry)) 0) (typesAt (now (stream .entry)) (now (pool .entry))) (constantsAt (now (stream .entry)) (now (pool .entry)) 0) (constantsAt (now (past .entry)) (now (old .entry)) 0) (changedTypes (rec (now (stream .entry)) (now (pool .entry)) (scalarsOf (now (rows .entry)))) (rec (now (past .entry)) (now (old .entry)) (scalarsOf (now (rows .entry))))))) ⌝ }
+{
+    let mut table = [0u32; 8192];
+    let mut scratch = [0u32; 8192];
+    let verdict = check_declared(
+        stream,
+        pool,
+        past,
+        old,
+        current,
+        copy,
+        &mut table,
+        &mut scratch,
+    );
+    if let Verdict::Passed = verdict {
+        return check_tables(
+            rows,
+            stream,
+            pool,
+            past,
+            old,
+            &mut table,
+            &mut scratch,
+            current,
+            copy,
+        );
+    }
+    verdict
+}
+
+// The whole comparison of two records that can be read.
+pub(crate) fn compare(rows: &[u8], stream: &[u8], pool: &[u8], past: &[u8], old: &[u8]) -> Verdict
+    requires { ⌜ (length (now stream) ≤ 32768) × Exact (rec (now stream) (now pool) (scalarsOf (now rows))) × (length (now past) ≤ 32768) × Exact (rec (now past) (now old) (scalarsOf (now rows))) ⌝ }
+    ensures { λ r. ⌜ meaning (now (pool .entry)) (now (old .entry)) r ≡ compare (schemaOf (rec (now (stream .entry)) (now (pool .entry)) (scalarsOf (now (rows .entry))))) (schemaOf (rec (now (past .entry)) (now (old .entry)) (scalarsOf (now (rows .entry))))) ⌝ }
+{
+    if head_unreleased(past) {
+        return check_unreleased(past);
+    }
+    let current = required_text(head_release(stream));
+    let copy = head_release(past);
+    check_passes(rows, stream, pool, past, old, current, copy)
 }

@@ -1,7 +1,5 @@
 // The pass over the constants: a released constant stays, and keeps its value unless it holds a generation.
-use crate::arguments::ConstantValue;
 use crate::required::required_text;
-use crate::verdict::Verdict;
 use layout::constants::constant_table;
 use layout::constants::placed_constant;
 use record::command::Constant;
@@ -16,6 +14,8 @@ use record::text::bytes_of;
 use record::text::same;
 use record::versioned::versioned_structs;
 use record::writer::put_signed;
+use verdicts::arguments::ConstantValue;
+use verdicts::verdict::Verdict;
 ghost use mathlib.Core.Path.{_≡_};
 ghost use mathlib.Core.List.{[], map};
 ghost use Prim.Native.Nat.{_≤_};
@@ -25,10 +25,11 @@ ghost use Rattle.record.specs.Lists.{constantOf};
 ghost use Rattle.record.specs.Steps.{structsAt, constantsAt, structFound, constantFound};
 ghost use Rattle.record.specs.Owner.{withName};
 ghost use Rattle.layout.specs.Constants.{placedConstant};
-ghost use Rattle.compare.specs.Arguments.{valueMeant};
-ghost use Rattle.compare.specs.Constants.{valueText, lastConstant, heldByAny, isGeneration, checkConstant, checkConstantsIn, checkConstants};
+ghost use Rattle.definition.specs.Constants.{valueText};
+ghost use Rattle.verdicts.specs.Arguments.{valueMeant};
+ghost use Rattle.definition.specs.Constants.{lastConstant, heldByAny, isGeneration, checkConstant, checkConstantsIn, checkConstants};
 ghost use Rattle.compare.specs.Sought.{HoldsValue};
-ghost use Rattle.compare.specs.Meaning.{meaning};
+ghost use Rattle.verdicts.specs.Meaning.{meaning};
 
 // What a constant holds.
 fn value_of(c: Constant) -> ConstantValue
@@ -180,7 +181,7 @@ fn check_placed(stream: &[u8], pool: &[u8], past: &[u8], old: &[u8], table: &[u3
 }
 
 // The first constant of the release, in byte order of the names, that does not stand as it was.
-pub fn check_constants(
+pub(crate) fn check_constants(
     stream: &[u8],
     pool: &[u8],
     past: &[u8],

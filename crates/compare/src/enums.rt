@@ -1,5 +1,4 @@
 // The pass over the enums: a released value keeps its name and its number.
-use crate::verdict::Verdict;
 use record::command::Cursor;
 use record::command::Enum;
 use record::command::Value;
@@ -11,13 +10,14 @@ use record::lists::next_enum;
 use record::lists::next_value;
 use record::text::Text;
 use record::text::bytes_of;
+use verdicts::verdict::Verdict;
 ghost use mathlib.Core.Path.{_≡_};
 ghost use Rattle.record.specs.Stretch.{textOf};
 ghost use Rattle.record.specs.Lists.{enumOf, valueOf};
 ghost use Rattle.record.specs.Steps.{enumsAt, valuesAt};
-ghost use Rattle.compare.specs.Enums.{checkValue, checkValues, checkEnum, checkEnums};
+ghost use Rattle.definition.specs.Enums.{checkValue, checkValues, checkEnum, checkEnums};
 ghost use Rattle.compare.specs.Sought.{NumberFrom};
-ghost use Rattle.compare.specs.Meaning.{meaning};
+ghost use Rattle.verdicts.specs.Meaning.{meaning};
 
 // The first value with that number from a cursor on.
 fn find_number(stream: &[u8], from: Cursor, number: u64) -> ValueStep

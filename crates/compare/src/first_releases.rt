@@ -1,5 +1,4 @@
 // The pass over the first releases of the plugin API: each says what the last release did. First releases compare as texts.
-use crate::arguments::Item;
 use crate::required::required_text;
 use crate::shipped::Shipped;
 use crate::shipped::api_enum;
@@ -7,7 +6,6 @@ use crate::shipped::constant_release;
 use crate::shipped::enum_release;
 use crate::shipped::key_release;
 use crate::shipped::value_release;
-use crate::verdict::Verdict;
 use record::command::Constant;
 use record::command::Cursor;
 use record::command::Enum;
@@ -27,16 +25,18 @@ use record::operands::OptText;
 use record::text::Text;
 use record::text::bytes_of;
 use record::text::same;
+use verdicts::arguments::Item;
+use verdicts::verdict::Verdict;
 ghost use mathlib.Core.Path.{_≡_};
 ghost use Rattle.record.specs.Stretch.{textOf};
 ghost use Rattle.record.specs.Lists.{optOf, constantOf, enumOf, valueOf, keyOf};
 ghost use Rattle.record.specs.Steps.{constantsAt, enumsAt, valuesAt, structsAt, unstoredAt, enumFound};
 ghost use Rattle.record.specs.Keys.{pluginKeys};
-ghost use Rattle.compare.specs.Arguments.{itemOf};
+ghost use Rattle.verdicts.specs.Arguments.{itemOf};
 ghost use Rattle.compare.specs.Shipped.{shippedOf};
-ghost use Rattle.compare.specs.FirstReleases.{checkArrival, checkConstantArrival, checkConstantArrivals, checkValueArrival, checkValueArrivals, checkEnumArrival, checkEnumArrivals, checkKeyArrival, checkKeyArrivals, checkFirstReleases};
+ghost use Rattle.definition.specs.FirstReleases.{checkArrival, checkConstantArrival, checkConstantArrivals, checkValueArrival, checkValueArrivals, checkEnumArrival, checkEnumArrivals, checkKeyArrival, checkKeyArrivals, checkFirstReleases};
 ghost use Rattle.compare.specs.Sought.{PassedIf, ValueDated};
-ghost use Rattle.compare.specs.Meaning.{meaning};
+ghost use Rattle.verdicts.specs.Meaning.{meaning};
 
 // Nothing where the test holds, else this verdict.
 fn passed_if(holds: bool, otherwise: Verdict) -> Verdict

@@ -1,5 +1,4 @@
 // The pass over the releases of the two records: the copy's is the earlier one, compared as numbers.
-use crate::verdict::Verdict;
 use record::operands::OptText;
 use record::release::Release;
 use record::release::ReleaseParts;
@@ -7,12 +6,13 @@ use record::release::earlier;
 use record::release::release_parts;
 use record::text::Text;
 use record::text::bytes_of;
+use verdicts::verdict::Verdict;
 ghost use mathlib.Core.Path.{_≡_};
 ghost use Rattle.record.specs.Release.{releaseParts, firstNaming};
 ghost use Rattle.record.specs.Stretch.{textOf};
 ghost use Rattle.record.specs.Lists.{optOf};
-ghost use Rattle.compare.specs.ReleaseOrder.{checkEarlier, checkReleaseOrder};
-ghost use Rattle.compare.specs.Meaning.{meaning};
+ghost use Rattle.definition.specs.ReleaseOrder.{checkEarlier, checkReleaseOrder};
+ghost use Rattle.verdicts.specs.Meaning.{meaning};
 
 // The release in which a schema first names its own: a copy without one is older.
 fn first_naming() -> Release

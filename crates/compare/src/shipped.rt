@@ -20,7 +20,8 @@ ghost use Rattle.record.specs.Base.{eqs};
 ghost use Rattle.record.specs.Stretch.{textOf};
 ghost use Rattle.record.specs.Steps.{constantsAt, enumsAt, structsAt, unstoredAt, enumFound};
 ghost use Rattle.record.specs.Keys.{pluginKeys};
-ghost use Rattle.compare.specs.Shipped.{constantRelease, apiEnum, valueRelease, keyRelease, shippedOf, ShippedWith, EnumShipped};
+ghost use Rattle.definition.specs.FirstReleases.{constantRelease, apiEnum, valueRelease, keyRelease};
+ghost use Rattle.compare.specs.Shipped.{shippedOf, ShippedWith, EnumShipped};
 
 pub enum Shipped {
     // The copy has no such item: it arrives now.

@@ -1,5 +1,4 @@
 // The pass over a copy that says unreleased: it describes no layout.
-use crate::verdict::Verdict;
 use record::command::Cursor;
 use record::lists::AliasStep;
 use record::lists::BitfieldStep;
@@ -13,6 +12,7 @@ use record::lists::next_constant;
 use record::lists::next_enum;
 use record::lists::next_family;
 use record::lists::next_struct;
+use verdicts::verdict::Verdict;
 ghost use Rattle.compare.specs.Sought.{UnreleasedFrom};
 
 // Whether nothing is described. Any of the six lists describes a layout; plugin keys and version entries do not.

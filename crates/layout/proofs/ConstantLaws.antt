@@ -10,7 +10,8 @@ use Rattle.record.specs.Lists.{anything, constantOf, constants}
 use Rattle.record.specs.Steps.{constantsAt}
 use Rattle.layout.specs.Sorted.{sorted}
 use Rattle.layout.specs.Sort.{arranged, lasts}
-use Rattle.layout.specs.Handles.{nameAt, typeName, placesFrom, fronted}
+use Rattle.record.specs.Fill.{fronted}
+use Rattle.layout.specs.Handles.{nameAt, typeName, placesFrom}
 use Rattle.layout.specs.Constants.{placedConstant, ConstantsTable}
 use Rattle.layout.proofs.Origin.{sorted-mem}
 use Rattle.layout.proofs.Runs.{map-sorted}

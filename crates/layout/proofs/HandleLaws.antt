@@ -27,7 +27,8 @@ use Rattle.record.proofs.Tags.{absent}
 use Rattle.record.proofs.Stream.{step-found}
 use Rattle.record.proofs.ListLaws.{byteOf, byte-is, other, listed-stop, listed-here, listed-over, listed-end}
 use Rattle.layout.proofs.Along.{along, four-wide, step-four}
-use Rattle.layout.specs.Handles.{structHandles, variantHandles, joinedHandles, familyHandles, handlesOf, placesFrom, familiesFrom, fronted}
+use Rattle.record.specs.Fill.{fronted}
+use Rattle.layout.specs.Handles.{structHandles, variantHandles, joinedHandles, familyHandles, handlesOf, placesFrom, familiesFrom}
 
 -- a step along the stream -------------------------------------------------------------------------------------------------
 

@@ -94,7 +94,7 @@ pub record Listing (r : Rec) (t : List ℕ) (out₀ out : Str) (i end : ℕ) : T
   pub inside : i ≤ length t
   pub long : length out ≡ length out₀
 
-drop-next : (t : List ℕ) (i : ℕ) → i < length t → drop i t ≡ getD t i 0 ∷ drop (i + 1) t
+pub drop-next : (t : List ℕ) (i : ℕ) → i < length t → drop i t ≡ getD t i 0 ∷ drop (i + 1) t
 drop-next t i h = let e : suc i ≡ i + 1 = omega arith in drop-cons t i 0 h ∙ ap (λ (n : ℕ). getD t i 0 ∷ drop n t) e
 
 module _ (r : Rec) (t z : List ℕ) (o : Tables r t z) where

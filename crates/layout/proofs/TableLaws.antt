@@ -10,15 +10,20 @@ use lib.ListN.{length, take, drop, getD, length-take}
 use lib.Seq.{take-at, take-append-le, length-take-le}
 use borrow.Author.Tests.{ltb-true, ltb-false}
 use Rattle.record.specs.Base.{Str, eqs, before, find}
+use Rattle.record.specs.Stretch.{textOf}
 use Rattle.record.specs.Scalars.{Scalar}
 use Rattle.record.specs.Reading.{Rec, rec, schemaOf}
+use Rattle.record.specs.declared.text.Text.{Text}
+use Rattle.record.specs.declared.operands.OptText.the-variants.{Absent, Given}
 use Rattle.record.proofs.Basics.{eqs→eq}
+use Rattle.layout.specs.declared.names.TypeName.{TypeName}
 use Rattle.layout.specs.declared.table.TypeFound.{TypeFound}
 use Rattle.layout.specs.declared.table.TypeFound.the-variants.{NoType, At}
 use Rattle.layout.specs.Sorted.{sorted}
-use Rattle.layout.specs.Layout.{TypeLayout, types, typeIn}
-use Rattle.layout.specs.Handles.{typeName, handlesOf, layoutOf, fronted}
-use Rattle.layout.specs.Names.{joined, frontOf, colonsOf, backOf}
+use Rattle.layout.specs.Layout.{TypeLayout, variantName, types, typeIn}
+use Rattle.record.specs.Fill.{fronted}
+use Rattle.layout.specs.Handles.{typeName, handlesOf, layoutOf}
+use Rattle.layout.specs.Names.{joined, frontOf, colonsOf, backOf, nameOf}
 use Rattle.layout.specs.Sort.{arranged, lasts}
 use Rattle.layout.specs.Table.{TypesTable, FoundType}
 use Rattle.layout.proofs.Origin.{sorted-mem}
@@ -200,3 +205,12 @@ found-whole s p t n r f = subst (λ (m : Str). FoundType s p t m r) (append-nil 
 pub found-parts : (s p past old : Str) (t : List ℕ) (f b : Str) (h k : ℕ) (r : TypeFound) → f ≡ frontOf past old h → k ≡ colonsOf h → b ≡ backOf past old h
     → FoundType s p t (joined f k b) r → FoundType s p t (typeName past old h) r
 found-parts s p past old t f b h k r u v w g = subst (λ (m : Str). FoundType s p t m r) (parts-type past old h f b k u v w) g
+
+-- a name of a pool, alone or a family's with a variant's
+module _ (s p q : Str) (t : List ℕ) (n : TypeName) (x : Str) (e : x ≡ textOf q (n .front)) (r : TypeFound) where
+  pub found-alone : n .back ≡ Absent → FoundType s p t x r → FoundType s p t (nameOf q n) r
+  found-alone a f = rw (a, ← e) f
+
+  pub found-variant : (d : Text) (y : Str) → n .back ≡ Given d → y ≡ textOf q d → FoundType s p t (joined x 2 y) r → FoundType s p t (nameOf q n) r
+  unfolding joined variantName
+  found-variant d y a g f = rw (a, ← e, ← g) f

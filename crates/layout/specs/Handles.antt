@@ -3,7 +3,7 @@ use mathlib.Core.List.{List, [], _∷_, _++_}
 use mathlib.Core.Bool.{cond}
 use Prim.Native.Nat.{ℕ, _+_, _-_, _*_, _/_, _%_}
 use lib.Dec.{eqb}
-use lib.ListN.{length, getD, drop}
+use lib.ListN.{getD, drop}
 use Rattle.record.specs.Base.{Str}
 use Rattle.record.specs.Stretch.{textOf}
 use Rattle.record.specs.Operands.{textAt}
@@ -69,7 +69,3 @@ placesFrom s b at = listed s anything b (λ at rest. at) (commandsAt s at)
 
 unfoldable pub familiesFrom : Str → ℕ → ℕ → List ℕ
 familiesFrom s family at = cond (eqb family 0) [] (variantHandles s (family - 1) (commandsAt s at)) ++ familyHandles s (commandsAt s at)
-
--- some numbers at the front of a table, and its old rest behind them
-unfoldable pub fronted : List ℕ → List ℕ → List ℕ
-fronted table l = l ++ drop (length l) table

@@ -6,7 +6,8 @@ use record::le::byte_at;
 ghost use Prim.Native.Nat.{_+_, _≤_};
 ghost use mathlib.Core.Path.{_≡_};
 ghost use lib.ListN.{length};
-ghost use Rattle.layout.specs.Handles.{placesFrom, familiesFrom, handlesOf, fronted};
+ghost use Rattle.record.specs.Fill.{fronted};
+ghost use Rattle.layout.specs.Handles.{placesFrom, familiesFrom, handlesOf};
 
 // A place as a part of a handle.
 fn narrow(at: usize) -> u32

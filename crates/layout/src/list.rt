@@ -12,8 +12,6 @@ ghost use lib.ListN.{length};
 ghost use Rattle.record.specs.Scalars.{scalarsOf, builtIn};
 ghost use Rattle.record.specs.Reading.{rec, schemaOf};
 ghost use Rattle.record.specs.Read.{Exact};
-ghost use Rattle.record.specs.declared.refusal.Side.the-variants.{Current, Released};
-ghost use mathlib.Core.Bool.{cond};
 ghost use Rattle.layout.specs.Listing.{listOf};
 ghost use Rattle.layout.specs.Answer.{textOr, list, Answered};
 
@@ -53,20 +51,4 @@ pub fn list_layouts(side: Side, stream: &[u8], pool: &[u8], out: &mut [u8]) -> A
         return refused(side, refusal, place);
     }
     list_read(&rows, stream, pool, out)
-}
-
-// The same for a caller outside: read as released, or as current.
-#[no_mangle]
-pub extern "C" fn menqachu_list(
-    released: bool,
-    stream: &[u8],
-    pool: &[u8],
-    out: &mut [u8],
-) -> Answer
-    ensures { λ r. ⌜ Answered (now (out .entry)) (now (out .exit)) (list (length (now (out .entry))) (cond released Released Current) (rec (now (stream .entry)) (now (pool .entry)) builtIn)) r ⌝ }
-{
-    if released {
-        return list_layouts(Side::Released, stream, pool, out);
-    }
-    list_layouts(Side::Current, stream, pool, out)
 }

@@ -72,10 +72,3 @@ pub fn ask_owner(stream: &[u8], pool: &[u8], name: &[u8]) -> OwnerAnswer
     };
     OwnerAnswer::OwnedBy(t)
 }
-
-#[no_mangle]
-pub extern "C" fn menqachu_owner(stream: &[u8], pool: &[u8], name: &[u8]) -> OwnerFields
-    ensures { λ r. ⌜ r ≡ ownerFields (ownerAsked (rec (now (stream .entry)) (now (pool .entry)) builtIn) (now (name .entry))) ⌝ }
-{
-    ask_owner(stream, pool, name).fields()
-}

@@ -1,5 +1,6 @@
 // The sorted table of a record's types, and look-ups by name in it.
 use crate::handles::fill_handles;
+use crate::names::TypeName;
 use crate::names::back;
 use crate::names::colons;
 use crate::names::front;
@@ -7,11 +8,13 @@ use crate::names::type_over;
 use crate::names::type_under;
 use crate::sort::keep_last;
 use crate::sort::sort_handles;
+use record::operands::OptText;
+use record::text::bytes_of;
 ghost use Prim.Native.Nat.{_≤_};
 ghost use mathlib.Core.Path.{_≡_};
 ghost use lib.ListN.{length, take};
 ghost use Rattle.layout.specs.Handles.{typeName};
-ghost use Rattle.layout.specs.Names.{joined, Parts};
+ghost use Rattle.layout.specs.Names.{joined, Parts, nameOf};
 ghost use Rattle.layout.specs.Sort.{arranged, lasts};
 ghost use Rattle.layout.specs.Table.{TypesTable, FoundType};
 
@@ -25,7 +28,12 @@ pub(crate) fn arrange(stream: &[u8], pool: &[u8], handles: &mut [u32], scratch: 
 }
 
 // The table of a record's types at the front of `types`; and how many they are.
-pub fn type_table(stream: &[u8], pool: &[u8], types: &mut [u32], scratch: &mut [u32]) -> usize
+pub(crate) fn type_table(
+    stream: &[u8],
+    pool: &[u8],
+    types: &mut [u32],
+    scratch: &mut [u32],
+) -> usize
     requires { ⌜ (length (now stream) ≤ 32768) × (8192 ≤ length (now types)) × (8192 ≤ length (now scratch)) ⌝ }
     ensures { λ r. ⌜ TypesTable (now (stream .entry)) (now (pool .entry)) (take r (now (types .exit))) × (r ≤ 8192) ⌝ }
 {
@@ -64,7 +72,7 @@ fn find_parts(stream: &[u8], pool: &[u8], types: &[u32], f: &[u8], k: usize, b: 
 }
 
 // The type of a name.
-pub fn find_type(stream: &[u8], pool: &[u8], types: &[u32], name: &[u8]) -> TypeFound
+fn find_type(stream: &[u8], pool: &[u8], types: &[u32], name: &[u8]) -> TypeFound
     requires { ⌜ TypesTable (now stream) (now pool) (now types) ⌝ }
     ensures { λ r. ⌜ FoundType (now (stream .entry)) (now (pool .entry)) (now (types .entry)) (now (name .entry)) r ⌝ }
 {
@@ -86,4 +94,24 @@ pub fn find_same(
     let f = front(past, old, handle);
     let b = back(past, old, handle);
     find_parts(stream, pool, types, f, colons(handle), b)
+}
+
+// The type of a name whose texts are in a pool.
+pub fn find_named(
+    stream: &[u8],
+    pool: &[u8],
+    types: &[u32],
+    texts: &[u8],
+    name: TypeName,
+) -> TypeFound
+    requires { ⌜ TypesTable (now stream) (now pool) (now types) ⌝ }
+    ensures { λ r. ⌜ FoundType (now (stream .entry)) (now (pool .entry)) (now (types .entry)) (nameOf (now (texts .entry)) name) r ⌝ }
+{
+    let front = name.front;
+    let back = name.back;
+    let f = bytes_of(texts, front);
+    let OptText::Given(own) = back else {
+        return find_type(stream, pool, types, f);
+    };
+    find_parts(stream, pool, types, f, 2, bytes_of(texts, own))
 }

@@ -8,8 +8,8 @@ ghost use Rattle.record.specs.Reading.{rec};
 ghost use Rattle.record.specs.Read.{Exact};
 ghost use Rattle.layout.specs.Tables.{Tables};
 
-// Fills the tables; answers how many types there are.
-pub fn fill_tables(
+// Fills the tables, where the record is within its limit and they are long enough.
+fn fill_both(
     rows: &[u8],
     stream: &[u8],
     pool: &[u8],
@@ -22,4 +22,30 @@ pub fn fill_tables(
 {
     fill_sizes(rows, stream, pool, sizes);
     type_table(stream, pool, types, scratch)
+}
+
+// Fills the tables; answers how many types there are.
+pub fn fill_tables(
+    rows: &[u8],
+    stream: &[u8],
+    pool: &[u8],
+    types: &mut [u32],
+    scratch: &mut [u32],
+    sizes: &mut [u64],
+) -> usize
+    ensures { λ r. ⌜ (length (now (stream .entry)) ≤ 32768 → 8192 ≤ length (now (types .entry)) → 8192 ≤ length (now (scratch .entry)) → 993 ≤ length (now (sizes .entry)) → Exact (rec (now (stream .entry)) (now (pool .entry)) (scalarsOf (now (rows .entry)))) → Tables (rec (now (stream .entry)) (now (pool .entry)) (scalarsOf (now (rows .entry)))) (take r (now (types .exit))) (now (sizes .exit))) × (r ≤ length (now (types .entry))) ⌝ }
+{
+    if 32768 < stream.len() {
+        return 0;
+    }
+    if types.len() < 8192 {
+        return 0;
+    }
+    if scratch.len() < 8192 {
+        return 0;
+    }
+    if sizes.len() < 993 {
+        return 0;
+    }
+    fill_both(rows, stream, pool, types, scratch, sizes)
 }

@@ -1,8 +1,8 @@
 // Prints the list of a record's layouts. Standard input is the record, read as current: stream and pool, each a length of four bytes,
 // little-endian, and its bytes.
 use layout::list::list_layouts;
+use parts::lent_len;
 use parts::print_refusal;
-use parts::read_lent;
 use record::refusal::Side;
 
 // Prints the list, or the refusal; 65,536 bytes are lent.
@@ -20,19 +20,9 @@ fn print_list(stream: &[u8], pool: &[u8]) {
 }
 
 fn main() {
-    let mut stream = [0u8; 32768];
-    let mut pool = [0u8; 16384];
-    let s = read_lent(0, &mut stream);
-    if s.over {
-        print_refusal(8, 0, 0);
-        return;
-    }
-    let p = read_lent(0, &mut pool);
-    if p.over {
-        print_refusal(8, 0, 0);
-        return;
-    }
-    let n = s.len;
-    let m = p.len;
+    let mut stream = [0u8; 32769];
+    let mut pool = [0u8; 16385];
+    let n = lent_len(0, &mut stream);
+    let m = lent_len(0, &mut pool);
     print_list(&stream[..n], &pool[..m]);
 }

@@ -127,29 +127,21 @@ pub fn report(turns: u64, wrong: u64) {
     io::write_all(1, b" differ\n");
 }
 
-// A part that is lent to a call: over is true where the stated length is above the buffer's.
-pub struct Lent {
-    pub over: bool,
-    pub len: usize,
-}
-
-// A length and its bytes, at the front of the buffer: a cut length counts as 0, and a part that ends early as the bytes that came.
-pub fn read_lent(fd: i32, buf: &mut [u8]) -> Lent
-    ensures { λ r. ⌜ r .len ≤ length (now (buf .entry)) ⌝ }
+// A length and its bytes, at the front of a buffer that has a byte more than the part may: how many bytes the part counts for. A cut length counts as
+// 0, a part that ends early as the bytes that came, and one whose stated length is above the limit as the whole buffer, which is one byte too long.
+pub fn lent_len(fd: i32, buf: &mut [u8]) -> usize
+    ensures { λ r. ⌜ r ≤ length (now (buf .entry)) ⌝ }
 {
     let p = read_number(fd);
     let n = p.len;
-    if buf.len() < n {
-        return Lent { over: true, len: 0 };
+    if buf.len() <= n {
+        return buf.len();
     }
     let k = io::read_full(fd, &mut buf[..n]);
     if n < k {
-        return Lent { over: true, len: 0 };
+        return n;
     }
-    Lent {
-        over: false,
-        len: k,
-    }
+    k
 }
 
 // A refusal or number 10, in one line.

@@ -1,7 +1,7 @@
 // Replays the oracle's answers of owners, data/owners: each vector is a stream, a pool and a name (a length of four bytes, little-endian, and the
 // bytes), the answer (a byte: 0 none, 1 an owner, 2 a refused record) and two numbers of four bytes (the start and the length of the owner's name;
 // the refusal's number and place; 0 and 0). Prints how many there are and how many differ.
-use layout::owner::menqachu_owner;
+use menqachu::menqachu_owner;
 use parts::read_byte;
 use parts::read_number;
 use parts::read_part;

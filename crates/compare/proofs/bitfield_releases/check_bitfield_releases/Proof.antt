@@ -5,7 +5,7 @@ use Rattle.record.specs.Stretch.{textOf}
 use Rattle.record.specs.Steps.{bitfieldsAt}
 use Rattle.record.proofs.TextLaws.{kept, ended}
 use Rattle.record.proofs.StepLaws.{bitfields-nearer}
-use Rattle.compare.specs.BitfieldReleases.{checkBitfieldReleases}
+use Rattle.definition.specs.BitfieldReleases.{checkBitfieldReleases}
 use Rattle.compare.proofs.BitfieldReleaseLaws.{releases-begin, releases-laws}
 use borrow.Author.Needs.{needs}
 use Rattle.compare.proofs.bitfield_releases.check_bitfield_releases.Statement.{statement}

@@ -6,8 +6,8 @@ use Rattle.record.specs.Lists.{optOf}
 use Rattle.record.specs.Steps.{membersAt, bitfieldFound}
 use Rattle.record.proofs.TextLaws.{kept, ended}
 use Rattle.record.proofs.StepLaws.{members-nearer}
-use Rattle.compare.specs.Pass.{required}
-use Rattle.compare.specs.BitfieldReleases.{checkMembersArrived}
+use Rattle.definition.specs.Pass.{required}
+use Rattle.definition.specs.BitfieldReleases.{checkMembersArrived}
 use Rattle.compare.proofs.BitfieldReleaseLaws.{members-laws}
 use borrow.Author.Needs.{needs}
 use Rattle.compare.proofs.bitfield_releases.check_members_arrived.Statement.{statement}

@@ -4,7 +4,7 @@ use lib.ListN.{length}
 use Rattle.record.specs.Steps.{bitfieldsAt}
 use Rattle.record.proofs.TextLaws.{kept, ended}
 use Rattle.record.proofs.StepLaws.{bitfields-nearer}
-use Rattle.compare.specs.Bitfields.{checkBitfields}
+use Rattle.definition.specs.Bitfields.{checkBitfields}
 use Rattle.compare.proofs.BitfieldLaws.{bitfields-begin, bitfields-laws}
 use borrow.Author.Needs.{needs}
 use Rattle.compare.proofs.bitfields.check_bitfields.Statement.{statement}

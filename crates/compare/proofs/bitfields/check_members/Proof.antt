@@ -5,7 +5,7 @@ use Rattle.record.specs.Stretch.{textOf}
 use Rattle.record.specs.Steps.{membersAt}
 use Rattle.record.proofs.TextLaws.{kept, ended}
 use Rattle.record.proofs.StepLaws.{members-nearer}
-use Rattle.compare.specs.Bitfields.{checkMembers}
+use Rattle.definition.specs.Bitfields.{checkMembers}
 use Rattle.compare.proofs.BitfieldLaws.{members-laws}
 use borrow.Author.Needs.{needs}
 use Rattle.compare.proofs.bitfields.check_members.Statement.{statement}

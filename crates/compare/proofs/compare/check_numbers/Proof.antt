@@ -1,4 +1,4 @@
-use Rattle.compare.proofs.PassLaws.{then-on, then-stop}
+use Rattle.verdicts.proofs.PassLaws.{then-on, then-stop}
 use borrow.Author.Needs.{needs}
 use Rattle.compare.proofs.compare.check_numbers.Statement.{statement}
 use Rattle.compare.proofs.compare.check_numbers.Tie as tie

@@ -5,7 +5,7 @@ use lib.ListN.{length, drop}
 use Rattle.record.specs.Steps.{structsAt, constantsAt}
 use Rattle.record.proofs.TextLaws.{kept, ended}
 use Rattle.layout.specs.Constants.{placedConstant}
-use Rattle.compare.specs.Constants.{checkConstantsIn}
+use Rattle.definition.specs.Constants.{checkConstantsIn}
 use Rattle.compare.proofs.ConstantLaws.{placed-laws}
 use borrow.Author.Needs.{needs}
 use Rattle.compare.proofs.constants.check_placed.Statement.{statement}

@@ -4,7 +4,7 @@ use lib.ListN.{length}
 use Rattle.record.specs.Steps.{constantsAt, constantFound}
 use Rattle.record.proofs.TextLaws.{kept}
 use Rattle.record.proofs.StepLaws.{constants-nearer}
-use Rattle.compare.specs.Constants.{lastConstant}
+use Rattle.definition.specs.Constants.{lastConstant}
 use Rattle.compare.proofs.ConstantLaws.{lastFrom, last-begin, last-laws}
 use borrow.Author.Needs.{needs}
 use Rattle.compare.proofs.constants.last_constant.Statement.{statement}

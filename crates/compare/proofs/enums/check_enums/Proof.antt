@@ -4,7 +4,7 @@ use lib.ListN.{length}
 use Rattle.record.specs.Steps.{enumsAt}
 use Rattle.record.proofs.TextLaws.{kept, ended}
 use Rattle.record.proofs.StepLaws.{enums-nearer}
-use Rattle.compare.specs.Enums.{checkEnums}
+use Rattle.definition.specs.Enums.{checkEnums}
 use Rattle.compare.proofs.EnumLaws.{enums-begin, enums-laws}
 use borrow.Author.Needs.{needs}
 use Rattle.compare.proofs.enums.check_enums.Statement.{statement}

@@ -5,7 +5,7 @@ use Rattle.record.specs.Stretch.{textOf}
 use Rattle.record.specs.Steps.{valuesAt}
 use Rattle.record.proofs.TextLaws.{kept, ended}
 use Rattle.record.proofs.StepLaws.{values-nearer}
-use Rattle.compare.specs.Enums.{checkValues}
+use Rattle.definition.specs.Enums.{checkValues}
 use Rattle.compare.proofs.EnumLaws.{values-laws}
 use borrow.Author.Needs.{needs}
 use Rattle.compare.proofs.enums.check_values.Statement.{statement}

@@ -6,7 +6,7 @@ use Rattle.record.specs.Lists.{optOf}
 use Rattle.record.specs.Steps.{constantsAt}
 use Rattle.record.proofs.TextLaws.{kept, ended}
 use Rattle.record.proofs.StepLaws.{constants-nearer}
-use Rattle.compare.specs.FirstReleases.{checkConstantArrivals}
+use Rattle.definition.specs.FirstReleases.{checkConstantArrivals}
 use Rattle.compare.proofs.FirstReleaseLaws.{constants-begin, constant-arrivals-laws}
 use borrow.Author.Needs.{needs}
 use Rattle.compare.proofs.first_releases.check_constant_arrivals.Statement.{statement}

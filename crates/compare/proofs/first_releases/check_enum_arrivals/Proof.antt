@@ -6,7 +6,7 @@ use Rattle.record.specs.Lists.{optOf}
 use Rattle.record.specs.Steps.{enumsAt}
 use Rattle.record.proofs.TextLaws.{kept, ended}
 use Rattle.record.proofs.StepLaws.{enums-nearer}
-use Rattle.compare.specs.FirstReleases.{checkEnumArrivals}
+use Rattle.definition.specs.FirstReleases.{checkEnumArrivals}
 use Rattle.compare.proofs.FirstReleaseLaws.{enums-begin, enum-arrivals-laws}
 use borrow.Author.Needs.{needs}
 use Rattle.compare.proofs.first_releases.check_enum_arrivals.Statement.{statement}

@@ -6,7 +6,7 @@ use Rattle.record.specs.Lists.{optOf}
 use Rattle.record.specs.Steps.{valuesAt, enumFound}
 use Rattle.record.proofs.TextLaws.{kept, ended}
 use Rattle.record.proofs.StepLaws.{values-nearer}
-use Rattle.compare.specs.FirstReleases.{checkValueArrivals}
+use Rattle.definition.specs.FirstReleases.{checkValueArrivals}
 use Rattle.compare.proofs.FirstReleaseLaws.{value-arrivals-laws}
 use borrow.Author.Needs.{needs}
 use Rattle.compare.proofs.first_releases.check_value_arrivals.Statement.{statement}

@@ -4,7 +4,7 @@ use lib.ListN.{length}
 use Rattle.record.specs.Steps.{enumsAt, enumFound}
 use Rattle.record.proofs.TextLaws.{kept}
 use Rattle.record.proofs.StepLaws.{enums-nearer}
-use Rattle.compare.specs.Shipped.{apiEnum}
+use Rattle.definition.specs.FirstReleases.{apiEnum}
 use Rattle.compare.proofs.ShippedLaws.{enumLatest, enum-begin, api-enum-laws}
 use borrow.Author.Needs.{needs}
 use Rattle.compare.proofs.shipped.api_enum.Statement.{statement}

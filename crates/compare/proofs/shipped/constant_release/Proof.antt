@@ -4,7 +4,8 @@ use lib.ListN.{length}
 use Rattle.record.specs.Steps.{constantsAt}
 use Rattle.record.proofs.TextLaws.{kept, ended}
 use Rattle.record.proofs.StepLaws.{constants-nearer}
-use Rattle.compare.specs.Shipped.{constantRelease, shippedOf}
+use Rattle.definition.specs.FirstReleases.{constantRelease}
+use Rattle.compare.specs.Shipped.{shippedOf}
 use Rattle.compare.proofs.ShippedLaws.{constantLatest, constant-begin, constant-release-laws}
 use borrow.Author.Needs.{needs}
 use Rattle.compare.proofs.shipped.constant_release.Statement.{statement}

@@ -3,7 +3,8 @@ use lib.ListN.{length}
 use Rattle.record.specs.Steps.{structsAt, unstoredAt}
 use Rattle.record.specs.Keys.{pluginKeys, keysFrom}
 use Rattle.record.proofs.TextLaws.{kept, ended}
-use Rattle.compare.specs.Shipped.{keyRelease, shippedOf}
+use Rattle.definition.specs.FirstReleases.{keyRelease}
+use Rattle.compare.specs.Shipped.{shippedOf}
 use Rattle.compare.proofs.ShippedLaws.{plugin-keys-nearer, keyLatest, key-begin, key-release-laws}
 use borrow.Author.Needs.{needs}
 use Rattle.compare.proofs.shipped.key_release.Statement.{statement}

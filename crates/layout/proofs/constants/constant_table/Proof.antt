@@ -1,52 +1,47 @@
-use Rattle.layout.proofs.TableLaws.{cut-long, cuts-agree, cut-small, cut-few}
-use Rattle.layout.proofs.ConstantLaws.{constants-kept}
+use native.Mathlib.Omega.{arith}
 use borrow.Author.Needs.{needs}
 use Rattle.layout.proofs.constants.constant_table.Statement.{statement}
 use Rattle.layout.proofs.constants.constant_table.Tie as tie
+use Rattle.layout.proofs.constants.constant_table.Reads as reads
+use Rattle.layout.proofs.constants.constant_table.Lts as lts
+use Rattle.layout.proofs.constants.fill_constants.Reads as fill-constants-reads
 
-fill-places-requires : tie.Need-fill-places-requires
-fill-places-requires c κs = search needs
+-- src/constants.rt:27:9
+returns : tie.Need-returns
+returns c = (λ x y z. absurd (omega arith), omega arith)
 
-slice-relend-prefix-arrange : tie.Need-slice-relend-prefix-arrange
-slice-relend-prefix-arrange c = search needs
+-- src/constants.rt:30:9
+returns-2 : tie.Need-returns-2
+returns-2 c = (λ x y z. absurd (omega arith), omega arith)
 
-slice-aggregate-arrange : tie.Need-slice-aggregate-arrange
-slice-aggregate-arrange c = cut-long _ _ (search needs)
+-- src/constants.rt:33:9
+returns-3 : tie.Need-returns-3
+returns-3 c = (λ x y z. absurd (omega arith), omega arith)
 
-slice-relend-prefix-arrange-2 : tie.Need-slice-relend-prefix-arrange-2
-slice-relend-prefix-arrange-2 c = search needs
+-- src/constants.rt:35:5
+fill-constants-requires : tie.Need-fill-constants-requires
+fill-constants-requires c κs = search needs
 
-slice-aggregate-arrange-2 : tie.Need-slice-aggregate-arrange-2
-slice-aggregate-arrange-2 c = cut-long _ _ (search needs)
-
-arrange-requires : tie.Need-arrange-requires
-arrange-requires c κs = (
-  cuts-agree (c .before .before .before .before .before .before .before .before .before .before .args .scratch .now) (c .before .before .before .before .fill-places .last .1 .1 .0) (c .before .before .before .before .fill-places .result) (search needs) (search needs),
-  cut-small (c .before .before .before .before .fill-places .last .1 .1 .0) (c .before .before .before .before .fill-places .result) (search needs) (search needs),
-)
-
+-- src/constants.rt:23:1
 same-length : tie.Need-same-length
 same-length c = search needs
 
+-- src/constants.rt:23:1
 same-length-2 : tie.Need-same-length-2
 same-length-2 c = search needs
 
-returns : tie.Need-returns
-returns c = (
-  constants-kept _ _ (search needs) _ _ (c .before .before .before .before .arrange .last .1 .1 .0) _ (c .before .before .before .before .arrange .result) (c .before .before .before .before .before .before .before .before .before .fill-places .ensures .0) (c .before .before .before .before .before .before .before .before .before .fill-places .ensures .1) (c .before .before .before .before .arrange .ensures .0) (search needs),
-  cut-few (c .before .before .before .before .before .before .before .before .before .fill-places .last .1 .1 .0) (c .before .before .before .before .before .before .before .before .before .fill-places .result) _ (c .before .before .before .before .arrange .ensures .1) (search needs),
-)
+-- src/constants.rt:23:1
+returns-4 : tie.Need-returns-4
+returns-4 c = search needs
 
 pub constant-table-spec : {M : Type 1} → statement M
 constant-table-spec =
     tie.close
     (tie.spec
-    fill-places-requires
-    slice-relend-prefix-arrange
-    slice-aggregate-arrange
-    slice-relend-prefix-arrange-2
-    slice-aggregate-arrange-2
-    arrange-requires
+    returns
+    returns-2
+    returns-3
+    fill-constants-requires
     same-length
     same-length-2
-    returns)
+    returns-4)

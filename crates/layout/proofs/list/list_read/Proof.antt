@@ -33,7 +33,7 @@ slice-aggregate-put-types-3 : tie.Need-slice-aggregate-put-types-3
 slice-aggregate-put-types-3 c = search needs
 
 put-types-requires : tie.Need-put-types-requires
-put-types-requires c κs = c .before .before .before .before .before .before .fill-tables .ensures .0 (c .before .before .before .before .before .before .before .before .before .before .before .before .before .before .pre .1)
+put-types-requires c κs = c .before .before .before .before .before .before .fill-tables .ensures .0 (search needs) (search needs) (search needs) (search needs) (c .before .before .before .before .before .before .before .before .before .before .before .before .before .before .pre .1)
 
 same-length : tie.Need-same-length
 same-length c = search needs
@@ -51,7 +51,7 @@ slice-aggregate-put-types-5 : tie.Need-slice-aggregate-put-types-5
 slice-aggregate-put-types-5 c = search needs
 
 put-types-requires-2 : tie.Need-put-types-requires-2
-put-types-requires-2 c κs = c .before .before .before .before .before .before .before .before .before .before .before .before .before .fill-tables .ensures .0 (c .before .before .before .before .before .before .before .before .before .before .before .before .before .before .before .before .before .before .before .before .before .pre .1)
+put-types-requires-2 c κs = c .before .before .before .before .before .before .before .before .before .before .before .before .before .fill-tables .ensures .0 (search needs) (search needs) (search needs) (search needs) (c .before .before .before .before .before .before .before .before .before .before .before .before .before .before .before .before .before .before .before .before .before .pre .1)
 
 same-length-2 : tie.Need-same-length-2
 same-length-2 c = search needs

@@ -1,0 +1,169 @@
+-- The fields of types compared with one another, and looked up by name. p is the first pool and q the second. Assumes nothing.
+use Prim.Native.Nat.{ℕ, _+_, _≤_, _<_}
+use mathlib.Core.Path.{_≡_, refl, sym, ap, ap₂, _∙_}
+use mathlib.Core.List.{List, _++_}
+use mathlib.Core.Bool.{Bool, true, false, _&&_, not, and-true, and-false, false≢true, Bool·beq}
+use native.Mathlib.Omega.{arith}
+use borrow.Author.Tests.{eq-eqb}
+use lib.ListN.{length, take, drop}
+use lib.Seq.{take-at}
+use Rattle.record.specs.Base.{Str, eqs}
+use Rattle.record.specs.Stretch.{textOf}
+use Rattle.record.specs.Scalars.{Scalar}
+use Rattle.record.specs.Shapes.{Place}
+use Rattle.record.specs.Fill.{fronted}
+use Rattle.record.specs.Write.{largest, Puts}
+use Rattle.record.specs.Describe.{describedAs}
+use Rattle.record.specs.Reading.{Rec, rec}
+use Rattle.record.specs.Read.{Exact}
+use Rattle.record.specs.declared.describe.Description.{Description}
+use Rattle.record.proofs.Basics.{eqs-refl}
+use Rattle.record.proofs.ListLaws.{find-none, find-hit, find-miss}
+use Rattle.record.proofs.WriterLaws.{puts-exact, puts-front}
+use Rattle.layout.specs.Handles.{layoutOf}
+use Rattle.layout.specs.Table.{Typed}
+use Rattle.layout.specs.FieldSizes.{SizesTable}
+use Rattle.layout.specs.Spots.{spotOf, placesFrom, Sound, SpotsFrom, TypeSpots}
+use Rattle.layout.specs.declared.spots.Spot.{Spot}
+use Rattle.layout.specs.declared.spots.SpotCursor.{SpotCursor}
+use Rattle.layout.specs.declared.spots.SpotStep.{SpotStep}
+use Rattle.layout.specs.declared.spots.SpotStep.the-variants.{NoSpot, ASpot}
+use Rattle.layout.proofs.SpotLaws.{spots-over-now, spots-now, spots-sound}
+use Rattle.definition.specs.Fields.{placeIn, eqPlace, eqPlaces}
+use Rattle.compare.specs.Layouts.{spotFound}
+use Rattle.definition.proofs.Same.{eqPlace→eq}
+
+-- descriptions --------------------------------------------------------------------------------------------------------------
+
+-- what is put at the front of a buffer that holds it is read back
+pub read-back : {out xs after : Str} {r n : ℕ} → Puts out 0 xs after r → r ≤ n → length out ≡ n → n < largest → take r after ≡ xs
+unfolding fronted
+read-back {out} {xs} {after} {r} p h l m =
+    let e : r ≡ length xs = puts-exact p (omega arith) ∙ omega arith in
+    let q : after ≡ xs ++ drop (length xs) out = puts-front p (omega arith) in
+    ap₂ take e q ∙ take-at xs (drop (length xs) out) (length xs) refl
+
+pub same-described : (p q : Str) (d e : Description) {a b a' b' : Str} {m n : ℕ} (t : Bool) → Puts a 0 (describedAs p d) a' m → m ≤ 0 + 559 → length a ≡ 559
+    → Puts b 0 (describedAs q e) b' n → n ≤ 0 + 559 → length b ≡ 559 → t ≡ eqs (take m a') (take n b') → t ≡ eqs (describedAs p d) (describedAs q e)
+same-described p q d e t f g h i j k z = z ∙ ap₂ eqs (read-back f (omega arith) h (omega arith)) (read-back i (omega arith) k (omega arith))
+
+-- one field ----------------------------------------------------------------------------------------------------------------
+
+not-self : (t u : Bool) → not t ≡ u → t ≡ not u
+not-self true u h = ap not h
+not-self false u h = ap not h
+
+not-true : (t : Bool) → (t ≡ true → ⊥) → false ≡ t
+not-true true h = absurd (h refl)
+not-true false h = refl
+
+module _ (p q : Str) (x y : Spot) where
+  abbrev is : Place
+  is = spotOf p x
+
+  abbrev was : Place
+  was = spotOf q y
+
+  other : (is ≡ was → ⊥) → false ≡ eqPlace is was
+  other h = not-true (eqPlace is was) (λ e. h (eqPlace→eq is was e))
+
+  pub spot-moved : (x .offset ≡ y .offset → ⊥) → false ≡ eqPlace is was
+  spot-moved h = other (λ e. h (ap (λ (a : Place). a .offset) e))
+
+  pub spot-resized : (x .size ≡ y .size → ⊥) → false ≡ eqPlace is was
+  spot-resized h = other (λ e. h (ap (λ (a : Place). a .size) e))
+
+  pub spot-repadded : not (Bool·beq (x .padding) (y .padding)) ≡ true → false ≡ eqPlace is was
+  unfolding eqPlace
+  spot-repadded h = rw (not-self (Bool·beq (x .padding) (y .padding)) true h, and-false)
+
+  module _ (u v : Str) (b : Bool) (f : u ≡ textOf p (x .name)) (g : v ≡ textOf q (y .name)) (h : b ≡ eqs u v) where
+    pub spot-renamed : b ≡ false → false ≡ eqPlace is was
+    spot-renamed e = other (λ (i : is ≡ was). false≢true (sym e ∙ h ∙ ap (eqs u) (g ∙ sym (ap (λ (a : Place). a .name) i) ∙ sym f) ∙ eqs-refl u))
+
+    pub spot-same : (t : Bool) → b ≡ true → x .offset ≡ y .offset → x .size ≡ y .size → not (Bool·beq (x .padding) (y .padding)) ≡ false
+        → t ≡ eqs (describedAs p (x .described)) (describedAs q (y .described)) → t ≡ eqPlace is was
+    unfolding eqPlace
+    spot-same t e i j k d =
+        rw (← f, ← g, ← h, e, eq-eqb (x .offset) (y .offset) i, eq-eqb (x .size) (y .size) j, ← d, not-self (Bool·beq (x .padding) (y .padding)) false k, and-true)
+
+-- all fields of two types ----------------------------------------------------------------------------------------------------
+
+-- the fields of the types agree so far: they are the same where those still ahead are
+pub record Agreed (r r₀ : Rec) (z z₀ : List ℕ) (h h₀ : ℕ) (c c₀ : SpotCursor) : Type 0 where
+  pub sound : Sound r z c
+  pub sound₀ : Sound r₀ z₀ c₀
+  pub same : eqPlaces (layoutOf r h .fields) (layoutOf r₀ h₀ .fields) ≡ eqPlaces (placesFrom r c) (placesFrom r₀ c₀)
+
+module _ (s p b q : Str) (w : List Scalar) (z z₀ : List ℕ) (h h₀ : ℕ) (c c₀ : SpotCursor) where
+  abbrev R : Rec
+  R = rec s p w
+
+  abbrev R₀ : Rec
+  R₀ = rec b q w
+
+  pub agreed-start : Typed s h → SizesTable R z → Exact R → Typed b h₀ → SizesTable R₀ z₀ → Exact R₀ → TypeSpots s h c → TypeSpots b h₀ c₀ → Agreed R R₀ z z₀ h h₀ c c₀
+  agreed-start t n x t₀ n₀ x₀ k k₀ = record { sound = k .sound t p w z n x; sound₀ = k₀ .sound t₀ q w z₀ n₀ x₀; same = ap₂ eqPlaces (sym (k .list t p w)) (sym (k₀ .list t₀ q w)) }
+
+  module _ (a : Agreed R R₀ z z₀ h h₀ c c₀) (o o₀ : SpotStep) (f : SpotsFrom R z c o) (f₀ : SpotsFrom R₀ z₀ c₀ o₀) where
+    abbrev all : Bool
+    all = eqPlaces (layoutOf R h .fields) (layoutOf R₀ h₀ .fields)
+
+    pub agreed-end : o ≡ NoSpot → o₀ ≡ NoSpot → true ≡ all
+    unfolding eqPlaces
+    agreed-end m m₀ = sym (a .same ∙ ap₂ eqPlaces (spots-over-now s p w z c o f (a .sound) m) (spots-over-now b q w z₀ c₀ o₀ f₀ (a .sound₀) m₀))
+
+    pub agreed-fewer : (y : Spot) (k₀ : SpotCursor) → o ≡ NoSpot → o₀ ≡ ASpot y k₀ → false ≡ all
+    unfolding eqPlaces
+    agreed-fewer y k₀ m m₀ = sym (a .same ∙ ap₂ eqPlaces (spots-over-now s p w z c o f (a .sound) m) (spots-now b q w z₀ c₀ o₀ f₀ y k₀ m₀ (a .sound₀)))
+
+    module _ (x : Spot) (k : SpotCursor) (m : o ≡ ASpot x k) where
+      pub agreed-more : o₀ ≡ NoSpot → false ≡ all
+      unfolding eqPlaces
+      agreed-more m₀ = sym (a .same ∙ ap₂ eqPlaces (spots-now s p w z c o f x k m (a .sound)) (spots-over-now b q w z₀ c₀ o₀ f₀ (a .sound₀) m₀))
+
+      module _ (y : Spot) (k₀ : SpotCursor) (m₀ : o₀ ≡ ASpot y k₀) (t : Bool) (e : t ≡ eqPlace (spotOf p x) (spotOf q y)) where
+        next : all ≡ (t && eqPlaces (placesFrom R k) (placesFrom R₀ k₀))
+        unfolding eqPlaces
+        next =
+            a .same ∙ ap₂ eqPlaces (spots-now s p w z c o f x k m (a .sound)) (spots-now b q w z₀ c₀ o₀ f₀ y k₀ m₀ (a .sound₀))
+            ∙ ap (λ (i : Bool). i && eqPlaces (placesFrom R k) (placesFrom R₀ k₀)) (sym e)
+
+        pub agreed-other : t ≡ false → false ≡ all
+        agreed-other g = sym (next ∙ ap (λ (i : Bool). i && eqPlaces (placesFrom R k) (placesFrom R₀ k₀)) g)
+
+        pub agreed-on : t ≡ true → Agreed R R₀ z z₀ h h₀ k k₀
+        agreed-on g =
+            record {
+              sound = spots-sound s p w z c o f x k m (a .sound);
+              sound₀ = spots-sound b q w z₀ c₀ o₀ f₀ y k₀ m₀ (a .sound₀);
+              same = next ∙ ap (λ (i : Bool). i && eqPlaces (placesFrom R k) (placesFrom R₀ k₀)) g;
+            }
+
+-- a field by its name ------------------------------------------------------------------------------------------------------
+
+-- none of that name so far: the first is the first of those still ahead
+pub record PlaceOn (r : Rec) (z : List ℕ) (n : Str) (a c : SpotCursor) : Type 0 where
+  pub sound : Sound r z c
+  pub same : placeIn n (placesFrom r a) ≡ placeIn n (placesFrom r c)
+
+pub place-here : (r : Rec) (z : List ℕ) (n : Str) (c : SpotCursor) → Sound r z c → PlaceOn r z n c c
+place-here r z n c d = record { sound = d; same = refl }
+
+module _ (s p : Str) (w : List Scalar) (z : List ℕ) (n : Str) (a c : SpotCursor) (i : PlaceOn (rec s p w) z n a c) (o : SpotStep) (f : SpotsFrom (rec s p w) z c o) where
+  pub place-none : o ≡ NoSpot → placeIn n (placesFrom (rec s p w) a) ≡ spotFound p NoSpot
+  unfolding placeIn
+  place-none m = i .same ∙ find-none (λ (g : Place). eqs (g .name) n) _ (spots-over-now s p w z c o f (i .sound) m)
+
+  module _ (x : Spot) (k : SpotCursor) (m : o ≡ ASpot x k) (u : Str) (b : Bool) (g : u ≡ textOf p (x .name)) (h : b ≡ eqs u n) where
+    pub place-hit : b ≡ true → placeIn n (placesFrom (rec s p w) a) ≡ spotFound p (ASpot x k)
+    unfolding placeIn
+    place-hit e = i .same ∙ find-hit (λ (g : Place). eqs (g .name) n) _ _ _ (spots-now s p w z c o f x k m (i .sound)) (ap (λ (y : Str). eqs y n) (sym g) ∙ sym h ∙ e)
+
+    pub place-miss : b ≡ false → PlaceOn (rec s p w) z n a k
+    unfolding placeIn
+    place-miss e =
+        record {
+          sound = spots-sound s p w z c o f x k m (i .sound);
+          same = i .same ∙ find-miss (λ (g : Place). eqs (g .name) n) _ _ _ (spots-now s p w z c o f x k m (i .sound)) (ap (λ (y : Str). eqs y n) (sym g) ∙ sym h ∙ e);
+        }

@@ -1,0 +1,24 @@
+use Rattle.verdicts.proofs.PassLaws.{then-on, then-stop}
+use borrow.Author.Needs.{needs}
+use Rattle.compare.proofs.compare.check_types.Statement.{statement}
+use Rattle.compare.proofs.compare.check_types.Tie as tie
+
+check-fields-requires : tie.Need-check-fields-requires
+check-fields-requires c κs = search needs
+
+enum-told : tie.Need-enum-told
+enum-told c = search needs
+
+check-standalone-requires : tie.Need-check-standalone-requires
+check-standalone-requires c κs = search needs
+
+returns : tie.Need-returns
+returns c = search then-on
+
+returns-2 : tie.Need-returns-2
+returns-2 c = search then-stop
+
+pub check-types-spec : {M : Type 1} → statement M
+check-types-spec =
+    tie.close
+    (tie.spec check-fields-requires enum-told check-standalone-requires returns returns-2)

@@ -1,0 +1,19 @@
+use Rattle.compare.proofs.CoverTableLaws.{entry-past}
+use borrow.Author.Needs.{needs}
+use Rattle.compare.proofs.cover_table.entry_at.Statement.{statement}
+use Rattle.compare.proofs.cover_table.entry_at.Tie as tie
+
+mul-result : tie.Need-mul-result
+mul-result c = search needs
+
+shared-slice-read-result : tie.Need-shared-slice-read-result
+shared-slice-read-result c = search needs
+
+returns : tie.Need-returns
+returns c = search needs
+
+returns-2 : tie.Need-returns-2
+returns-2 c = search entry-past
+
+pub entry-at-spec : {M : Type 1} → statement M
+entry-at-spec = tie.close (tie.spec mul-result shared-slice-read-result returns returns-2)

@@ -1,0 +1,146 @@
+// The table of what covers each type: an entry for each handle of the table of types, filled in one walk.
+use crate::coverage::Last;
+use crate::coverage::entry_after;
+use crate::layouts::same_fields;
+use layout::names::type_name;
+use layout::table::TypeFound;
+use layout::table::find_same;
+use record::text::Text;
+use record::text::bytes_of;
+use record::text::same;
+use verdicts::verdict::Verdict;
+ghost use Prim.Native.Nat.{_≤_};
+ghost use mathlib.Core.Path.{_≡_};
+ghost use lib.ListN.{length, getD};
+ghost use Rattle.record.specs.Scalars.{scalarsOf};
+ghost use Rattle.record.specs.Ownership.{OwnerMarks};
+ghost use Rattle.record.specs.Reading.{rec, schemaOf};
+ghost use Rattle.record.specs.Read.{Exact};
+ghost use Rattle.layout.specs.Layout.{types, typeIn};
+ghost use Rattle.layout.specs.Handles.{typeName, layoutOf};
+ghost use Rattle.layout.specs.Table.{Typed};
+ghost use Rattle.layout.specs.FieldSizes.{SizesTable};
+ghost use Rattle.layout.specs.Tables.{Tables};
+ghost use Rattle.definition.specs.Fields.{sameAs};
+ghost use Rattle.compare.specs.CoverTable.{CoverTable, firstUncovered, isUnder, firstTouched};
+
+// A number of a table; past its end 0.
+fn entry_at(table: &[u32], i: usize) -> u32
+    ensures { λ r. ⌜ r ≡ getD (now (table .entry)) i 0 ⌝ }
+{
+    if i < table.len() { table[i] } else { 0 }
+}
+
+// Whether a type has the fields that the released type of its name had.
+fn unchanged(
+    rows: &[u8],
+    stream: &[u8],
+    pool: &[u8],
+    sizes: &[u64],
+    handle: u32,
+    past: &[u8],
+    old: &[u8],
+    shipped: &[u32],
+    widths: &[u64],
+) -> bool
+    requires { ⌜ Typed (now stream) handle × SizesTable (rec (now stream) (now pool) (scalarsOf (now rows))) (now sizes) × Exact (rec (now stream) (now pool) (scalarsOf (now rows))) × Tables (rec (now past) (now old) (scalarsOf (now rows))) (now shipped) (now widths) ⌝ }
+    ensures { λ r. ⌜ r ≡ sameAs (typeIn (typeName (now (stream .entry)) (now (pool .entry)) handle) (types (schemaOf (rec (now (past .entry)) (now (old .entry)) (scalarsOf (now (rows .entry))))))) (layoutOf (rec (now (stream .entry)) (now (pool .entry)) (scalarsOf (now (rows .entry)))) handle) ⌝ }
+{
+    let TypeFound::At(i) = find_same(past, old, shipped, stream, pool, handle) else {
+        return false;
+    };
+    same_fields(
+        rows,
+        past,
+        old,
+        widths,
+        entry_at(shipped, i),
+        stream,
+        pool,
+        sizes,
+        handle,
+    )
+}
+
+// Fills the table, where the marks are those of the owners.
+pub(crate) fn fill_cover(
+    rows: &[u8],
+    stream: &[u8],
+    pool: &[u8],
+    types: &[u32],
+    sizes: &[u64],
+    past: &[u8],
+    old: &[u8],
+    shipped: &[u32],
+    widths: &[u64],
+    marks: &[u8],
+    cover: &mut [u32],
+)
+    requires { ⌜ Tables (rec (now stream) (now pool) (scalarsOf (now rows))) (now types) (now sizes) × Tables (rec (now past) (now old) (scalarsOf (now rows))) (now shipped) (now widths) × OwnerMarks (now stream) (now pool) (now marks) × (length (now types) ≤ length (now cover)) ⌝ }
+    ensures { λ _. ⌜ CoverTable (rec (now (stream .entry)) (now (pool .entry)) (scalarsOf (now (rows .entry)))) (rec (now (past .entry)) (now (old .entry)) (scalarsOf (now (rows .entry)))) (now (types .entry)) (now (cover .exit)) ⌝ }
+{
+    let mut last = Last::NoLast;
+    let mut i = 0;
+    while i < types.len() {
+        let h = types[i];
+        if unchanged(rows, stream, pool, sizes, h, past, old, shipped, widths) {
+            cover[i] = 0;
+            i += 1;
+        } else {
+            let entry = entry_after(stream, pool, marks, last, h);
+            cover[i] = entry;
+            last = Last::Entry(h, entry);
+            i += 1;
+        }
+    }
+}
+
+// The first changed type that no number covers.
+pub(crate) fn check_covered(stream: &[u8], types: &[u32], cover: &[u32]) -> Verdict
+    ensures { λ r. ⌜ r ≡ firstUncovered (now (stream .entry)) (now (types .entry)) (now (cover .entry)) ⌝ }
+{
+    let mut i = 0;
+    while i < types.len() {
+        if entry_at(cover, i) == 1 {
+            let name = type_name(stream, types[i]);
+            return Verdict::Uncovered { name };
+        }
+        i += 1;
+    }
+    Verdict::Passed
+}
+
+// Whether an entry says that the type is under the root of this name.
+fn is_under(pool: &[u8], entry: u32, root: &[u8]) -> bool
+    ensures { λ r. ⌜ r ≡ isUnder (now (pool .entry)) (now (root .entry)) entry ⌝ }
+{
+    if entry < 2 {
+        return false;
+    }
+    let stretch = entry - 2;
+    let name = Text {
+        start: (stretch / 256 % 65536) as u16,
+        len: (stretch % 256) as u8,
+    };
+    same(bytes_of(pool, name), root)
+}
+
+// A changed type under a root, by its handle.
+pub enum Touched {
+    Untouched,
+    Changed(u32),
+}
+
+// The first changed type under the root of this name.
+pub(crate) fn first_touched(pool: &[u8], types: &[u32], cover: &[u32], root: &[u8]) -> Touched
+    ensures { λ r. ⌜ r ≡ firstTouched (now (pool .entry)) (now (types .entry)) (now (cover .entry)) (now (root .entry)) ⌝ }
+{
+    let mut i = 0;
+    while i < types.len() {
+        if is_under(pool, entry_at(cover, i), root) {
+            return Touched::Changed(types[i]);
+        }
+        i += 1;
+    }
+    Touched::Untouched
+}

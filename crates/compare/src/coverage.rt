@@ -1,0 +1,156 @@
+// Which generation number covers a changed type: the one of the root that owns its name before the first "::".
+use layout::names::family_part;
+use layout::names::put_name;
+use layout::names::type_name;
+use record::command::Cursor;
+use record::command::Family;
+use record::cut::from;
+use record::cut::upto;
+use record::le::byte_at;
+use record::lists::FamilyStep;
+use record::lists::next_family;
+use record::ownership::Owner;
+use record::ownership::owner_among;
+use record::text::Text;
+use record::text::bytes_of;
+use record::text::same;
+ghost use mathlib.Core.Path.{_≡_};
+ghost use mathlib.Core.Bool.{_&&_};
+ghost use Rattle.record.specs.Base.{eqs};
+ghost use Rattle.record.specs.Stretch.{textOf};
+ghost use Rattle.record.specs.Steps.{familiesAt};
+ghost use Rattle.record.specs.References.{typesAt};
+ghost use Rattle.record.specs.Ownership.{OwnerMarks};
+ghost use Rattle.layout.specs.Handles.{typeName};
+ghost use Rattle.definition.specs.Coverage.{owning, standsAlone};
+ghost use Rattle.compare.specs.CoverTable.{colonsFirst, oneFamily, coverIn, coverMeant, Packed, Knows};
+
+// Whether a text begins with two colons.
+fn colons_first(s: &[u8]) -> bool
+    ensures { λ r. ⌜ r ≡ colonsFirst (now (s .entry)) ⌝ }
+{
+    if byte_at(s, 0) != 58 {
+        return false;
+    }
+    if byte_at(s, 1) != 58 {
+        return false;
+    }
+    true
+}
+
+// The name before its first two colons; all of it where there are none.
+fn before_colons(name: &[u8]) -> &[u8]
+    ensures { λ r. ⌜ now r ≡ owning (now (name .entry)) ⌝ }
+{
+    let mut i = 0;
+    while i < name.len() {
+        if colons_first(from(name, i)) {
+            return upto(name, i);
+        }
+        i += 1;
+    }
+    name
+}
+
+// Whether two types are variants of one family.
+fn one_family(g: u32, h: u32) -> bool
+    ensures { λ r. ⌜ r ≡ oneFamily g h ⌝ }
+{
+    let family = family_part(g);
+    if family == 0 {
+        return false;
+    }
+    if family != family_part(h) {
+        return false;
+    }
+    true
+}
+
+// Whether two types have one name before the first "::": variants of one family do, and so it is asked of the handles first.
+fn same_owning(stream: &[u8], pool: &[u8], g: u32, h: u32) -> bool
+    ensures { λ r. ⌜ r ≡ eqs (owning (typeName (now (stream .entry)) (now (pool .entry)) g)) (owning (typeName (now (stream .entry)) (now (pool .entry)) h)) ⌝ }
+{
+    if one_family(g, h) {
+        return true;
+    }
+    let mut a = [0u8; 512];
+    let mut b = [0u8; 512];
+    let m = put_name(&mut a, 0, pool, type_name(stream, g));
+    let n = put_name(&mut b, 0, pool, type_name(stream, h));
+    same(before_colons(&a[..m]), before_colons(&b[..n]))
+}
+
+// Whether a family is standalone and has this name.
+fn is_alone(pool: &[u8], f: Family, name: &[u8]) -> bool
+    ensures { λ r. ⌜ r ≡ (f .standalone && eqs (textOf (now (pool .entry)) (f .name)) (now (name .entry))) ⌝ }
+{
+    if f.standalone {
+        let own = f.name;
+        return same(bytes_of(pool, own), name);
+    }
+    false
+}
+
+// Whether a family of this name is standalone.
+fn stands_alone(stream: &[u8], pool: &[u8], name: &[u8]) -> bool
+    ensures { λ r. ⌜ r ≡ standsAlone (familiesAt (now (stream .entry)) (now (pool .entry)) 0) (now (name .entry)) ⌝ }
+{
+    let mut cursor = Cursor::new();
+    loop {
+        let FamilyStep::AFamily(f, after) = next_family(stream, cursor) else {
+            return false;
+        };
+        if is_alone(pool, f, name) {
+            return true;
+        }
+        cursor = after;
+    }
+}
+
+// The entry of a type that is under the root of this name: two more than the stretch as a number, since 0 and 1 are taken.
+fn packed(root: Text) -> u32
+    ensures { λ r. ⌜ Packed root r ⌝ }
+{
+    (root.start as u32) * 256 + (root.len as u32) + 2
+}
+
+// The entry of a changed type, by its name before the first "::".
+fn entry_named(stream: &[u8], pool: &[u8], marks: &[u8], name: &[u8]) -> u32
+    ensures { λ r. ⌜ (OwnerMarks (now (stream .entry)) (now (pool .entry)) (now (marks .entry)) → coverMeant (now (pool .entry)) r ≡ coverIn (typesAt (now (stream .entry)) (now (pool .entry))) (now (name .entry))) ⌝ }
+{
+    if stands_alone(stream, pool, name) {
+        return 0;
+    }
+    let Owner::Owned(root) = owner_among(stream, pool, marks, name) else {
+        return 1;
+    };
+    packed(root)
+}
+
+// The entry of a changed type.
+fn entry_of(stream: &[u8], pool: &[u8], marks: &[u8], handle: u32) -> u32
+    ensures { λ r. ⌜ (OwnerMarks (now (stream .entry)) (now (pool .entry)) (now (marks .entry)) → coverMeant (now (pool .entry)) r ≡ coverIn (typesAt (now (stream .entry)) (now (pool .entry))) (owning (typeName (now (stream .entry)) (now (pool .entry)) handle))) ⌝ }
+{
+    let mut name = [0u8; 512];
+    let n = put_name(&mut name, 0, pool, type_name(stream, handle));
+    entry_named(stream, pool, marks, before_colons(&name[..n]))
+}
+
+// The changed type before, by its handle, and its entry.
+pub enum Last {
+    NoLast,
+    Entry(u32, u32),
+}
+
+// The entry of a changed type, taken over from the one before where both have one name before the first "::": an owner is sought once.
+pub(crate) fn entry_after(stream: &[u8], pool: &[u8], marks: &[u8], last: Last, handle: u32) -> u32
+    ensures { λ r. ⌜ (OwnerMarks (now (stream .entry)) (now (pool .entry)) (now (marks .entry)) → Knows (now (stream .entry)) (now (pool .entry)) last → coverMeant (now (pool .entry)) r ≡ coverIn (typesAt (now (stream .entry)) (now (pool .entry))) (owning (typeName (now (stream .entry)) (now (pool .entry)) handle))) ⌝ }
+{
+    let Last::Entry(before, entry) = last else {
+        return entry_of(stream, pool, marks, handle);
+    };
+    if same_owning(stream, pool, before, handle) {
+        return entry;
+    }
+    entry_of(stream, pool, marks, handle)
+}

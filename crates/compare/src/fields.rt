@@ -1,0 +1,210 @@
+// The pass over the fields: a released field keeps its place, its size and how it reads.
+use crate::layouts::find_spot;
+use crate::layouts::same_description;
+use layout::names::TypeName;
+use layout::names::type_name;
+use layout::spots::Spot;
+use layout::spots::SpotCursor;
+use layout::spots::SpotStep;
+use layout::spots::first_spot;
+use layout::spots::next_spot;
+use layout::table::TypeFound;
+use layout::table::find_same;
+use record::text::bytes_of;
+use verdicts::verdict::Verdict;
+ghost use mathlib.Core.Path.{_≡_};
+ghost use Rattle.record.specs.Scalars.{scalarsOf};
+ghost use Rattle.record.specs.Reading.{rec};
+ghost use Rattle.record.specs.Read.{Exact};
+ghost use Rattle.layout.specs.Handles.{typeName, layoutOf};
+ghost use Rattle.layout.specs.Names.{nameOf};
+ghost use Rattle.layout.specs.Table.{Typed};
+ghost use Rattle.layout.specs.FieldSizes.{SizesTable};
+ghost use Rattle.layout.specs.Spots.{spotOf, placesFrom, Sound};
+ghost use Rattle.layout.specs.Tables.{Tables};
+ghost use Rattle.definition.specs.Fields.{checkKept, checkPlace, checkPlaces, checkType, checkFields};
+ghost use Rattle.compare.specs.Layouts.{typesOf};
+ghost use Rattle.verdicts.specs.Meaning.{meaning};
+
+// A released field against the one of its name.
+fn check_kept(pool: &[u8], old: &[u8], owner: TypeName, was: Spot, is: Spot) -> Verdict
+    ensures { λ r. ⌜ meaning (now (pool .entry)) (now (old .entry)) r ≡ checkKept (nameOf (now (old .entry)) owner) (spotOf (now (old .entry)) was) (spotOf (now (pool .entry)) is) ⌝ }
+{
+    let name = was.name;
+    if is.offset != was.offset {
+        return Verdict::Moved {
+            owner,
+            name,
+            was: was.offset,
+            is: is.offset,
+        };
+    }
+    if is.size != was.size {
+        return Verdict::Resized {
+            owner,
+            name,
+            was: was.size,
+            is: is.size,
+        };
+    }
+    let reads = is.described;
+    let read = was.described;
+    if same_description(pool, reads, old, read) {
+        return Verdict::Passed;
+    }
+    Verdict::Redescribed {
+        owner,
+        name,
+        was: read,
+        is: reads,
+    }
+}
+
+// One released field against those that are now, from a cursor on; padding is held to nothing.
+fn check_place(
+    rows: &[u8],
+    stream: &[u8],
+    pool: &[u8],
+    sizes: &[u64],
+    is: SpotCursor,
+    old: &[u8],
+    owner: TypeName,
+    was: Spot,
+) -> Verdict
+    requires { ⌜ Sound (rec (now stream) (now pool) (scalarsOf (now rows))) (now sizes) is ⌝ }
+    ensures { λ r. ⌜ meaning (now (pool .entry)) (now (old .entry)) r ≡ checkPlace (nameOf (now (old .entry)) owner) (placesFrom (rec (now (stream .entry)) (now (pool .entry)) (scalarsOf (now (rows .entry)))) is) (spotOf (now (old .entry)) was) ⌝ }
+{
+    if was.padding {
+        return Verdict::Passed;
+    }
+    let name = was.name;
+    let found = find_spot(rows, stream, pool, sizes, is, bytes_of(old, name));
+    let SpotStep::ASpot(x, _) = found else {
+        return Verdict::FieldGone { owner, name };
+    };
+    check_kept(pool, old, owner, was, x)
+}
+
+// The released fields of a type from a cursor on against those that are now, from another on.
+fn check_places(
+    rows: &[u8],
+    stream: &[u8],
+    pool: &[u8],
+    sizes: &[u64],
+    is: SpotCursor,
+    past: &[u8],
+    old: &[u8],
+    widths: &[u64],
+    owner: TypeName,
+    from: SpotCursor,
+) -> Verdict
+    requires { ⌜ Sound (rec (now stream) (now pool) (scalarsOf (now rows))) (now sizes) is × Sound (rec (now past) (now old) (scalarsOf (now rows))) (now widths) from ⌝ }
+    ensures { λ r. ⌜ meaning (now (pool .entry)) (now (old .entry)) r ≡ checkPlaces (nameOf (now (old .entry)) owner) (placesFrom (rec (now (stream .entry)) (now (pool .entry)) (scalarsOf (now (rows .entry)))) is) (placesFrom (rec (now (past .entry)) (now (old .entry)) (scalarsOf (now (rows .entry)))) from) ⌝ }
+{
+    let mut cursor = from;
+    loop {
+        let SpotStep::ASpot(was, after) = next_spot(rows, past, old, widths, cursor) else {
+            return Verdict::Passed;
+        };
+        let verdict = check_place(rows, stream, pool, sizes, is, old, owner, was);
+        if let Verdict::Passed = verdict {
+            cursor = after;
+        } else {
+            return verdict;
+        }
+    }
+}
+
+// The fields of a released type against those of a current one, by the handles of the types.
+fn check_layout(
+    rows: &[u8],
+    stream: &[u8],
+    pool: &[u8],
+    sizes: &[u64],
+    handle: u32,
+    past: &[u8],
+    old: &[u8],
+    widths: &[u64],
+    other: u32,
+) -> Verdict
+    requires { ⌜ (Typed (now stream) handle × SizesTable (rec (now stream) (now pool) (scalarsOf (now rows))) (now sizes) × Exact (rec (now stream) (now pool) (scalarsOf (now rows)))) × (Typed (now past) other × SizesTable (rec (now past) (now old) (scalarsOf (now rows))) (now widths) × Exact (rec (now past) (now old) (scalarsOf (now rows)))) ⌝ }
+    ensures { λ r. ⌜ meaning (now (pool .entry)) (now (old .entry)) r ≡ checkPlaces (typeName (now (past .entry)) (now (old .entry)) other) (layoutOf (rec (now (stream .entry)) (now (pool .entry)) (scalarsOf (now (rows .entry)))) handle .fields) (layoutOf (rec (now (past .entry)) (now (old .entry)) (scalarsOf (now (rows .entry)))) other .fields) ⌝ }
+{
+    let owner = type_name(past, other);
+    let is = first_spot(stream, handle);
+    let from = first_spot(past, other);
+    check_places(
+        rows,
+        stream,
+        pool,
+        sizes,
+        is,
+        past,
+        old,
+        widths,
+        owner,
+        from,
+    )
+}
+
+// One released type, by its handle.
+fn check_type(
+    rows: &[u8],
+    stream: &[u8],
+    pool: &[u8],
+    types: &[u32],
+    sizes: &[u64],
+    past: &[u8],
+    old: &[u8],
+    widths: &[u64],
+    other: u32,
+) -> Verdict
+    requires { ⌜ Tables (rec (now stream) (now pool) (scalarsOf (now rows))) (now types) (now sizes) × (Typed (now past) other × SizesTable (rec (now past) (now old) (scalarsOf (now rows))) (now widths) × Exact (rec (now past) (now old) (scalarsOf (now rows)))) ⌝ }
+    ensures { λ r. ⌜ meaning (now (pool .entry)) (now (old .entry)) r ≡ checkType (typesOf (rec (now (stream .entry)) (now (pool .entry)) (scalarsOf (now (rows .entry))))) (layoutOf (rec (now (past .entry)) (now (old .entry)) (scalarsOf (now (rows .entry)))) other) ⌝ }
+{
+    let found = find_same(stream, pool, types, past, old, other);
+    let TypeFound::At(i) = found else {
+        return Verdict::TypeGone {
+            name: type_name(past, other),
+        };
+    };
+    let handle = types[i];
+    check_layout(rows, stream, pool, sizes, handle, past, old, widths, other)
+}
+
+// The first type or field of the release that does not stand as it was, types in byte order of their names.
+pub(crate) fn check_fields(
+    rows: &[u8],
+    stream: &[u8],
+    pool: &[u8],
+    types: &[u32],
+    sizes: &[u64],
+    past: &[u8],
+    old: &[u8],
+    shipped: &[u32],
+    widths: &[u64],
+) -> Verdict
+    requires { ⌜ Tables (rec (now stream) (now pool) (scalarsOf (now rows))) (now types) (now sizes) × Tables (rec (now past) (now old) (scalarsOf (now rows))) (now shipped) (now widths) ⌝ }
+    ensures { λ r. ⌜ meaning (now (pool .entry)) (now (old .entry)) r ≡ checkFields (typesOf (rec (now (stream .entry)) (now (pool .entry)) (scalarsOf (now (rows .entry))))) (typesOf (rec (now (past .entry)) (now (old .entry)) (scalarsOf (now (rows .entry))))) ⌝ }
+{
+    let mut i = 0;
+    while i < shipped.len() {
+        let verdict = check_type(
+            rows,
+            stream,
+            pool,
+            types,
+            sizes,
+            past,
+            old,
+            widths,
+            shipped[i],
+        );
+        if let Verdict::Passed = verdict {
+            i += 1;
+        } else {
+            return verdict;
+        }
+    }
+    Verdict::Passed
+}

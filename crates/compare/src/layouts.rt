@@ -1,0 +1,119 @@
+// The fields of types compared with one another, and looked up by name.
+use layout::spots::Spot;
+use layout::spots::SpotCursor;
+use layout::spots::SpotStep;
+use layout::spots::first_spot;
+use layout::spots::next_spot;
+use record::describe::Description;
+use record::describe::put_description;
+use record::text::bytes_of;
+use record::text::same;
+ghost use mathlib.Core.Path.{_≡_};
+ghost use Rattle.record.specs.Base.{eqs};
+ghost use Rattle.record.specs.Scalars.{scalarsOf};
+ghost use Rattle.record.specs.Describe.{describedAs};
+ghost use Rattle.record.specs.Reading.{rec};
+ghost use Rattle.record.specs.Read.{Exact};
+ghost use Rattle.layout.specs.Handles.{layoutOf};
+ghost use Rattle.layout.specs.Table.{Typed};
+ghost use Rattle.layout.specs.FieldSizes.{SizesTable};
+ghost use Rattle.layout.specs.Spots.{spotOf, placesFrom, Sound};
+ghost use Rattle.definition.specs.Fields.{placeIn, eqPlace, eqPlaces};
+ghost use Rattle.compare.specs.Layouts.{spotFound};
+
+// Whether two descriptions read the same, each in its pool: both are put into buffers, since parts that differ may read the same together.
+pub fn same_description(pool: &[u8], d: Description, old: &[u8], e: Description) -> bool
+    ensures { λ r. ⌜ r ≡ eqs (describedAs (now (pool .entry)) d) (describedAs (now (old .entry)) e) ⌝ }
+{
+    let mut a = [0u8; 559];
+    let mut b = [0u8; 559];
+    let m = put_description(&mut a, 0, pool, d);
+    let n = put_description(&mut b, 0, old, e);
+    same(&a[..m], &b[..n])
+}
+
+// Whether two fields are the same, what is quickly seen first.
+pub fn same_spot(pool: &[u8], x: Spot, old: &[u8], y: Spot) -> bool
+    ensures { λ r. ⌜ r ≡ eqPlace (spotOf (now (pool .entry)) x) (spotOf (now (old .entry)) y) ⌝ }
+{
+    if x.offset != y.offset {
+        return false;
+    }
+    if x.size != y.size {
+        return false;
+    }
+    if x.padding != y.padding {
+        return false;
+    }
+    let name = x.name;
+    let other = y.name;
+    if same(bytes_of(pool, name), bytes_of(old, other)) {
+        let d = x.described;
+        let e = y.described;
+        return same_description(pool, d, old, e);
+    }
+    false
+}
+
+// Whether two types have the same fields in the same order, padding included.
+pub(crate) fn same_fields(
+    rows: &[u8],
+    stream: &[u8],
+    pool: &[u8],
+    sizes: &[u64],
+    handle: u32,
+    past: &[u8],
+    old: &[u8],
+    widths: &[u64],
+    other: u32,
+) -> bool
+    requires { ⌜ (Typed (now stream) handle × SizesTable (rec (now stream) (now pool) (scalarsOf (now rows))) (now sizes) × Exact (rec (now stream) (now pool) (scalarsOf (now rows)))) × (Typed (now past) other × SizesTable (rec (now past) (now old) (scalarsOf (now rows))) (now widths) × Exact (rec (now past) (now old) (scalarsOf (now rows)))) ⌝ }
+    ensures { λ r. ⌜ r ≡ eqPlaces (layoutOf (rec (now (stream .entry)) (now (pool .entry)) (scalarsOf (now (rows .entry)))) handle .fields) (layoutOf (rec (now (past .entry)) (now (old .entry)) (scalarsOf (now (rows .entry)))) other .fields) ⌝ }
+{
+    let mut is = first_spot(stream, handle);
+    let mut was = first_spot(past, other);
+    loop {
+        let step = next_spot(rows, stream, pool, sizes, is);
+        let second = next_spot(rows, past, old, widths, was);
+        let SpotStep::ASpot(x, after) = step else {
+            let SpotStep::ASpot(_, _) = second else {
+                return true;
+            };
+            return false;
+        };
+        let SpotStep::ASpot(y, next) = second else {
+            return false;
+        };
+        if same_spot(pool, x, old, y) {
+            is = after;
+            was = next;
+        } else {
+            return false;
+        }
+    }
+}
+
+// The first field of that name from a cursor on.
+pub(crate) fn find_spot(
+    rows: &[u8],
+    stream: &[u8],
+    pool: &[u8],
+    sizes: &[u64],
+    from: SpotCursor,
+    name: &[u8],
+) -> SpotStep
+    requires { ⌜ Sound (rec (now stream) (now pool) (scalarsOf (now rows))) (now sizes) from ⌝ }
+    ensures { λ r. ⌜ placeIn (now (name .entry)) (placesFrom (rec (now (stream .entry)) (now (pool .entry)) (scalarsOf (now (rows .entry)))) from) ≡ spotFound (now (pool .entry)) r ⌝ }
+{
+    let mut cursor = from;
+    loop {
+        let SpotStep::ASpot(x, after) = next_spot(rows, stream, pool, sizes, cursor) else {
+            return SpotStep::NoSpot;
+        };
+        let own = x.name;
+        if same(bytes_of(pool, own), name) {
+            return SpotStep::ASpot(x, after);
+        }
+        cursor = after;
+    }
+}

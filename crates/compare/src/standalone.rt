@@ -1,0 +1,303 @@
+// The pass over the standalone families: a family stands alone as it did, and no shipped layout of one that does has changed.
+use crate::layouts::find_spot;
+use crate::layouts::same_fields;
+use layout::names::TypeName;
+use layout::spots::SpotCursor;
+use layout::spots::SpotStep;
+use layout::spots::first_spot;
+use layout::spots::next_spot;
+use layout::table::TypeFound;
+use layout::table::find_named;
+use record::command::Cursor;
+use record::command::Family;
+use record::lists::FamilyStep;
+use record::lists::VariantStep;
+use record::lists::find_family;
+use record::lists::next_family;
+use record::lists::next_variant;
+use record::operands::OptText;
+use record::text::Text;
+use record::text::bytes_of;
+use verdicts::verdict::Verdict;
+ghost use mathlib.Core.Path.{_≡_};
+ghost use mathlib.Core.List.{_∷_};
+ghost use Rattle.record.specs.Stretch.{textOf};
+ghost use Rattle.record.specs.Scalars.{scalarsOf};
+ghost use Rattle.record.specs.Lists.{optOf, familyOf};
+ghost use Rattle.record.specs.Steps.{fieldsAt, variantsAt, familiesAt};
+ghost use Rattle.record.specs.Reading.{rec};
+ghost use Rattle.record.specs.Read.{Exact};
+ghost use Rattle.layout.specs.Names.{nameOf};
+ghost use Rattle.layout.specs.Table.{TypesTable};
+ghost use Rattle.layout.specs.FieldSizes.{SizesTable};
+ghost use Rattle.layout.specs.Spots.{placesFrom, Sound};
+ghost use Rattle.layout.specs.Tables.{Tables};
+ghost use Rattle.compare.specs.Layouts.{typesOf};
+ghost use Rattle.definition.specs.Standalone.{variantNames, gained, checkShippedAll, checkStanding, checkFamily, checkStandalone};
+ghost use Rattle.compare.specs.Pairs.{checkPair, pairTyped, PairFound};
+ghost use Rattle.verdicts.specs.Meaning.{meaning};
+
+// The name of the first field from one cursor on that none from another on has.
+fn gained(
+    rows: &[u8],
+    stream: &[u8],
+    pool: &[u8],
+    sizes: &[u64],
+    is: SpotCursor,
+    past: &[u8],
+    old: &[u8],
+    widths: &[u64],
+    was: SpotCursor,
+) -> OptText
+    requires { ⌜ Sound (rec (now stream) (now pool) (scalarsOf (now rows))) (now sizes) is × Sound (rec (now past) (now old) (scalarsOf (now rows))) (now widths) was ⌝ }
+    ensures { λ r. ⌜ optOf (now (pool .entry)) r ≡ gained (placesFrom (rec (now (stream .entry)) (now (pool .entry)) (scalarsOf (now (rows .entry)))) is) (placesFrom (rec (now (past .entry)) (now (old .entry)) (scalarsOf (now (rows .entry)))) was) ⌝ }
+{
+    let mut cursor = is;
+    loop {
+        let SpotStep::ASpot(x, after) = next_spot(rows, stream, pool, sizes, cursor) else {
+            return OptText::Absent;
+        };
+        let name = x.name;
+        let found = find_spot(rows, past, old, widths, was, bytes_of(pool, name));
+        let SpotStep::ASpot(_, _) = found else {
+            return OptText::Given(name);
+        };
+        cursor = after;
+    }
+}
+
+// The handles of a layout now and before.
+pub enum Pair {
+    NoPair,
+    Both(u32, u32),
+}
+
+// The layout of a name in both records; one that is new, or gone, is passed over.
+fn find_both(
+    stream: &[u8],
+    pool: &[u8],
+    types: &[u32],
+    past: &[u8],
+    old: &[u8],
+    shipped: &[u32],
+    name: TypeName,
+) -> Pair
+    requires { ⌜ TypesTable (now stream) (now pool) (now types) × TypesTable (now past) (now old) (now shipped) ⌝ }
+    ensures { λ r. ⌜ PairFound (now (stream .entry)) (now (pool .entry)) (now (past .entry)) (now (old .entry)) (nameOf (now (pool .entry)) name) r ⌝ }
+{
+    let was = find_named(past, old, shipped, pool, name);
+    let TypeFound::At(j) = was else {
+        return Pair::NoPair;
+    };
+    let other = shipped[j];
+    let is = find_named(stream, pool, types, pool, name);
+    let TypeFound::At(i) = is else {
+        return Pair::NoPair;
+    };
+    let handle = types[i];
+    Pair::Both(handle, other)
+}
+
+// A layout of a standalone family now and before.
+fn check_pair(
+    rows: &[u8],
+    stream: &[u8],
+    pool: &[u8],
+    sizes: &[u64],
+    past: &[u8],
+    old: &[u8],
+    widths: &[u64],
+    name: TypeName,
+    pair: Pair,
+) -> Verdict
+    requires { ⌜ pairTyped (now stream) (now past) pair × (SizesTable (rec (now stream) (now pool) (scalarsOf (now rows))) (now sizes) × Exact (rec (now stream) (now pool) (scalarsOf (now rows)))) × (SizesTable (rec (now past) (now old) (scalarsOf (now rows))) (now widths) × Exact (rec (now past) (now old) (scalarsOf (now rows)))) ⌝ }
+    ensures { λ r. ⌜ meaning (now (pool .entry)) (now (old .entry)) r ≡ checkPair (rec (now (stream .entry)) (now (pool .entry)) (scalarsOf (now (rows .entry)))) (rec (now (past .entry)) (now (old .entry)) (scalarsOf (now (rows .entry)))) (nameOf (now (pool .entry)) name) pair ⌝ }
+{
+    let Pair::Both(is, was) = pair else {
+        return Verdict::Passed;
+    };
+    if same_fields(rows, stream, pool, sizes, is, past, old, widths, was) {
+        return Verdict::Passed;
+    }
+    let from = first_spot(stream, is);
+    let before = first_spot(past, was);
+    let change = gained(rows, stream, pool, sizes, from, past, old, widths, before);
+    Verdict::ShippedFamilyChanged { name, change }
+}
+
+// The layouts of a family's variants from a cursor on.
+fn check_variants(
+    rows: &[u8],
+    stream: &[u8],
+    pool: &[u8],
+    types: &[u32],
+    sizes: &[u64],
+    past: &[u8],
+    old: &[u8],
+    shipped: &[u32],
+    widths: &[u64],
+    family: Text,
+    from: Cursor,
+) -> Verdict
+    requires { ⌜ Tables (rec (now stream) (now pool) (scalarsOf (now rows))) (now types) (now sizes) × Tables (rec (now past) (now old) (scalarsOf (now rows))) (now shipped) (now widths) ⌝ }
+    ensures { λ r. ⌜ meaning (now (pool .entry)) (now (old .entry)) r ≡ checkShippedAll (typesOf (rec (now (stream .entry)) (now (pool .entry)) (scalarsOf (now (rows .entry))))) (typesOf (rec (now (past .entry)) (now (old .entry)) (scalarsOf (now (rows .entry))))) (variantNames (textOf (now (pool .entry)) family) (variantsAt (now (stream .entry)) (now (pool .entry)) (from .at))) ⌝ }
+{
+    let mut cursor = from;
+    loop {
+        let VariantStep::AVariant(variant, after) = next_variant(stream, cursor) else {
+            return Verdict::Passed;
+        };
+        let own = variant.discriminant;
+        let name = TypeName {
+            front: family,
+            back: OptText::Given(own),
+        };
+        let pair = find_both(stream, pool, types, past, old, shipped, name);
+        let v = check_pair(rows, stream, pool, sizes, past, old, widths, name, pair);
+        if let Verdict::Passed = v {
+            cursor = after;
+        } else {
+            return v;
+        }
+    }
+}
+
+// The layouts of a family whose variants begin at a cursor: its own, then its variants'.
+fn check_layouts(
+    rows: &[u8],
+    stream: &[u8],
+    pool: &[u8],
+    types: &[u32],
+    sizes: &[u64],
+    past: &[u8],
+    old: &[u8],
+    shipped: &[u32],
+    widths: &[u64],
+    family: Text,
+    from: Cursor,
+) -> Verdict
+    requires { ⌜ Tables (rec (now stream) (now pool) (scalarsOf (now rows))) (now types) (now sizes) × Tables (rec (now past) (now old) (scalarsOf (now rows))) (now shipped) (now widths) ⌝ }
+    ensures { λ r. ⌜ meaning (now (pool .entry)) (now (old .entry)) r ≡ checkShippedAll (typesOf (rec (now (stream .entry)) (now (pool .entry)) (scalarsOf (now (rows .entry))))) (typesOf (rec (now (past .entry)) (now (old .entry)) (scalarsOf (now (rows .entry))))) (textOf (now (pool .entry)) family ∷ variantNames (textOf (now (pool .entry)) family) (variantsAt (now (stream .entry)) (now (pool .entry)) (from .at))) ⌝ }
+{
+    let name = TypeName {
+        front: family,
+        back: OptText::Absent,
+    };
+    let pair = find_both(stream, pool, types, past, old, shipped, name);
+    let v = check_pair(rows, stream, pool, sizes, past, old, widths, name, pair);
+    let Verdict::Passed = v else {
+        return v;
+    };
+    check_variants(
+        rows,
+        stream,
+        pool,
+        types,
+        sizes,
+        past,
+        old,
+        shipped,
+        widths,
+        family,
+        from,
+    )
+}
+
+// Whether a family stands alone as the first released one of its name did, if there is one.
+fn check_standing(pool: &[u8], past: &[u8], old: &[u8], name: Text, standalone: bool) -> Verdict
+    ensures { λ r. ⌜ meaning (now (pool .entry)) (now (old .entry)) r ≡ checkStanding (familiesAt (now (past .entry)) (now (old .entry)) 0) (textOf (now (pool .entry)) name) standalone ⌝ }
+{
+    let found = find_family(past, old, Cursor::new(), bytes_of(pool, name));
+    let FamilyStep::AFamily(was, _) = found else {
+        return Verdict::Passed;
+    };
+    if was.standalone == standalone {
+        return Verdict::Passed;
+    }
+    Verdict::StandingChanged {
+        name,
+        was: was.standalone,
+        is: standalone,
+    }
+}
+
+// One family, whose variants begin at a cursor.
+fn check_family(
+    rows: &[u8],
+    stream: &[u8],
+    pool: &[u8],
+    types: &[u32],
+    sizes: &[u64],
+    past: &[u8],
+    old: &[u8],
+    shipped: &[u32],
+    widths: &[u64],
+    m: Family,
+    from: Cursor,
+) -> Verdict
+    requires { ⌜ Tables (rec (now stream) (now pool) (scalarsOf (now rows))) (now types) (now sizes) × Tables (rec (now past) (now old) (scalarsOf (now rows))) (now shipped) (now widths) ⌝ }
+    ensures { λ r. ⌜ meaning (now (pool .entry)) (now (old .entry)) r ≡ checkFamily (familiesAt (now (past .entry)) (now (old .entry)) 0) (typesOf (rec (now (stream .entry)) (now (pool .entry)) (scalarsOf (now (rows .entry))))) (typesOf (rec (now (past .entry)) (now (old .entry)) (scalarsOf (now (rows .entry))))) (familyOf (now (pool .entry)) m (fieldsAt (now (stream .entry)) (now (pool .entry)) (from .at)) (variantsAt (now (stream .entry)) (now (pool .entry)) (from .at))) ⌝ }
+{
+    let name = m.name;
+    let verdict = check_standing(pool, past, old, name, m.standalone);
+    if let Verdict::Passed = verdict {
+        if m.standalone {
+            return check_layouts(
+                rows,
+                stream,
+                pool,
+                types,
+                sizes,
+                past,
+                old,
+                shipped,
+                widths,
+                name,
+                from,
+            );
+        }
+        return Verdict::Passed;
+    }
+    verdict
+}
+
+// The first family that changed how it stands, or layout of a standalone one that changed.
+pub(crate) fn check_standalone(
+    rows: &[u8],
+    stream: &[u8],
+    pool: &[u8],
+    types: &[u32],
+    sizes: &[u64],
+    past: &[u8],
+    old: &[u8],
+    shipped: &[u32],
+    widths: &[u64],
+) -> Verdict
+    requires { ⌜ Tables (rec (now stream) (now pool) (scalarsOf (now rows))) (now types) (now sizes) × Tables (rec (now past) (now old) (scalarsOf (now rows))) (now shipped) (now widths) ⌝ }
+    ensures { λ r. ⌜ meaning (now (pool .entry)) (now (old .entry)) r ≡ checkStandalone (familiesAt (now (stream .entry)) (now (pool .entry)) 0) (familiesAt (now (past .entry)) (now (old .entry)) 0) (typesOf (rec (now (stream .entry)) (now (pool .entry)) (scalarsOf (now (rows .entry))))) (typesOf (rec (now (past .entry)) (now (old .entry)) (scalarsOf (now (rows .entry))))) ⌝ }
+{
+    let mut cursor = Cursor::new();
+    loop {
+        let FamilyStep::AFamily(m, after) = next_family(stream, cursor) else {
+            return Verdict::Passed;
+        };
+        let verdict = check_family(
+            rows,
+            stream,
+            pool,
+            types,
+            sizes,
+            past,
+            old,
+            shipped,
+            widths,
+            m,
+            after,
+        );
+        if let Verdict::Passed = verdict {
+            cursor = after;
+        } else {
+            return verdict;
+        }
+    }
+}

@@ -1,0 +1,13 @@
+pub mod Words
+pub mod Passes
+pub mod Values
+pub mod Described
+pub mod KeptFields
+pub mod Same
+pub mod Unmoved
+pub mod Chains
+pub mod Bytes
+pub mod Edges
+pub mod ByteEdges
+pub mod Premises
+pub mod Example

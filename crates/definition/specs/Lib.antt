@@ -1,0 +1,17 @@
+pub mod Verdicts
+pub mod Pass
+pub mod Unreleased
+pub mod ReleaseOrder
+pub mod FirstReleases
+pub mod Constants
+pub mod Enums
+pub mod Bitfields
+pub mod BitfieldReleases
+pub mod Fields
+pub mod Standalone
+pub mod Coverage
+pub mod Generations
+pub mod Compare
+pub mod Answer
+pub mod Chain
+pub mod Offers

@@ -1,0 +1,54 @@
+// The exported calls, for programs in C and Rust: include/menqachu.h declares them. They are the calls of compare and layout, and have their contracts.
+use compare::check::check;
+use layout::answer::Answer;
+use layout::list::list_layouts;
+use layout::owner::OwnerFields;
+use layout::owner::ask_owner;
+use record::refusal::Side;
+ghost use mathlib.Core.Path.{_≡_};
+ghost use mathlib.Core.Bool.{cond};
+ghost use lib.ListN.{length};
+ghost use Rattle.record.specs.Scalars.{builtIn};
+ghost use Rattle.record.specs.Reading.{rec};
+ghost use Rattle.record.specs.declared.refusal.Side.the-variants.{Current, Released};
+ghost use Rattle.layout.specs.Answer.{list, Answered};
+ghost use Rattle.layout.specs.OwnerCall.{ownerFields, ownerAsked};
+ghost use Rattle.definition.specs.Answer.{check};
+
+// A current record against a released one.
+#[no_mangle]
+pub extern "C" fn menqachu_check(
+    stream: &[u8],
+    pool: &[u8],
+    past: &[u8],
+    old: &[u8],
+    out: &mut [u8],
+) -> Answer
+    ensures { λ r. ⌜ Answered (now (out .entry)) (now (out .exit)) (check (length (now (out .entry))) (rec (now (stream .entry)) (now (pool .entry)) builtIn) (rec (now (past .entry)) (now (old .entry)) builtIn)) r ⌝ }
+{
+    check(stream, pool, past, old, out)
+}
+
+// The layouts of a record, read as released or as current.
+#[no_mangle]
+pub extern "C" fn menqachu_list(
+    released: bool,
+    stream: &[u8],
+    pool: &[u8],
+    out: &mut [u8],
+) -> Answer
+    ensures { λ r. ⌜ Answered (now (out .entry)) (now (out .exit)) (list (length (now (out .entry))) (cond released Released Current) (rec (now (stream .entry)) (now (pool .entry)) builtIn)) r ⌝ }
+{
+    if released {
+        return list_layouts(Side::Released, stream, pool, out);
+    }
+    list_layouts(Side::Current, stream, pool, out)
+}
+
+// The owner of a name in a current record.
+#[no_mangle]
+pub extern "C" fn menqachu_owner(stream: &[u8], pool: &[u8], name: &[u8]) -> OwnerFields
+    ensures { λ r. ⌜ r ≡ ownerFields (ownerAsked (rec (now (stream .entry)) (now (pool .entry)) builtIn) (now (name .entry))) ⌝ }
+{
+    ask_owner(stream, pool, name).fields()
+}

@@ -1,0 +1,5 @@
+pub mod ArgumentLaws
+pub mod TemplateLaws
+pub mod VerdictLaws
+pub mod Each
+pub mod PassLaws

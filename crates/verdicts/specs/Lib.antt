@@ -1,0 +1,3 @@
+pub mod Arguments
+pub mod Template
+pub mod Meaning
