@@ -119,6 +119,12 @@ def scan(release, generation=3, last='gap', entry=None):
     return r.end()
 
 
+def unchanged(release):
+    r = Record()
+    r.text('abc')
+    return r.head(release).struct('abc', 'metadata', 'G').struct('abd').constant('G', 1).end()
+
+
 MOVED = "35 tile.n was at offset 0 in the last release and is at 1 now - a shipped field's bytes stay where they are\n"
 UNRAISED = ("43 scan is still generation 3, and tile's layout has changed since the last release - raise GENERATION to 4, and add a [[versions]] "
             'entry saying which release that generation ships in\n')
@@ -133,6 +139,8 @@ def release_check():
     yield 'field_moved', scan('1.1.0', 4, 'moved', 4).parts() + was.parts(), MOVED
     yield 'generation_unraised', scan('1.1.0', 3, 'mode').parts() + was.parts(), UNRAISED
     yield 'release_repeated', was.parts() + was.parts(), REPEATED
+    # the root's name is three bytes at the front of the pool, and the first structure stands at 5: an entry left over in a table would read as the root
+    yield 'two_unchanged', unchanged('1.1.0').parts() + unchanged('1.0.0').parts(), '0\n'
     yield 'bytes_after', scan('1.1.0').parts() + was.parts() + b'more', '0\n'
     yield 'no_input', b'', '1 0 0\n'
     yield 'no_release', was.parts(), '1 1 0\n'

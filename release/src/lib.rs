@@ -1,4 +1,9 @@
-//! The proved calls as safe functions over byte slices.
+//! The proved calls as safe functions over byte slices, with what the command `release` knows of records.
+
+#[forbid(unsafe_code)]
+pub mod record;
+#[forbid(unsafe_code)]
+pub mod text;
 
 /// A record: its command stream and its text pool.
 #[derive(Clone, Copy, Debug)]
@@ -114,14 +119,7 @@ pub fn owner(record: Record, name: &[u8]) -> Owner {
     let (stream, pool) = (record.stream, record.pool);
     // SAFETY: each pointer comes with the length of its slice, and nothing is written to.
     let answer = unsafe {
-        menqachu_owner(
-            stream.as_ptr(),
-            stream.len(),
-            pool.as_ptr(),
-            pool.len(),
-            name.as_ptr(),
-            name.len(),
-        )
+        menqachu_owner(stream.as_ptr(), stream.len(), pool.as_ptr(), pool.len(), name.as_ptr(), name.len())
     };
     if answer.number != 0 {
         return Owner::Refused { number: answer.number, place: answer.place };

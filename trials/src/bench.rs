@@ -5,12 +5,12 @@ use std::hint::black_box;
 use std::time::{Duration, Instant};
 
 use menqachu::Record;
+use oracle::Side;
 use oracle::generate::encode::Encoded;
 use oracle::json;
-use oracle::layout::{compare, Layout};
+use oracle::layout::{Layout, compare};
 use oracle::reader::read;
 use oracle::rng::Rng;
-use oracle::Side;
 
 /// The least of several runs, each of some turns.
 fn least(turns: u32, mut f: impl FnMut()) -> Duration {
@@ -45,10 +45,22 @@ fn tiny_variants(count: usize, release: &[u8], generation: u8) -> Encoded {
     let mut pool = WORDS.to_vec();
     pool.extend((WORDS.len()..16_384).map(|_| b'a' + rng.below(26) as u8));
     let mut stream = [&[0x01], &word(release)[..], &[0]].concat();
-    let constant = [&[0x02], &word(b"GEN")[..], &[0, generation, 0, 0, 0, 0, 0, 0, 0], &ABSENT, &[0], &ABSENT].concat();
+    let constant =
+        [&[0x02], &word(b"GEN")[..], &[0, generation, 0, 0, 0, 0, 0, 0, 0], &ABSENT, &[0], &ABSENT].concat();
     let root = [&[0x08], &word(b"scan")[..], &word(b"metadata"), &word(b"GEN")].concat();
-    let field = [&[0x0b], &text(WORDS.len(), 3)[..], &word(b"tagged_fam_ptr"), &word(b"fam"), &ABSENT, &[0; 20]].concat();
-    let family = [&[0x09], &word(b"fam")[..], &text(WORDS.len(), 3), &text(WORDS.len(), 4), &text(WORDS.len(), 5), &ABSENT, &[0]].concat();
+    let field =
+        [&[0x0b], &text(WORDS.len(), 3)[..], &word(b"tagged_fam_ptr"), &word(b"fam"), &ABSENT, &[0; 20]]
+            .concat();
+    let family = [
+        &[0x09],
+        &word(b"fam")[..],
+        &text(WORDS.len(), 3),
+        &text(WORDS.len(), 4),
+        &text(WORDS.len(), 5),
+        &ABSENT,
+        &[0],
+    ]
+    .concat();
     stream.extend([constant, root, field, family].concat());
     for i in 0..count {
         stream.push(0x0a);
@@ -64,7 +76,8 @@ fn list(name: &str, encoded: &Encoded) {
     let mut out = vec![0; 65_536];
     let answer = menqachu::list(record, menqachu::Side::Current, &mut out);
     assert!(answer.number == 0 || answer.number == 10, "the record can be read");
-    let content = read(Side::Current, &encoded.stream, &encoded.pool).expect("the record can be read").content;
+    let content =
+        read(Side::Current, &encoded.stream, &encoded.pool).expect("the record can be read").content;
     let schema = json::schema(&content);
     let ours = least(10, || {
         black_box(menqachu::list(black_box(record), menqachu::Side::Current, &mut out));
@@ -73,7 +86,11 @@ fn list(name: &str, encoded: &Encoded) {
         black_box(Layout::of_schema(black_box(&schema)));
     });
     let ratio = ours.as_secs_f64() / theirs.as_secs_f64();
-    println!("list, {name}: ours {:.3} ms, the Rust's flattening {:.3} ms, ratio {ratio:.2}", millis(ours), millis(theirs));
+    println!(
+        "list, {name}: ours {:.3} ms, the Rust's flattening {:.3} ms, ratio {ratio:.2}",
+        millis(ours),
+        millis(theirs)
+    );
 }
 
 /// The check, and the Rust's comparison; what the check took.
@@ -92,7 +109,11 @@ fn check(name: &str, current: &Encoded, released: &Encoded) -> Duration {
         black_box(compare(black_box(&schema), black_box(&copy))).expect("the pair is accepted");
     });
     let ratio = ours.as_secs_f64() / theirs.as_secs_f64();
-    println!("check, {name}: ours {:.3} ms, the Rust's compare {:.3} ms, ratio {ratio:.2}", millis(ours), millis(theirs));
+    println!(
+        "check, {name}: ours {:.3} ms, the Rust's compare {:.3} ms, ratio {ratio:.2}",
+        millis(ours),
+        millis(theirs)
+    );
     ours
 }
 
@@ -103,8 +124,16 @@ fn millis(d: Duration) -> f64 {
 /// How the check's time grows from 4,000 variants to 8,000, where all have shipped or a half is new.
 fn growth() {
     let was = |count| tiny_variants(count, b"0.9.0", 3);
-    let same = |count| check(&format!("{count} variants, all shipped"), &tiny_variants(count, b"0.10.0", 3), &was(count));
-    let grown = |count| check(&format!("{count} variants, half of them new"), &tiny_variants(count, b"0.10.0", 4), &was(count / 2));
+    let same = |count| {
+        check(&format!("{count} variants, all shipped"), &tiny_variants(count, b"0.10.0", 3), &was(count))
+    };
+    let grown = |count| {
+        check(
+            &format!("{count} variants, half of them new"),
+            &tiny_variants(count, b"0.10.0", 4),
+            &was(count / 2),
+        )
+    };
     for time in [&same as &dyn Fn(usize) -> Duration, &grown] {
         let (small, large) = (time(4_000), time(8_000));
         println!("twice the variants: {:.2} times the time", large.as_secs_f64() / small.as_secs_f64());

@@ -4,10 +4,10 @@ use std::collections::BTreeMap;
 use std::fmt;
 
 use menqachu::Record;
+use oracle::Side;
 use oracle::generate::{self, encode::Encoded};
 use oracle::model::Item;
 use oracle::rng::Rng;
-use oracle::Side;
 
 /// The byte in every place of a lent buffer, so that one that changes is seen.
 const MARK: u8 = 0xa5;

@@ -29,6 +29,7 @@ fn a07_the_later_of_the_released_ones_in_the_plugin_api_counts() {
     assert_eq!(number("a07 a later doublet outside the plugin API"), 0);
     assert_eq!(number("a07 a later doublet in the plugin API"), 18);
     assert_eq!(number("a07 the later of two enums"), 0);
+    assert_eq!(number("a07 a released enum outside the plugin API"), 0);
     assert_eq!(number("a07 the later of two keys"), 18);
     begins(
         "a07 an unstored key after a field's",
@@ -155,6 +156,10 @@ fn d34_enums() {
         "e::a is called b now",
     );
     assert_eq!(number("d34 a value that took another's number"), 23);
+    begins(
+        "d34 the first of two values with the old number",
+        "e::a is called b now",
+    );
     assert_eq!(number("d34 a value gone"), 25);
 }
 
@@ -165,6 +170,14 @@ fn d35_bit_fields() {
     assert_eq!(number("d35 an absent width is 1"), 0);
     assert_eq!(number("d35 moved and widened"), 29);
     assert_eq!(number("d35 width 0"), 30);
+    assert_eq!(number("d35 moved down"), 29);
+    assert_eq!(number("d35 the first current member of a name counts"), 29);
+    begins(
+        "d35 the first of two members with the old bits",
+        "b::x is called y now",
+    );
+    assert_eq!(number("d35 the first current doublet counts"), 0);
+    assert_eq!(number("d35 the second current doublet does not"), 28);
     assert_eq!(number("d35 a renamed member before its date"), 27);
 }
 
@@ -196,6 +209,8 @@ fn d37_a_field_may_not_become_padding() {
     assert_eq!(number("d37 a field that became longer padding"), 36);
     assert_eq!(number("d37 padding of the name before the field"), 36);
     assert_eq!(number("d37 padding gone"), 0);
+    assert_eq!(number("d37 padding renamed"), 40);
+    assert_eq!(number("d37 a strange kind became padding"), 40);
 }
 
 #[test]
@@ -249,6 +264,10 @@ fn d40_order_of_the_roots() {
         "B's layout has changed",
     );
     assert_eq!(number("d40 a released text constant is skipped"), 0);
+    begins(
+        "d40 variants of two families, one of them owned",
+        "g::v's layout has changed",
+    );
     assert_eq!(number("d40 no constant though nothing changed"), 41);
     assert_eq!(number("d40 an absent released constant is skipped"), 0);
 }

@@ -73,6 +73,11 @@ fn doublets() -> Vec<FixedPair> {
             enumeration("e", 1).ora().dated(OTHER),
         )
         .then(enumeration("e", 1).ora().dated(OLD)),
+        changed(
+            "a07 a released enum outside the plugin API",
+            enumeration("e", 1).ora().dated(NOW),
+            enumeration("e", 1).dated(OTHER),
+        ),
         changed("a07 the later of two keys", key("k", OLD), key("k", OLD)).then(key("k", OTHER)),
         changed(
             "a07 an unstored key after a field's",
@@ -315,6 +320,11 @@ fn enums() -> Vec<FixedPair> {
             e().value("a", 2).value("b", 2),
             e().value("a", 1).value("b", 2),
         ),
+        changed(
+            "d34 the first of two values with the old number",
+            e().value("b", 1).value("c", 1),
+            e().value("a", 1),
+        ),
         changed("d34 a value gone", e(), e().value("a", i64::MIN)),
     ]
 }
@@ -343,6 +353,33 @@ fn bit_fields() -> Vec<FixedPair> {
             b().member("x", 1, Some(2)),
             b().member("x", 0, None),
         ),
+        changed(
+            "d35 moved down",
+            b().member("x", 0, None),
+            b().member("x", 1, None),
+        ),
+        changed(
+            "d35 the first current member of a name counts",
+            b().member("x", 1, None).member("x", 0, None),
+            b().member("x", 0, None),
+        ),
+        changed(
+            "d35 the first of two members with the old bits",
+            b().member("y", 0, None).member("z", 0, None),
+            b().member("x", 0, None),
+        ),
+        changed(
+            "d35 the first current doublet counts",
+            b().member("x", 0, None),
+            b().member("x", 0, None),
+        )
+        .now(b()),
+        changed(
+            "d35 the second current doublet does not",
+            b(),
+            b().member("x", 0, None),
+        )
+        .now(b().member("x", 0, None)),
         changed(
             "d35 width 0",
             b().member("x", 0, Some(0)),

@@ -90,6 +90,16 @@ fn fields() -> Vec<FixedPair> {
                 .field(scalar("n", "u16")),
             s(scalar("n", "u16")),
         ),
+        changed(
+            "d37 padding renamed",
+            s(padding("hole", 4)),
+            s(padding("gap", 4)),
+        ),
+        changed(
+            "d37 a strange kind became padding",
+            s(field("n", "padding").of("u8")),
+            s(field("n", "padding u8")),
+        ),
         changed("d37 padding gone", structure("s"), s(padding("gap", 4)))
             .both(metadata("m").field(pointer("p", "s")))
             .now(integer("G", 4))
@@ -216,6 +226,15 @@ fn generations() -> Vec<FixedPair> {
             "d40 a released text constant is skipped",
             three([3, 3, 3], [3, 3, 1]).then_first(text("I", "3")),
         ),
+        changed(
+            "d40 variants of two families, one of them owned",
+            family("f").variant("v", &[]),
+            family("f"),
+        )
+        .now(family("g").variant("v", &[]))
+        .then(family("g"))
+        .both(metadata("m").field(field("p", "tagged_fam_ptr").of("f")))
+        .both(integer("G", 3)),
         shared(
             "d40 no constant though nothing changed",
             slotted("m", "metadata"),

@@ -1,0 +1,140 @@
+//! An answer of the check, or a record's refusal, as a line for people and as JSON.
+
+use menqachu::record::commands::by_byte;
+use menqachu::record::numbers::{reason, word};
+use menqachu::record::parts::STREAM_LIMIT;
+use menqachu::{Answer, Record, Side};
+
+use super::json::Json;
+use super::{DAMAGED, DONE, STOPPED};
+
+const LETTER: u32 = 7;
+const LONG: u32 = 8;
+
+pub struct Told {
+    number: u32,
+    /// The verdict's message, as the call wrote it.
+    message: Option<String>,
+    refusal: Option<Refusal>,
+}
+
+/// Where a record is refused.
+struct Refusal {
+    /// None for a record that is read on its own, to be shown.
+    side: Option<Side>,
+    place: usize,
+    in_pool: bool,
+    at_end: bool,
+    byte: Option<u8>,
+}
+
+impl Told {
+    /// The answer of a check of these records.
+    pub fn of_check(answer: &Answer, message: &[u8], current: Record, released: Record) -> Told {
+        if (1..=9).contains(&answer.number) {
+            let (side, record) =
+                if answer.side == 0 { (Side::Current, current) } else { (Side::Released, released) };
+            return Told::of_refusal(answer.number, Some(side), answer.place, record);
+        }
+        let message = (!message.is_empty()).then(|| String::from_utf8_lossy(message).into_owned());
+        Told { number: answer.number, message, refusal: None }
+    }
+
+    /// The refusal of a record that was read as this side.
+    pub fn of_refusal(number: u32, side: Option<Side>, place: usize, record: Record) -> Told {
+        let refusal = match number {
+            LETTER => {
+                let byte = record.pool.get(place).copied();
+                Refusal { side, place, in_pool: true, at_end: false, byte }
+            }
+            LONG => {
+                let in_pool = record.stream.len() <= STREAM_LIMIT;
+                Refusal { side, place, in_pool, at_end: false, byte: None }
+            }
+            _ => {
+                let byte = record.stream.get(place).copied();
+                Refusal { side, place, in_pool: false, at_end: byte.is_none(), byte }
+            }
+        };
+        Told { number, message: None, refusal: Some(refusal) }
+    }
+
+    pub fn accepted(&self) -> bool {
+        self.number == 0
+    }
+
+    pub fn status(&self) -> u8 {
+        match self.number {
+            0 => DONE,
+            1..=9 => DAMAGED,
+            _ => STOPPED,
+        }
+    }
+
+    pub fn line(&self) -> String {
+        if self.accepted() {
+            return "accepted".to_string();
+        }
+        let number = self.number;
+        let word = word(number).unwrap_or("(a number that this command does not know)");
+        match (&self.refusal, &self.message) {
+            (Some(refusal), _) => {
+                let reason = reason(number).unwrap_or_default();
+                format!("{number} {word}: {}: {reason}", refusal.line())
+            }
+            (None, Some(message)) => format!("{number} {word}: {message}"),
+            (None, None) => format!("{number} {word}"),
+        }
+    }
+
+    pub fn json(&self) -> Json {
+        let refusal = self.refusal.as_ref();
+        let text = |text: Option<&str>| Json::or_null(text.map(Json::text));
+        let byte = refusal.and_then(|refusal| refusal.byte);
+        Json::Object(vec![
+            ("accepted", Json::Bool(self.accepted())),
+            ("number", Json::Number(self.number.into())),
+            ("word", text(word(self.number))),
+            ("message", text(self.message.as_deref())),
+            ("side", text(refusal.and_then(|refusal| refusal.side).map(side_name))),
+            ("part", text(refusal.map(Refusal::part))),
+            ("place", Json::or_null(refusal.map(|refusal| Json::Number(refusal.place as u64)))),
+            ("byte", Json::or_null(byte.map(|byte| Json::text(format!("{byte:02X}"))))),
+            ("command", text(refusal.and_then(Refusal::command))),
+        ])
+    }
+}
+
+impl Refusal {
+    fn part(&self) -> &'static str {
+        if self.in_pool {
+            "pool"
+        } else {
+            "stream"
+        }
+    }
+
+    /// The name of the command at the place, if one is there.
+    fn command(&self) -> Option<&'static str> {
+        let byte = self.byte.filter(|_| !self.in_pool)?;
+        by_byte(byte).map(|command| command.name)
+    }
+
+    fn line(&self) -> String {
+        let at = match (self.byte, self.command()) {
+            (Some(byte), Some(name)) => format!(", command {byte:02X} {name}"),
+            (Some(byte), None) => format!(", byte {byte:02X}"),
+            (None, _) if self.at_end => ", the end of the stream".to_string(),
+            (None, _) => String::new(),
+        };
+        let side = self.side.map_or(String::new(), |side| format!("{} ", side_name(side)));
+        format!("{side}record, place {} of the {}{at}", self.place, self.part())
+    }
+}
+
+fn side_name(side: Side) -> &'static str {
+    match side {
+        Side::Current => "current",
+        Side::Released => "released",
+    }
+}

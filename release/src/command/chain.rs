@@ -1,0 +1,92 @@
+//! `release chain`: offered records in turn, each against the last accepted one.
+
+use menqachu::record::room::list_whole;
+use menqachu::Side;
+
+use super::answer::Told;
+use super::args::Args;
+use super::check::told;
+use super::files::Given;
+use super::json::Json;
+use super::output::{print, print_line};
+use super::{files, Done, Stop, DONE, STOPPED};
+
+pub fn run(args: &Args) -> Done {
+    let given = args.operands.iter().map(|file| files::record(file)).collect::<Result<Vec<_>, _>>()?;
+    let Some((first, offered)) = given.split_first() else {
+        return Err(Stop::failed("chain: expected a first record"));
+    };
+    // The first record is never checked itself, so the list call says whether it can be read as released.
+    let (answer, _) = list_whole(first.record(), Side::Released);
+    if answer.number != 0 {
+        let refusal = Told::of_refusal(answer.number, Some(Side::Released), answer.place, first.record());
+        return no_first(first, &refusal, args.json);
+    }
+    let links = links(first, offered);
+    if args.json {
+        print_line(&json(first, None, &links).to_string())?;
+    } else {
+        let lines: String = links.iter().map(|link| link.line() + "\n").collect();
+        print(lines.as_bytes())?;
+    }
+    Ok(if links.iter().all(|link| link.told.accepted()) { DONE } else { STOPPED })
+}
+
+/// An offered record, what it was checked against, and the answer.
+struct Link<'a> {
+    offered: &'a Given,
+    against: &'a Given,
+    told: Told,
+}
+
+fn links<'a>(first: &'a Given, offered: &'a [Given]) -> Vec<Link<'a>> {
+    let mut last = first;
+    let mut links = Vec::new();
+    for offered in offered {
+        let link = Link { offered, against: last, told: told(offered.record(), last.record()) };
+        if link.told.accepted() {
+            last = offered;
+        }
+        links.push(link);
+    }
+    links
+}
+
+impl Link<'_> {
+    fn line(&self) -> String {
+        let (offered, against) = (self.offered.shown(), self.against.shown());
+        if self.told.accepted() {
+            format!("{offered}: accepted after {against}")
+        } else {
+            format!("{offered}: dropped after {against}: {}", self.told.line())
+        }
+    }
+
+    fn json(&self) -> Json {
+        Json::Object(vec![
+            ("file", Json::text(self.offered.name())),
+            ("against", Json::text(self.against.name())),
+            ("answer", self.told.json()),
+        ])
+    }
+}
+
+fn json(first: &Given, refusal: Option<Json>, links: &[Link]) -> Json {
+    let accepted = links.iter().rfind(|link| link.told.accepted());
+    let last = accepted.map_or(first, |link| link.offered);
+    let last = refusal.is_none().then(|| Json::text(last.name()));
+    Json::Object(vec![
+        ("first", Json::text(first.name())),
+        ("refusal", Json::or_null(refusal)),
+        ("offered", Json::List(links.iter().map(Link::json).collect())),
+        ("last", Json::or_null(last)),
+    ])
+}
+
+fn no_first(first: &Given, refusal: &Told, as_json: bool) -> Done {
+    if as_json {
+        print_line(&json(first, Some(refusal.json()), &[]).to_string())?;
+    }
+    let line = refusal.line();
+    Err(Stop::damaged(format!("{}: no chain can begin with it: {line}", first.shown())))
+}

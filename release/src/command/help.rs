@@ -1,0 +1,152 @@
+//! The help texts. Each begins with its usage.
+
+/// The usage line of a help text.
+pub fn usage(help: &str) -> &str {
+    help.lines().next().unwrap_or_default()
+}
+
+pub const COMMANDS: &str = "\
+the commands are check, chain, list, owner, diff, assemble and show
+`release --help` says what each does";
+
+pub const WHOLE: &str = "\
+usage: release COMMAND ..
+
+Checks the record of a scan-record schema against the record of the last release.
+
+  release check CURRENT RELEASED [--json]    whether CURRENT may ship after RELEASED
+  release chain FIRST OFFERED.. [--json]     each offered record after the last accepted
+  release list RECORD [--released] [--json]  where every field lies
+  release owner RECORD NAME [--json]         which versioned structure a name belongs to
+  release diff CURRENT RELEASED [--json]     both layouts side by side
+  release assemble TEXT > RECORD             a record from its text form
+  release show RECORD                        the text form of a record
+  release COMMAND --help                     more about a command
+
+A record file holds the command stream and then the text pool, each as a length of
+four bytes (little-endian) and its bytes. - in place of a file is standard input;
+where it is given more than once, the records follow each other there. Words after
+-- are operands, also if they begin with a dash.
+
+Exit status:
+  0  accepted, or done
+  1  a verdict (check), or an offered record was dropped (chain)
+  2  a damaged record, or a text that cannot be assembled
+  3  a usage error, or a file that cannot be read or written
+";
+
+pub const CHECK: &str = "\
+usage: release check CURRENT RELEASED [--json]
+
+Checks the record about to ship against the record of the last release and prints
+one line: `accepted`; or the verdict's number, word and message; or, for a damaged
+record, the refusal's number, word, side and place, and the command at that place.
+
+  --json  an object with the keys accepted, number, word, message (of a verdict),
+          side, part, place, byte and command (of a refusal); what does not apply
+          is null
+
+Exit status: 0 accepted, 1 a verdict, 2 a damaged record, 3 a usage or file error.
+";
+
+pub const CHAIN: &str = "\
+usage: release chain FIRST OFFERED.. [--json]
+
+Checks each offered record against the last accepted one, where FIRST counts as
+accepted, and prints a line for each. A record that is not accepted is dropped, and
+the next one is checked against the same record again.
+
+  --json  an object with the keys first, refusal (of FIRST), offered (a list of
+          objects with file, against and answer, which has the keys of check) and
+          last, the file of the last accepted record
+
+Exit status: 0 all are accepted, 1 one is dropped, 2 FIRST cannot be read as a
+released record, 3 a usage or file error.
+";
+
+pub const LIST: &str = "\
+usage: release list RECORD [--released] [--json]
+
+Prints the layouts of a record, a line for each field:
+
+  type.field offset size description
+
+Types come in byte order of their names, fields in record order. A type without
+fields has no line.
+
+  --released  read the record as the last release's, in which some texts may be
+              absent, and not as the current one
+  --json      an object with the keys refusal and types, a list of objects with
+              name and fields, a list of objects with name, offset, size and
+              description; a type without fields has an empty list
+
+Exit status: 0 listed, 2 a damaged record, 3 a usage or file error.
+";
+
+pub const OWNER: &str = "\
+usage: release owner RECORD NAME [--json]
+
+Prints the name of the versioned structure that NAME belongs to, which is the first
+of the structures in the slots metadata, runtime and info whose references lead to
+it; or `none`. The record is read as a current one.
+
+  --json  an object with the keys refusal and owner, which is null for none
+
+Exit status: 0 answered, 2 a damaged record, 3 a usage or file error.
+";
+
+pub const DIFF: &str = "\
+usage: release diff CURRENT RELEASED [--json]
+
+Prints the layouts of both records side by side, type by type. A type is same, new,
+gone or changed. A field has its offset, size and description on each side and is
+marked new, gone, moved, resized or redescribed. Padding is marked too, although the
+check lets it change under a raised generation. A released field stands beside the
+first current field of its name, which is the one that the check compares it with.
+
+  --json  an object with the keys refusal and types, a list of objects with name,
+          state and fields, a list of objects with name, marks, released and
+          current; each of the last two is null or has offset, size and description
+
+Exit status: 0 shown, 2 a damaged record, 3 a usage or file error.
+";
+
+pub const ASSEMBLE: &str = "\
+usage: release assemble TEXT > RECORD
+
+Writes the record that a text describes to standard output. The text has a command
+in each line, the required operands first, then the others by keyword:
+
+  head [RELEASE] [unreleased]
+  constant NAME NUMBER [api] [since=RELEASE]
+  constant NAME text=TEXT [api] [since=RELEASE]
+  alias NAME UNDERLYING
+  enum NAME SIZE [api] [since=RELEASE]
+      value NAME NUMBER [since=RELEASE]
+  bitfield NAME SIZE [since=RELEASE]
+      member NAME BIT [width=N] [since=RELEASE]
+  struct NAME [slot=SLOT] [version=CONSTANT]
+      field NAME KIND [type=T] [element=T] [count=N] [rows=N] [cols=N] [size=N]
+          key NAME [since=RELEASE]
+  family NAME FIELD TYPE LENGTH_FIELD [length_type=T] [standalone]
+      variant DISCRIMINANT
+  unstored_key NAME [since=RELEASE]
+  version STRUCT NUMBER
+  end
+
+A text with blanks, quotes, #, = or \\ in it, or without any byte, is written in
+quotes, with \\\" and \\\\ for a quote and a backslash. # begins a comment.
+docs/TEXT-FORM.md describes the form whole.
+
+Exit status: 0 written, 2 the text is wrong (the line and what was expected there
+are on standard error, and no record is written), 3 a usage or file error.
+";
+
+pub const SHOW: &str = "\
+usage: release show RECORD
+
+Prints the text form of a record, of which `release assemble` makes a record with
+the same answers. `release assemble --help` and docs/TEXT-FORM.md describe the form.
+
+Exit status: 0 shown, 2 a damaged record, 3 a usage or file error.
+";

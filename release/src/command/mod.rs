@@ -1,0 +1,107 @@
+//! The subcommands and how one is chosen.
+
+mod answer;
+mod args;
+mod assemble;
+mod chain;
+mod check;
+mod diff;
+mod files;
+mod help;
+mod json;
+mod list;
+mod output;
+mod owner;
+mod problem;
+mod rows;
+mod show;
+mod table;
+
+use std::ffi::OsString;
+
+use args::{Args, Asked, Rule};
+
+/// Accepted, or done.
+pub const DONE: u8 = 0;
+/// A verdict, or an offered record dropped.
+pub const STOPPED: u8 = 1;
+/// A record that is refused, or a text that is not a record's.
+pub const DAMAGED: u8 = 2;
+/// Wrong usage, or a file that cannot be read or written.
+pub const FAILED: u8 = 3;
+
+/// Why a command ends early: the exit status, and what standard error says.
+#[derive(Debug)]
+pub struct Stop {
+    pub status: u8,
+    pub message: String,
+}
+
+impl Stop {
+    pub fn failed(message: impl Into<String>) -> Stop {
+        Stop { status: FAILED, message: message.into() }
+    }
+
+    pub fn damaged(message: impl Into<String>) -> Stop {
+        Stop { status: DAMAGED, message: message.into() }
+    }
+}
+
+/// The exit status of a command, or why it ends early.
+pub type Done = Result<u8, Stop>;
+
+struct Entry {
+    rule: Rule,
+    run: fn(&Args) -> Done,
+}
+
+const JSON: &[&str] = &["--json"];
+const MANY: usize = usize::MAX;
+
+static ENTRIES: [Entry; 7] = [
+    Entry { rule: rule("check", help::CHECK, 2, 2, JSON), run: check::run },
+    Entry { rule: rule("chain", help::CHAIN, 2, MANY, JSON), run: chain::run },
+    Entry { rule: rule("list", help::LIST, 1, 1, &["--json", "--released"]), run: list::run },
+    Entry { rule: rule("owner", help::OWNER, 2, 2, JSON), run: owner::run },
+    Entry { rule: rule("diff", help::DIFF, 2, 2, JSON), run: diff::run },
+    Entry { rule: rule("assemble", help::ASSEMBLE, 1, 1, &[]), run: assemble::run },
+    Entry { rule: rule("show", help::SHOW, 1, 1, &[]), run: show::run },
+];
+
+const fn rule(
+    name: &'static str,
+    help: &'static str,
+    least: usize,
+    most: usize,
+    options: &'static [&'static str],
+) -> Rule {
+    Rule { name, help, least, most, options }
+}
+
+/// Runs the command that these words ask for, and gives the exit status.
+pub fn run(words: Vec<OsString>) -> u8 {
+    match chosen(&words) {
+        Ok(status) => status,
+        Err(stop) => {
+            output::complain(&stop.message);
+            stop.status
+        }
+    }
+}
+
+fn chosen(words: &[OsString]) -> Done {
+    let Some((first, rest)) = words.split_first() else {
+        return Err(Stop::failed(format!("expected a command\n{}", help::COMMANDS)));
+    };
+    if first == "--help" || first == "-h" {
+        return output::print(help::WHOLE.as_bytes()).map(|()| DONE);
+    }
+    let Some(entry) = ENTRIES.iter().find(|entry| first == entry.rule.name) else {
+        let given = files::shown(first);
+        return Err(Stop::failed(format!("expected a command, found {given}\n{}", help::COMMANDS)));
+    };
+    match args::parse(&entry.rule, rest)? {
+        Asked::Help => output::print(entry.rule.help.as_bytes()).map(|()| DONE),
+        Asked::Run(args) => (entry.run)(&args),
+    }
+}

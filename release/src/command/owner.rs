@@ -1,0 +1,30 @@
+//! `release owner`: the versioned structure that a name belongs to.
+
+use menqachu::{owner, Owner, Side};
+
+use super::answer::Told;
+use super::args::Args;
+use super::json::Json;
+use super::output::{print, print_line};
+use super::{files, problem, Done, DONE};
+
+pub fn run(args: &Args) -> Done {
+    let given = files::record(&args.operands[0])?;
+    let record = given.record();
+    let name = args.operands[1].as_encoded_bytes();
+    let owner = match owner(record, name) {
+        Owner::Refused { number, place } => {
+            let told = Told::of_refusal(number, Some(Side::Current), place, record);
+            return Err(problem::refused(&told, &given, args.json.then_some("owner")));
+        }
+        Owner::Named { start, len } => record.pool.get(start..start.saturating_add(len)),
+        Owner::Nobody => None,
+    };
+    if args.json {
+        let value = vec![("refusal", Json::Null), ("owner", Json::or_null(owner.map(Json::bytes)))];
+        print_line(&Json::Object(value).to_string())?;
+    } else {
+        print(&[owner.unwrap_or(b"none"), b"\n"].concat())?;
+    }
+    Ok(DONE)
+}

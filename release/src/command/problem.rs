@@ -1,0 +1,59 @@
+//! What ends a command that needs a record's layouts, owner or text, and cannot have them.
+
+use menqachu::record::Problem;
+use menqachu::Side;
+
+use super::answer::Told;
+use super::files::Given;
+use super::json::Json;
+use super::output::print_line;
+use super::Stop;
+
+/// Tells a problem: a refusal is written as JSON too, where that is asked for, under the key `refusal`.
+pub fn stop(problem: Problem, given: &Given, side: Option<Side>, json: Option<&'static str>) -> Stop {
+    let file = given.shown();
+    match problem {
+        Problem::Refused(answer) => {
+            let told = Told::of_refusal(answer.number, side, answer.place, given.record());
+            refused(&told, given, json)
+        }
+        Problem::Undecoded { place } => Stop::failed(format!(
+            "{file}: the record was read, and yet its command at place {place} is not understood; this is a fault \
+             of this program, and nothing is shown rather than guessed"
+        )),
+        Problem::Unfit { line } => Stop::failed(format!(
+            "{file}: line {line} of its list does not fit the names in the record; this is a fault of this \
+             program, and nothing is shown rather than guessed"
+        )),
+    }
+}
+
+/// Ends a command for a damaged record; `json` names the key that its answer would have had.
+pub fn refused(told: &Told, given: &Given, json: Option<&'static str>) -> Stop {
+    if let Some(key) = json {
+        let value = Json::Object(vec![("refusal", told.json()), (key, Json::Null)]);
+        if let Err(stop) = print_line(&value.to_string()) {
+            return stop;
+        }
+    }
+    Stop::damaged(format!("{}: {}", given.shown(), told.line()))
+}
+
+#[cfg(test)]
+mod tests {
+    use super::*;
+    use crate::command::{files, FAILED};
+
+    /// A list that does not fit is said to, with the line, and nothing is printed.
+    #[test]
+    fn what_does_not_fit() {
+        let given = files::record(std::ffi::OsStr::new("/dev/null")).expect("the device can be read");
+        let stop = |problem| stop(problem, &given, Some(Side::Current), None);
+        let unfit = stop(Problem::Unfit { line: 3 });
+        assert_eq!(unfit.status, FAILED);
+        assert!(unfit.message.starts_with("/dev/null: line 3 of its list does not fit the names"));
+        let undecoded = stop(Problem::Undecoded { place: 5 });
+        assert_eq!(undecoded.status, FAILED);
+        assert!(undecoded.message.contains("its command at place 5 is not understood"));
+    }
+}

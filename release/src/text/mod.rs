@@ -1,0 +1,11 @@
+//! The text form of records, which docs/TEXT-FORM.md describes: one command a line, with names in place of
+//! stretches of the pool.
+
+mod place;
+mod read;
+mod tokens;
+mod words;
+mod write;
+
+pub use read::{assemble, Fault};
+pub use write::show;
