@@ -100,7 +100,7 @@ impl Answer {
     }
 
     /// This answer, or 10 where its text has no room.
-    fn within(self, room: usize) -> Self {
+    pub fn within(self, room: usize) -> Self {
         match self.text.len() <= room {
             true => self,
             false => Answer {

@@ -11,7 +11,7 @@ use crate::schema::Schema;
 
 /// The one id of all plugin keys: `Schema::plugin_keys` sorts by it, and being
 /// the same everywhere it leaves them in record order.
-const KEY_ID: u32 = 1;
+pub(crate) const KEY_ID: u32 = 1;
 
 pub fn schema(content: &Content) -> Schema {
     let mut tables = tables(content);

@@ -19,6 +19,7 @@ pub mod rng;
 pub mod samples;
 pub mod shrink;
 pub mod stats;
+pub mod values;
 pub mod vectors;
 pub mod verdicts;
 pub mod visit;

@@ -23,21 +23,22 @@ pub fn run(seed: u64, pairs: usize) -> Stats {
     let mut rng = Rng::new(seed);
     let mut stats = Stats::default();
     for _ in 0..pairs {
-        stats.count(&generate::pair(&mut rng));
+        let pair = generate::pair(&mut rng);
+        stats.count(&pair, &pair.check(ROOM));
     }
     stats
 }
 
 impl Stats {
-    fn count(&mut self, pair: &Pair) {
-        let answer = pair.check(ROOM);
+    /// Count a pair with the answer to it.
+    pub fn count(&mut self, pair: &Pair, answer: &Answer) {
         self.pairs += 1;
         self.bytes += pair.current.stream.len() + pair.released.stream.len();
         *self
             .numbers
             .entry((answer.number, answer.side))
             .or_default() += 1;
-        for reached in &mut self.reached[..passes_reached(&answer, pair)] {
+        for reached in &mut self.reached[..passes_reached(answer, pair)] {
             *reached += 1;
         }
         if answer.number == 0 && really_changed(pair) {

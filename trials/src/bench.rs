@@ -1,147 +1,142 @@
-//! The time of the proved calls beside the Rust's, on the same records, in one run. Ours reads the record first; the Rust's is
-//! measured on values already built.
+//! The time of the proved calls beside the Rust's, on the same records, in one run. Ours read the records first; the Rust's
+//! are measured on values already built, and what building them takes is a column of its own.
 
-use std::hint::black_box;
-use std::time::{Duration, Instant};
+use std::fmt;
 
 use menqachu::Record;
-use oracle::Side;
 use oracle::generate::encode::Encoded;
-use oracle::json;
 use oracle::layout::{Layout, compare};
-use oracle::reader::read;
-use oracle::rng::Rng;
+use oracle::values;
 
-/// The least of several runs, each of some turns.
-fn least(turns: u32, mut f: impl FnMut()) -> Duration {
-    let run = |f: &mut dyn FnMut()| {
-        let start = Instant::now();
-        for _ in 0..turns {
-            f();
-        }
-        start.elapsed() / turns
-    };
-    (0..7).map(|_| run(&mut f)).min().expect("there are runs")
+use crate::clock::{least, timed};
+use crate::differ::record;
+use crate::inputs::{self, Input};
+use crate::table::grouped;
+
+/// A line of the table: nanoseconds a call.
+struct Row {
+    call: &'static str,
+    input: String,
+    bytes: usize,
+    ours: f64,
+    theirs: f64,
+    build: f64,
+    /// How many times the line before this one takes, where this one is the next of a series.
+    grown: Option<f64>,
 }
 
-/// What the pool begins with; letters follow, of which names are stretches.
-const WORDS: &[u8] = b"0.9.00.10.0metadatatagged_fam_ptrGENscanfam";
+const HEAD: &str = "\
+| call | input | stream, bytes | ours, ns | the Rust's, ns | ours / the Rust's | its values built, ns | ours / built and called | ours / the size before |
+|---|---|---|---|---|---|---|---|---|";
 
-fn text(start: usize, len: u8) -> [u8; 3] {
-    let [a, b] = (start as u16).to_le_bytes();
-    [a, b, len]
-}
-
-fn word(w: &[u8]) -> [u8; 3] {
-    let start = WORDS.windows(w.len()).position(|x| x == w).expect("a word of the pool");
-    text(start, w.len() as u8)
-}
-
-const ABSENT: [u8; 3] = [0xff, 0xff, 0];
-
-/// A family of so many variants without fields, their names stretches of five letters, under a root of this generation.
-fn tiny_variants(count: usize, release: &[u8], generation: u8) -> Encoded {
-    let mut rng = Rng::new(7);
-    let mut pool = WORDS.to_vec();
-    pool.extend((WORDS.len()..16_384).map(|_| b'a' + rng.below(26) as u8));
-    let mut stream = [&[0x01], &word(release)[..], &[0]].concat();
-    let constant =
-        [&[0x02], &word(b"GEN")[..], &[0, generation, 0, 0, 0, 0, 0, 0, 0], &ABSENT, &[0], &ABSENT].concat();
-    let root = [&[0x08], &word(b"scan")[..], &word(b"metadata"), &word(b"GEN")].concat();
-    let field =
-        [&[0x0b], &text(WORDS.len(), 3)[..], &word(b"tagged_fam_ptr"), &word(b"fam"), &ABSENT, &[0; 20]]
-            .concat();
-    let family = [
-        &[0x09],
-        &word(b"fam")[..],
-        &text(WORDS.len(), 3),
-        &text(WORDS.len(), 4),
-        &text(WORDS.len(), 5),
-        &ABSENT,
-        &[0],
-    ]
-    .concat();
-    stream.extend([constant, root, field, family].concat());
-    for i in 0..count {
-        stream.push(0x0a);
-        stream.extend(text(WORDS.len() + 2 * i, 5));
-    }
-    stream.extend([&[0x0e], &word(b"scan")[..], &[generation, 0, 0, 0], &[0x0f]].concat());
-    Encoded { stream, pool }
-}
-
-/// The list call, and the Rust's flattening.
-fn list(name: &str, encoded: &Encoded) {
-    let record = Record { stream: &encoded.stream, pool: &encoded.pool };
-    let mut out = vec![0; 65_536];
-    let answer = menqachu::list(record, menqachu::Side::Current, &mut out);
-    assert!(answer.number == 0 || answer.number == 10, "the record can be read");
-    let content =
-        read(Side::Current, &encoded.stream, &encoded.pool).expect("the record can be read").content;
-    let schema = json::schema(&content);
-    let ours = least(10, || {
-        black_box(menqachu::list(black_box(record), menqachu::Side::Current, &mut out));
-    });
-    let theirs = least(10, || {
-        black_box(Layout::of_schema(black_box(&schema)));
-    });
-    let ratio = ours.as_secs_f64() / theirs.as_secs_f64();
-    println!(
-        "list, {name}: ours {:.3} ms, the Rust's flattening {:.3} ms, ratio {ratio:.2}",
-        millis(ours),
-        millis(theirs)
-    );
-}
-
-/// The check, and the Rust's comparison; what the check took.
-fn check(name: &str, current: &Encoded, released: &Encoded) -> Duration {
-    let now = Record { stream: &current.stream, pool: &current.pool };
-    let was = Record { stream: &released.stream, pool: &released.pool };
-    let mut out = vec![0; 65_536];
-    assert_eq!(menqachu::check(now, was, &mut out).number, 0, "the pair is accepted");
-    let content = |side, e: &Encoded| read(side, &e.stream, &e.pool).expect("the record can be read").content;
-    let schema = json::schema(&content(Side::Current, current));
-    let copy = json::released(&content(Side::Released, released));
-    let ours = least(5, || {
-        black_box(menqachu::check(black_box(now), black_box(was), &mut out));
-    });
-    let theirs = least(5, || {
-        black_box(compare(black_box(&schema), black_box(&copy))).expect("the pair is accepted");
-    });
-    let ratio = ours.as_secs_f64() / theirs.as_secs_f64();
-    println!(
-        "check, {name}: ours {:.3} ms, the Rust's compare {:.3} ms, ratio {ratio:.2}",
-        millis(ours),
-        millis(theirs)
-    );
-    ours
-}
-
-fn millis(d: Duration) -> f64 {
-    d.as_secs_f64() * 1e3
-}
-
-/// How the check's time grows from 4,000 variants to 8,000, where all have shipped or a half is new.
-fn growth() {
-    let was = |count| tiny_variants(count, b"0.9.0", 3);
-    let same = |count| {
-        check(&format!("{count} variants, all shipped"), &tiny_variants(count, b"0.10.0", 3), &was(count))
-    };
-    let grown = |count| {
-        check(
-            &format!("{count} variants, half of them new"),
-            &tiny_variants(count, b"0.10.0", 4),
-            &was(count / 2),
+impl fmt::Display for Row {
+    fn fmt(&self, f: &mut fmt::Formatter) -> fmt::Result {
+        let (ratio, whole) = (self.ours / self.theirs, self.ours / (self.build + self.theirs));
+        let [bytes, ours, theirs, build] = [self.bytes as f64, self.ours, self.theirs, self.build]
+            .map(|number| grouped(number.round() as u64));
+        let grown = self.grown.map_or(String::new(), |times| format!("{times:.2}"));
+        let (call, input) = (self.call, &self.input);
+        write!(
+            f,
+            "| {call} | {input} | {bytes} | {ours} | {theirs} | {ratio:.2} | {build} | {whole:.2} | {grown} |"
         )
-    };
-    for time in [&same as &dyn Fn(usize) -> Duration, &grown] {
-        let (small, large) = (time(4_000), time(8_000));
-        println!("twice the variants: {:.2} times the time", large.as_secs_f64() / small.as_secs_f64());
     }
+}
+
+/// The room for text that the programs lend.
+fn room() -> Vec<u8> {
+    vec![0; oracle::answers::ROOM]
+}
+
+/// The check beside `compare`; `number` is what both must answer.
+fn check(input: &Input, number: u32) -> Row {
+    let pair = input.records();
+    let (now, was) = (record(&pair.current), record(&pair.released));
+    let mut out = room();
+    let answer = menqachu::check(now, was, &mut out);
+    assert_eq!((answer.number, pair.check(out.len()).number), (number, number), "{}", input.name);
+    let (schema, copy) = (values::schema(&input.current), values::released(&input.released));
+    let [ours, theirs, build] = least([
+        &mut || timed(|| menqachu::check(now, was, &mut out)),
+        &mut || timed(|| compare(&schema, &copy)),
+        &mut || timed(|| (values::schema(&input.current), values::released(&input.released))),
+    ]);
+    row("check", input, &pair.current, [ours, theirs, build])
+}
+
+/// The list call beside the Rust's flattening, which writes no lines.
+fn list(input: &Input) -> Row {
+    let pair = input.records();
+    let mut out = room();
+    let now: Record = record(&pair.current);
+    let schema = values::schema(&input.current);
+    let [ours, theirs, build] = least([
+        &mut || timed(|| menqachu::list(now, menqachu::Side::Current, &mut out)),
+        &mut || timed(|| Layout::of_schema(&schema)),
+        &mut || timed(|| values::schema(&input.current)),
+    ]);
+    row("list", input, &pair.current, [ours, theirs, build])
+}
+
+/// The owner call beside the Rust's map of all owners and a look into it.
+fn owner(input: &Input) -> Row {
+    let pair = input.records();
+    let now = record(&pair.current);
+    let asked = input.asked.as_str();
+    assert!(
+        matches!(menqachu::owner(now, asked.as_bytes()), menqachu::Owner::Named { .. }),
+        "{}",
+        input.name
+    );
+    let schema = values::schema(&input.current);
+    let [ours, theirs, build] = least([
+        &mut || timed(|| menqachu::owner(now, asked.as_bytes())),
+        &mut || timed(|| schema.ownership().get(asked).map(|root| root.len())),
+        &mut || timed(|| values::schema(&input.current)),
+    ]);
+    row("owner", input, &pair.current, [ours, theirs, build])
+}
+
+fn row(call: &'static str, input: &Input, current: &Encoded, [ours, theirs, build]: [f64; 3]) -> Row {
+    Row { call, input: input.name.clone(), bytes: current.stream.len(), ours, theirs, build, grown: None }
+}
+
+/// Lines of one input in growing sizes.
+fn series(sizes: &[usize], input: fn(usize) -> Input, measure: fn(&Input) -> Row) {
+    let mut before: Option<f64> = None;
+    for &kib in sizes {
+        let mut given = input(kib * 1_024);
+        given.name = format!("{}, {kib} KiB", given.name);
+        let mut row = measure(&given);
+        row.grown = before.map(|before| row.ours / before);
+        before = Some(row.ours);
+        println!("{row}");
+    }
+}
+
+fn accepted(input: &Input) -> Row {
+    check(input, 0)
 }
 
 pub fn run() {
-    list("8,000 tiny variants", &tiny_variants(8_000, b"0.10.0", 3));
-    list("4,000 tiny variants", &tiny_variants(4_000, b"0.10.0", 3));
-    growth();
+    println!("{HEAD}");
+    for measure in [accepted, list, owner] {
+        inputs::named().iter().for_each(|input| println!("{}", measure(input)));
+    }
+    for input in inputs::named() {
+        println!("{}", check(&input.clone().unraised(), 15));
+        println!("{}", check(&input.late(), 17));
+    }
+    for measure in [accepted, list, owner] {
+        series(&[1, 2, 4, 8, 16, 32], inputs::realistic, measure);
+    }
+    let sizes = [8, 16, 32];
+    let many = [inputs::shipped_variants, inputs::new_variants, inputs::fronted_variants, inputs::enums_last];
+    many.into_iter().for_each(|input| series(&sizes, input, accepted));
+    for input in [inputs::owned_chain, inputs::owned_fan] {
+        series(&sizes, input, accepted);
+        series(&sizes, input, owner);
+    }
+    println!("{}", check(&inputs::deepest(), 41));
+    println!("{}", owner(&inputs::deepest()));
 }

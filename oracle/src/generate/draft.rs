@@ -17,18 +17,35 @@ pub struct Draft {
 
 impl Draft {
     pub fn new(then: Option<&str>, now: &str) -> Self {
+        let released = Content {
+            release: then.map(str::to_string),
+            ..Content::default()
+        };
+        let current = Content {
+            release: Some(now.to_string()),
+            ..Content::default()
+        };
+        Draft::of(released, current, 0)
+    }
+
+    /// A draft of these contents, which hold no name numbered above `named`.
+    pub fn of(released: Content, current: Content, named: usize) -> Self {
         Draft {
-            released: Content {
-                release: then.map(str::to_string),
-                ..Content::default()
-            },
-            current: Content {
-                release: Some(now.to_string()),
-                ..Content::default()
-            },
-            named: 0,
+            released,
+            current,
+            named,
             raised: Vec::new(),
         }
+    }
+
+    /// A draft of the release after this record. Its names are new beside those
+    /// of this draft too.
+    pub fn following(&self, last: &Content, now: &str) -> Self {
+        let current = Content {
+            release: Some(now.to_string()),
+            ..last.clone()
+        };
+        Draft::of(last.clone(), current, self.named)
     }
 
     /// A name that no other of this draft equals.
@@ -81,15 +98,15 @@ impl Draft {
     }
 
     /// Raise the generation of the root that owns a name by one, with its
-    /// entry, unless that was done before.
+    /// entry, unless that was done before or it can't be raised.
     pub fn raise_for(&mut self, owned: &str, rng: &mut Rng) {
         let root = self.owner(owned).expect("the name is owned");
         if self.raised.contains(&root) {
             return;
         }
-        let generation = self.generation(&root);
-        *generation += 1;
-        let version = u32::try_from(*generation).expect("a generation has 32 bits");
+        let Some(version) = self.raise(&root) else {
+            return;
+        };
         self.add(
             Version {
                 struct_name: root.clone(),
@@ -100,14 +117,16 @@ impl Draft {
         self.raised.push(root);
     }
 
-    /// The current generation of a root whose constant is an integer.
-    fn generation(&mut self, root: &str) -> &mut i64 {
-        let constant = self.current.the_struct(root).constant.clone();
-        let constant = constant.expect("a root names its constant");
-        match &mut self.current.the_constant(&constant).value {
-            Value::Integer(generation) => generation,
-            other => panic!("a generation is {other:?}"),
-        }
+    /// Raise the constant of a root by one, if it stays a generation.
+    fn raise(&mut self, root: &str) -> Option<u32> {
+        let name = self.current.the_struct(root).constant.clone()?;
+        let constant = self.current.constants_mut().find(|c| c.name == name)?;
+        let Value::Integer(generation) = &mut constant.value else {
+            return None;
+        };
+        let version = u32::try_from(generation.checked_add(1)?).ok()?;
+        *generation = version.into();
+        Some(version)
     }
 
     /// Put a field at the end of a current structure.

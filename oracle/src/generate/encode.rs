@@ -32,7 +32,13 @@ pub fn encode_tight(content: &Content) -> Encoded {
     encoder.content(content);
     let mut texts = encoder.texts;
     texts.sort_by_key(|text| std::cmp::Reverse(text.len()));
-    let mut encoder = Encoder::new(packed(&texts), Packing::Shared);
+    encode_over(content, packed(&texts))
+}
+
+/// Encode over a pool that has texts already: those that it has are taken from
+/// it, the others are put at its end.
+pub fn encode_over(content: &Content, pool: Vec<u8>) -> Encoded {
+    let mut encoder = Encoder::new(pool, Packing::Shared);
     encoder.content(content);
     encoder.out
 }

@@ -8,6 +8,7 @@ pub mod faults;
 pub mod findings;
 pub mod heavy;
 pub mod make;
+pub mod offers;
 pub mod questions;
 pub mod steps;
 pub mod wild;

@@ -53,12 +53,28 @@ pub const UNNOTICED: [Step; 17] = [
 
 /// Take a drawn step if the pair stays accepted.
 pub fn take(draft: &mut Draft, rng: &mut Rng) {
+    let next = stepped(draft, rng);
+    adopt(draft, next);
+}
+
+/// Take a drawn step that leaves the copy as it is, if the pair stays accepted.
+pub fn take_in_current(draft: &mut Draft, rng: &mut Rng) {
+    let mut next = stepped(draft, rng);
+    next.released = draft.released.clone();
+    adopt(draft, next);
+}
+
+fn stepped(draft: &Draft, rng: &mut Rng) -> Draft {
     let step = match rng.chance(70) {
         true => *rng.pick(&CHANGES),
         false => *rng.pick(&UNNOTICED),
     };
     let mut next = draft.clone();
     step(&mut next, rng);
+    next
+}
+
+fn adopt(draft: &mut Draft, next: Draft) {
     if verdict(&next.current, &next.released).number == 0 {
         *draft = next;
     }

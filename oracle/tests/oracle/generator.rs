@@ -6,7 +6,8 @@ use oracle::answers::ROOM;
 use oracle::extent::extents;
 use oracle::generate::encode::{encode, encode_spread, encode_tight};
 use oracle::generate::findings::{self, lists, owners, records};
-use oracle::generate::{Aim, aimed, base, faults, faulty, pair, record, stepped, wild};
+use oracle::generate::offers::Offers;
+use oracle::generate::{Aim, Pair, aimed, base, faults, faulty, pair, record, stepped, wild};
 use oracle::json;
 use oracle::layout::Layout;
 use oracle::model::{Content, Item, Side};
@@ -231,4 +232,29 @@ fn fixed_cases_have_labels_of_their_own() {
         assert!(!labels.is_empty());
         assert_eq!(labels.iter().collect::<BTreeSet<_>>().len(), labels.len());
     }
+}
+
+#[test]
+fn offers_follow_each_other() {
+    let mut rng = Rng::new(9);
+    let (mut offered, mut accepted) = (0, 0);
+    for _ in 0..60 {
+        let (mut offers, mut last) = Offers::begin(&mut rng);
+        for _ in 0..8 {
+            let Ok(copy) = read(Side::Released, &last.stream, &last.pool) else {
+                break;
+            };
+            let current = offers.offer(&copy.content, &mut rng);
+            let pair = Pair {
+                current,
+                released: last.clone(),
+            };
+            offered += 1;
+            if pair.check(ROOM).number == 0 {
+                accepted += 1;
+                last = pair.current;
+            }
+        }
+    }
+    assert!(accepted * 2 > offered, "{accepted} of {offered}");
 }

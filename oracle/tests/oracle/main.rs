@@ -7,4 +7,5 @@ mod generator;
 mod lists;
 mod passes;
 mod reader;
+mod values;
 mod verdicts;
