@@ -4,7 +4,7 @@ and the answers of the printed files proofs/lists/*/Proof.antt. Run from the rep
 `rt dev record` prints the proof files that are not there yet, and a second run answers them.
 
 A row: the list, one element, the function, the model's type, the command and its number, the step's enum with its two cases,
-what may stand between (anything, nothing, aKey, aField), the lists that follow an element, whether it is looked up by name.
+what may stand between (Between of src/seek.rt), the lists that follow an element, whether it is looked up by name.
 A step along the fields also says where the field stands."""
 import os
 import sys
@@ -14,39 +14,37 @@ from answers import fill, loop
 
 ROWS = [
     # list, one, function, model, command, number, struct, step, none, some, between, children, by name, words
-    ('heads', 'head', 'next_head', 'Heading', 'Head', 1, 'Head', 'HeadStep', 'NoHead', 'AHead', 'anything', [], False, 'head'),
-    ('constants', 'constant', 'next_constant', 'Const', 'Constant', 2, 'Constant', 'ConstantStep', 'NoConstant', 'AConstant', 'anything', [], True, 'constant'),
-    ('aliases', 'alias', 'next_alias', 'Alias', 'TypeAlias', 3, 'TypeAlias', 'AliasStep', 'NoAlias', 'AnAlias', 'anything', [], True, 'alias'),
-    ('values', 'value', 'next_value', 'EnumValue', 'Value', 5, 'Value', 'ValueStep', 'NoValue', 'AValue', 'nothing', [], True, 'value'),
-    ('enums', 'enum', 'next_enum', 'Enum', 'Enum', 4, 'Enum', 'EnumStep', 'NoEnum', 'AnEnum', 'anything', ['valuesAt'], True, 'enum'),
-    ('members', 'member', 'next_member', 'Member', 'Member', 7, 'Member', 'MemberStep', 'NoMember', 'AMember', 'nothing', [], True, 'member'),
-    ('bitfields', 'bitfield', 'next_bitfield', 'BitField', 'Bitfield', 6, 'Bitfield', 'BitfieldStep', 'NoBitfield', 'ABitfield', 'anything', ['membersAt'], True, 'bit field'),
-    ('keys', 'key', 'next_key', 'Key', 'PluginKey', 12, 'PluginKey', 'KeyStep', 'NoKey', 'AKey', 'nothing', [], False, 'plugin key'),
-    ('fields', 'field', 'next_field', 'Field', 'Field', 11, 'Field', 'FieldStep', 'NoField', 'AField', 'aKey', ['fieldKeyAt'], False, 'field'),
-    ('structs', 'struct', 'next_struct', 'Struct', 'Struct', 8, 'Struct', 'StructStep', 'NoStruct', 'AStruct', 'anything', ['fieldsAt'], True, 'structure'),
-    ('variants', 'variant', 'next_variant', 'Variant', 'Variant', 10, 'Variant', 'VariantStep', 'NoVariant', 'AVariant', 'aField', ['fieldsAt'], False, 'variant'),
-    ('families', 'family', 'next_family', 'Family', 'Family', 9, 'Family', 'FamilyStep', 'NoFamily', 'AFamily', 'anything', ['fieldsAt', 'variantsAt'], True, 'family'),
-    ('unstored', 'unstored', 'next_unstored', 'Key', 'UnstoredKey', 13, 'PluginKey', 'UnstoredStep', 'NoUnstored', 'AnUnstored', 'anything', [], False, 'unstored plugin key'),
-    ('versions', 'version', 'next_version', 'Version', 'Version', 14, 'Version', 'VersionStep', 'NoVersion', 'AVersion', 'anything', [], False, 'version entry'),
+    ('heads', 'head', 'next_head', 'Heading', 'Head', 1, 'Head', 'HeadStep', 'NoHead', 'AHead', 'Anything', [], False, 'head'),
+    ('constants', 'constant', 'next_constant', 'Const', 'Constant', 2, 'Constant', 'ConstantStep', 'NoConstant', 'AConstant', 'Anything', [], True, 'constant'),
+    ('aliases', 'alias', 'next_alias', 'Alias', 'TypeAlias', 3, 'TypeAlias', 'AliasStep', 'NoAlias', 'AnAlias', 'Anything', [], True, 'alias'),
+    ('values', 'value', 'next_value', 'EnumValue', 'Value', 5, 'Value', 'ValueStep', 'NoValue', 'AValue', 'Nothing', [], True, 'value'),
+    ('enums', 'enum', 'next_enum', 'Enum', 'Enum', 4, 'Enum', 'EnumStep', 'NoEnum', 'AnEnum', 'Anything', ['valuesAt'], True, 'enum'),
+    ('members', 'member', 'next_member', 'Member', 'Member', 7, 'Member', 'MemberStep', 'NoMember', 'AMember', 'Nothing', [], True, 'member'),
+    ('bitfields', 'bitfield', 'next_bitfield', 'BitField', 'Bitfield', 6, 'Bitfield', 'BitfieldStep', 'NoBitfield', 'ABitfield', 'Anything', ['membersAt'], True, 'bit field'),
+    ('keys', 'key', 'next_key', 'Key', 'PluginKey', 12, 'PluginKey', 'KeyStep', 'NoKey', 'AKey', 'Nothing', [], False, 'plugin key'),
+    ('fields', 'field', 'next_field', 'Field', 'Field', 11, 'Field', 'FieldStep', 'NoField', 'AField', 'Keys', ['fieldKeyAt'], False, 'field'),
+    ('structs', 'struct', 'next_struct', 'Struct', 'Struct', 8, 'Struct', 'StructStep', 'NoStruct', 'AStruct', 'Anything', ['fieldsAt'], True, 'structure'),
+    ('variants', 'variant', 'next_variant', 'Variant', 'Variant', 10, 'Variant', 'VariantStep', 'NoVariant', 'AVariant', 'Fields', ['fieldsAt'], False, 'variant'),
+    ('families', 'family', 'next_family', 'Family', 'Family', 9, 'Family', 'FamilyStep', 'NoFamily', 'AFamily', 'Anything', ['fieldsAt', 'variantsAt'], True, 'family'),
+    ('unstored', 'unstored', 'next_unstored', 'Key', 'UnstoredKey', 13, 'PluginKey', 'UnstoredStep', 'NoUnstored', 'AnUnstored', 'Anything', [], False, 'unstored plugin key'),
+    ('versions', 'version', 'next_version', 'Version', 'Version', 14, 'Version', 'VersionStep', 'NoVersion', 'AVersion', 'Anything', [], False, 'version entry'),
 ]
-KEYS = 'n one fn model cmd b struct step none some over kids named words'.split()
+KEYS = 'n one fn model cmd b struct step none some between kids named words'.split()
 LISTS = [dict(zip(KEYS, row)) for row in ROWS]
-BETWEEN = {'anything': None, 'nothing': [], 'aKey': [('PluginKey', 12)], 'aField': [('Field', 11), ('PluginKey', 12)]}
 OF = {'unstored': 'keyOf'}
 AT = {'unstored': 'keyAt'}
+FROM = {'unstored': 'key_at'}
 R = 'crates/record/'
 for d in LISTS:
     d['C'] = d['n'].capitalize()
     d['of'] = OF.get(d['one'], d['one'] + 'Of')
     d['at'] = AT.get(d['one'], d['one'] + 'At')
+    d['from'] = FROM.get(d['one'], d['one'] + '_at')
     d['kid'] = ''.join(' (%s s p (k .at))' % k for k in d['kids'])
-    skips = BETWEEN[d['over']]
-    named = [d['b'] - 1] + [b - 1 for _, b in skips or []]
     # the place of a field
     d['standing'] = '  pub placed : fieldPlaced s at r\n' if d['n'] == 'fields' else ''
-    d['stands'] = '; placed = fields-placed a e o h' if d['n'] == 'fields' else ''
+    d['stands'] = '; placed = fields-placed' if d['n'] == 'fields' else ''
     d['nowhere'] = '; placed = tt' if d['n'] == 'fields' else ''
-    d['rest'] = ' ∷ '.join(str(i) for i in range(14) if i not in named) + ' ∷ []'
 
 FIELD_PLACE = '''-- a field stands 33 bytes before the cursor after it, among the commands from a place on
 pub record FieldPlace (s : Str) (at : ℕ) (e : D.Field.Field) (k : Cursor) : Type 0 where
@@ -65,59 +63,29 @@ fieldPlaced s at (AField e k) = FieldPlace s at e k
 def code():
     o = '''// The lists of a record, an element at a time: each function hands out the next element from a cursor on, with the cursor after it.
 // Written by tools/lists.py.
-use crate::command::Command;
 use crate::command::Cursor;
-use crate::command::Step;
+use crate::cut;
+use crate::seek::Between;
+use crate::seek::Sought;
+use crate::seek::seek;
 '''
-    o += ''.join('use crate::command::%s;\n' % s for s in sorted({d['struct'] for d in LISTS}))
+    o += ''.join('use crate::command::%s;\n' % s for s in sorted({d['struct'] for d in LISTS} | {d['from'] for d in LISTS}))
     o += 'use crate::text::bytes_of;\nuse crate::text::same;\nghost use mathlib.Core.Path.{_≡_};\n'
     o += 'ghost use Rattle.record.specs.Steps.{%s};\n' % ', '.join(
         ', '.join([d['C'] + 'From'] + ([d['n'] + 'At', d['one'] + 'In', d['one'] + 'Found'] if d['named'] else [])) for d in LISTS)
     for d in LISTS:
-        where = {'anything': 'of the record from a cursor on', 'nothing': 'of the list that goes on at a cursor',
-                 'aKey': 'of the list that goes on at a cursor; plugin keys between the fields are passed over',
-                 'aField': 'of the list that goes on at a cursor; fields and plugin keys between the variants are passed over'}[d['over']]
+        where = {'Anything': 'of the record from a cursor on', 'Nothing': 'of the list that goes on at a cursor',
+                 'Keys': 'of the list that goes on at a cursor; plugin keys between the fields are passed over',
+                 'Fields': 'of the list that goes on at a cursor; fields and plugin keys between the variants are passed over'}[d['between']]
         o += '\npub enum %(step)s {\n    %(none)s,\n    %(some)s(%(struct)s, Cursor),\n}\n' % d
         o += '\n// The next %s %s.\n' % (d['words'], where)
         o += 'pub fn %(fn)s(stream: &[u8], from: Cursor) -> %(step)s\n    ensures { λ r. ⌜ %(C)sFrom (now (stream .entry)) (from .at) r ⌝ }\n{\n' % d
-        skips = BETWEEN[d['over']]
-        if skips is None:
-            o += '''    let mut cursor = from;
-    loop {
-        let Step::Next(command, after) = cursor.next(stream) else {
-            return %(step)s::%(none)s;
-        };
-        if let Command::%(cmd)s(e) = command {
-            return %(step)s::%(some)s(e, after);
-        }
-        cursor = after;
-    }
-}
-''' % d
-        elif not skips:
-            o += '''    let Step::Next(command, after) = from.next(stream) else {
+        o += '''    let Sought::At(at, after) = seek(stream, from.at, %(b)d, Between::%(between)s) else {
         return %(step)s::%(none)s;
     };
-    let Command::%(cmd)s(e) = command else {
-        return %(step)s::%(none)s;
-    };
-    %(step)s::%(some)s(e, after)
+    %(step)s::%(some)s(%(from)s(cut::from(stream, at)), Cursor::place(after))
 }
 ''' % d
-        else:
-            o += '''    let mut cursor = from;
-    loop {
-        let Step::Next(command, after) = cursor.next(stream) else {
-            return %(step)s::%(none)s;
-        };
-        match command {
-            Command::%(cmd)s(e) => {
-                return %(step)s::%(some)s(e, after);
-            }
-''' % d
-            for v, _ in skips:
-                o += '            Command::%s(_) => {\n                cursor = after;\n            }\n' % v
-            o += '            _ => {\n                return %(step)s::%(none)s;\n            }\n        }\n    }\n}\n' % d
     for d in LISTS:
         if d['named']:
             o += '''
@@ -147,7 +115,8 @@ use Rattle.record.specs.declared.lists.%(step)s.the-variants.{%(none)s, 
 
 
 def specs():
-    o = '''-- The lists of a record from a place on, and what a step along each answers. Written by tools/lists.py. Assumes nothing.
+    o = '''-- The lists of a record (01, Record commands) from a place on, the first of a name in each, and what a step along each answers. Written by tools/lists.py.
+-- Assumes nothing.
 use mathlib.Core.Path.{_≡_}
 use mathlib.Core.List.{List, [], _∷_, List·Memᴰ}
 use mathlib.Core.Option.{Option, none, some}
@@ -199,114 +168,58 @@ unfoldable pub %(one)sIn : Str → List %(model)s → Option %(model)s
 
 def laws():
     o = '''-- The laws of each list, as the branches of its iterator and of its look-up need them. Written by tools/lists.py. Assumes nothing.
-use mathlib.Core.Path.{_≡_, refl, sym, ap, subst, _∙_}
+use mathlib.Core.Path.{_≡_, sym, ap, ap₂, subst, _∙_}
 use mathlib.Core.List.{List, [], _∷_}
 use mathlib.Core.Option.{Option, none, some}
 use mathlib.Core.Bool.{Bool, true, false}
 use Prim.Native.Nat.{ℕ, suc, _+_, _-_, _≤_, _<_}
 use native.Mathlib.Omega.{arith}
-use types.Run.{OneOf}
-use denote.Enum.Declared.{tagOf}
-use lib.ListN.{length, getD, drop}
-use Rattle.record.proofs.command.Command.{the-type}
+use lib.ListN.{length, drop}
 use Rattle.record.specs.Base.{Str, bytes, eqs, find, first}
 use Rattle.record.specs.Stretch.{textOf}
 use Rattle.record.specs.Schema.{%s}
-use Rattle.record.specs.Commands.{operands, wide, widths, widthWith, widthOf, commandOf, stepAt, commandsAt, %s}
-use Rattle.record.specs.Lists.{listed, anything, nothing, aKey, aField, %s}
+use Rattle.record.specs.Commands.{operands, wide, widths, widthWith, widthOf, place, commandsAt, %s}
+use Rattle.record.specs.Lists.{%s}
+use Rattle.record.specs.Seek.{SoughtFrom}
 use Rattle.record.specs.Steps.{fieldKeyAt, FieldPlace, fieldPlaced, %s}
 use Rattle.record.specs.declared.command as D
 use Rattle.record.specs.declared.command.Cursor.{Cursor}
-use Rattle.record.specs.declared.command.Command.{Command}
-use Rattle.record.specs.declared.command.Command.the-variants as C
-use Rattle.record.specs.declared.command.Step.{Step}
-use Rattle.record.specs.declared.command.Step.the-variants.{Next, Stop}
-use Rattle.record.proofs.Stream.{step-found, commands-here}
-use Rattle.record.proofs.ListLaws.{byteOf, other, byte-is, operands-are, listed-stop, listed-here, listed-over, listed-end, Onward, onward-later, find-none, find-hit, find-miss}
+use Rattle.record.specs.declared.seek.Between.the-variants.{Anything, Nothing, Keys, Fields}
+use Rattle.record.specs.declared.seek.Sought.{Sought}
+use Rattle.record.specs.declared.seek.Sought.the-variants.{Nowhere, At}
+use Rattle.record.proofs.SeekLaws.{sought-stands, sought-nearer, listed-none, listed-some}
+use Rattle.record.proofs.ListLaws.{find-none, find-hit, find-miss}
 ''' % (', '.join(sorted({d['model'] for d in LISTS})), ', '.join(sorted({d['at'] for d in LISTS})),
        ', '.join(sorted({d['of'] for d in LISTS} | {d['n'] for d in LISTS})),
        ', '.join(', '.join([d['n'] + 'At', d['n'] + 'Of', d['n'] + 'Left', d['C'] + 'From'] + ([d['one'] + 'Found', d['one'] + 'In'] if d['named'] else [])) for d in LISTS))
     o += ''.join(declared(d) for d in LISTS)
     for d in LISTS:
-        skips = BETWEEN[d['over']]
-        d = dict(d, j=d['b'] - 1, kidlist=''.join(' (%s s p (k .at))' % k for k in d['kids']),
-                 kidopen=''.join(' ' + ('keysAt' if k == 'fieldKeyAt' else k) for k in d['kids']))
+        d = dict(d, kidopen=''.join(' ' + ('keysAt' if k == 'fieldKeyAt' else k) for k in d['kids']),
+                 kidlist=''.join(' (%s s p j)' % k for k in d['kids']))
         o += '''
 -- %(n)s
-%(one)s-is : (x : List ℕ) (e : D.%(struct)s.%(struct)s) → commandOf %(b)d x ≡ C.%(cmd)s e → %(at)s x ≡ e
-unfolding commandOf
-%(one)s-is x e h = cc
-
-module _ (s : Str) (at : ℕ) (r : Step) (i : r ≡ stepAt s at) where
-  %(n)s-none : (p : Str) → r ≡ Stop → %(n)sAt s p at ≡ []
+module _ (s : Str) (at : ℕ) (r : Sought) (i : SoughtFrom s %(between)s %(b)d at r) where
+  pub %(n)s-none : r ≡ Nowhere → %(C)sFrom s at %(none)s
   unfolding %(n)sAt %(n)s
-  %(n)s-none p m = listed-stop s %(over)s %(b)d _ at (sym i ∙ m)
+  %(n)s-none m = record { list = λ p. listed-none s %(between)s %(b)d _ at r i m; left = omega arith%(nowhere)s }
 
-  module _ (c : Command) (k : Cursor) (m : r ≡ Next c k) where
-    %(n)s-here : (p : Str) (e : D.%(struct)s.%(struct)s) → c ≡ C.%(cmd)s e → %(n)sAt s p at ≡ %(of)s p e%(kidlist)s ∷ %(n)sAt s p (k .at)
+  module _ (a k : ℕ) (m : r ≡ At a k) (y : Str) (e : D.%(struct)s.%(struct)s) (c : Cursor) (d : y ≡ drop a s) (f : e ≡ %(at)s y) (g : c ≡ place k) where
+    %(n)s-here : (p : Str) → %(n)sAt s p at ≡ %(n)sOf s p (%(some)s e c)
     unfolding %(n)sAt %(n)s%(kidopen)s
-    %(n)s-here p e g =
-        listed-here s %(over)s %(b)d _ at c k (sym i ∙ m) (ap byteOf g)
-        ∙ ap (λ (y : D.%(struct)s.%(struct)s). %(of)s p y%(kidlist)s ∷ %(n)s s p (commandsAt s (k .at))) (%(one)s-is (drop at s) e (operands-are s at c k (sym i ∙ m) %(b)d (ap byteOf g) ∙ g))
+    %(n)s-here p =
+        listed-some s %(between)s %(b)d _ at r i a k m
+        ∙ ap₂ (λ (x : D.%(struct)s.%(struct)s) (j : ℕ). %(of)s p x%(kidlist)s ∷ %(n)sAt s p j) (sym (f ∙ ap %(at)s d)) (sym (ap (λ (x : Cursor). x .at) g))
 ''' % d
-        onward = skips is None or skips
-        if skips is None:
-            o += '''
-    pub %(n)s-skip : (a : ℕ) → Onward %(n)sAt s a at → OneOf (%(rest)s) (tagOf the-type c) → Onward %(n)sAt s a (k .at)
-    unfolding %(n)sAt %(n)s
-    %(n)s-skip a o h =
-        let g = step-found s at c k (sym i ∙ m) in
-        let near = o .on in
-        let on = g .on in
-        record { same = λ p. o .same p ∙ listed-over s %(over)s %(b)d _ at c k (sym i ∙ m) (other (%(rest)s) %(j)d c tt h) refl; on = omega arith; later = onward-later %(n)sAt s a at o c k (sym i ∙ m) }
-''' % d
-        for v, b in skips or []:
-            o += '''
-    pub %(n)s-skip-%(low)s : (a : ℕ) (x : D.%(v)s.%(v)s) → Onward %(n)sAt s a at → c ≡ C.%(v)s x → Onward %(n)sAt s a (k .at)
-    unfolding %(n)sAt %(n)s
-    %(n)s-skip-%(low)s a x o h =
-        let g = step-found s at c k (sym i ∙ m) in
-        let near = o .on in
-        let on = g .on in
-        record { same = λ p. o .same p ∙ listed-over s %(over)s %(b)d _ at c k (sym i ∙ m) (λ z. let y = ap byteOf h in omega arith) (ap (λ z. %(over)s (byteOf z)) h); on = omega arith; later = onward-later %(n)sAt s a at o c k (sym i ∙ m) }
-''' % dict(d, v=v, low={'Field': 'field', 'PluginKey': 'key'}[v])
-        inv = 'Onward %sAt s a at → ' % d['n'] if onward else ''
-        arg = 'a o ' if onward else ''
-        bind = '(a : ℕ) → ' if onward else ''
-        start = 'a' if onward else 'at'
-        pre = 'o .same p ∙ ' if onward else ''
-        near = 'let near = o .on in ' if onward else ''
-        if skips is not None:
-            o += '''
-    pub %(n)s-over : %(bind)s%(inv)sOneOf (%(rest)s) (tagOf the-type c) → %(C)sFrom s %(start)s %(none)s
-    unfolding %(n)sAt %(n)s
-    %(n)s-over %(arg)sh = record { list = λ p. %(pre)slisted-end s %(over)s %(b)d _ at c k (sym i ∙ m) (other (%(rest)s) %(j)d c tt h) (%(ends)s); left = omega arith%(nowhere)s }
-''' % dict(d, bind=bind, inv=inv, arg=arg, start=start, pre=pre, near=near,
-           ends='refl' if not skips else '%s-ends c h' % d['n'])
-        if d['n'] == 'fields':
-            o += FIELD_PLACED
+        o += FIELD_PLACED if d['n'] == 'fields' else ''
         o += '''
-    pub %(n)s-found : %(bind2)s(e : D.%(struct)s.%(struct)s) → %(inv)sc ≡ C.%(cmd)s e → %(C)sFrom s %(start)s (%(some)s e k)
-    %(n)s-found %(arg2)sh =
-        let g = step-found s at c k (sym i ∙ m) in
-        let on = g .on in
-        let within = g .within in
-        %(near)srecord { list = λ p. %(pre)s%(n)s-here p e h; left = omega arith%(stands)s }
+    pub %(n)s-found : %(C)sFrom s at (%(some)s e c)
+    %(n)s-found =
+        let h = sought-nearer s %(between)s %(b)d at r i a k m in
+        let q : c .at ≡ k = ap (λ (x : Cursor). x .at) g in
+        record { list = %(n)s-here; left = omega arith%(stands)s }
 
-  pub %(n)s-end : %(bind)s%(inv)sr ≡ Stop → %(C)sFrom s %(start)s %(none)s
-  %(n)s-end %(arg)sm = record { list = λ p. %(pre)s%(n)s-none p m; left = omega arith%(nowhere)s }
-''' % dict(d, bind=bind, bind2='(a : ℕ) ' if onward else '', inv=inv, arg=arg, arg2='a e o ' if onward else 'e ', start=start, pre=pre, near=near)
-        names = (['%s-skip' % d['n']] if skips is None else ['%s-skip-%s' % (d['n'], {'Field': 'field', 'PluginKey': 'key'}[v]) for v, _ in skips] + ['%s-over' % d['n']])
-        o += '\npub ruleset %s-laws = (%s)\n' % (d['n'], ', '.join(names + ['%s-found' % d['n'], '%s-end' % d['n']]))
-        if skips:
-            ends = ''
-            for v in 'Head Constant TypeAlias Enum Value Bitfield Member Struct Family Variant Field PluginKey UnstoredKey Version'.split():
-                num = 1 + 'Head Constant TypeAlias Enum Value Bitfield Member Struct Family Variant Field PluginKey UnstoredKey Version'.split().index(v)
-                ends += '%s-ends (C.%s x) h = %s\n' % (d['n'], v, 'absurd (not-one-of (%s) %d tt h)' % (d['rest'], num - 1) if num in [b for _, b in skips] else 'refl')
-            head = '\n-- %s\n' % d['n']
-            i = o.rindex(head) + len(head)
-            o = o[:i] + '%(n)s-ends : (c : Command) → OneOf (%(rest)s) (tagOf the-type c) → %(over)s (byteOf c) ≡ false\n' % d + ends + '\n' + o[i:]
-    o = o.replace('use Rattle.record.proofs.Stream.', 'use Rattle.record.proofs.Tags.{not-one-of}\nuse Rattle.record.proofs.Stream.', 1)
+pub ruleset %(n)s-laws = (%(n)s-none, %(n)s-found)
+''' % d
     for d in LISTS:
         o += '''
 module _ (s : Str) (at : ℕ) (r : %(step)s) (f : %(C)sFrom s at r) where
@@ -347,15 +260,14 @@ pub ruleset find-%(one)s-laws = (find-%(one)s-none, find-%(one)s-hit, find-%(one
 
 
 FIELD_PLACED = '''
-    fields-placed : (a : ℕ) (e : D.Field.Field) → Onward fieldsAt s a at → c ≡ C.Field e → FieldPlace s a e k
+    fields-placed : FieldPlace s at e c
     unfolding widthOf widthWith operands widths wide bytes
-    fields-placed a e o h =
-        let g = step-found s at c k (sym i ∙ m) in
-        let b : getD s at 0 ≡ 11 = byte-is s at c k (sym i ∙ m) ∙ ap byteOf h in
-        let w : k .at ≡ at + 33 = g .wide ∙ ap (λ (n : ℕ). at + widthOf n) b in
-        let q : k .at - 33 ≡ at = omega arith in
-        let x : e ≡ fieldAt (drop at s) = sym (field-is (drop at s) e (operands-are s at c k (sym i ∙ m) 11 (ap byteOf h) ∙ h)) in
-        record { past = omega arith; in-stream = rw q (o .later at (commands-here s at c k (sym i ∙ m))); number = rw q b; operands = rw q x }
+    fields-placed =
+        let h = sought-stands s Keys 11 at r i a k m in
+        let w : k ≡ a + 33 = h .after in
+        let q : c .at ≡ k = ap (λ (x : Cursor). x .at) g in
+        let z : c .at - 33 ≡ a = omega arith in
+        record { past = omega arith; in-stream = rw z (h .in-stream); number = rw z (h .number); operands = rw z (f ∙ ap fieldAt d) }
 '''
 
 
@@ -363,15 +275,7 @@ def answers():
     for d in LISTS:
         path = R + 'proofs/lists/%(fn)s/Proof.antt' % d
         if os.path.exists(path):
-            if BETWEEN[d['over']] == []:
-                fill(path, ['use Rattle.record.proofs.StepLaws.{%(n)s-laws}' % d], (r'returns\S*', 'search %(n)s-laws' % d))
-            else:
-                fill(path, ['use Prim.Native.Nat.{_-_}', 'use lib.ListN.{length}', 'use Rattle.record.specs.Steps.{%(n)sAt}' % d,
-                            'use Rattle.record.proofs.Stream.{nearer}', 'use Rattle.record.proofs.ListLaws.{Onward, onward-here}',
-                            'use Rattle.record.proofs.StepLaws.{%(n)s-laws}' % d],
-                     (r'returns\S*', 'search %(n)s-laws' % d), (r'loop-again\S*', 'search %(n)s-laws' % d),
-                     (r'loop-less\S*', 'search nearer'), (r'loop-holds', 'search onward-here'))
-                loop(path, 'Onward %(n)sAt stream (cursor₀ .at) (cursor .at)' % d, 'length stream - cursor .at')
+            fill(path, ['use Rattle.record.proofs.StepLaws.{%(n)s-laws}' % d], (r'returns\S*', 'search %(n)s-laws' % d))
         path = R + 'proofs/lists/find_%(one)s/Proof.antt' % d
         if os.path.exists(path):
             fill(path, ['use mathlib.Core.Path.{_≡_}', 'use Prim.Native.Nat.{_-_}', 'use lib.ListN.{length}',

@@ -155,7 +155,8 @@ C = 'crates/verdicts/'
 
 def definition():
     """specs/Verdicts.antt"""
-    o = '''-- The verdicts: 01's words and numbers, and the messages of layout.rs byte for byte. Written by tools/verdicts.py. Assumes nothing.
+    o = '''-- The verdicts: the words and numbers of 01, What a check returns, and the messages of layout.rs byte for byte. Written by tools/verdicts.py.
+-- Assumes nothing.
 use mathlib.Core.List.{List, [], _∷_, _++_}
 use mathlib.Core.Option.{Option, none, some}
 use mathlib.Core.Bool.{Bool, true, false}
@@ -340,7 +341,8 @@ def template(r):
 
 def meaning():
     """specs/Meaning.antt"""
-    o = '''-- What the code's verdicts mean, over the two pools, and their numbers. Written by tools/verdicts.py. Assumes nothing.
+    o = '''-- What the code's verdicts mean, over the two pools, in the words of Verdicts of definition, and their numbers. Written by tools/verdicts.py.
+-- Assumes nothing.
 use Prim.Native.Nat.{ℕ}
 use Rattle.record.specs.Base.{Str}
 %s

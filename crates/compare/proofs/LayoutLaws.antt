@@ -1,29 +1,35 @@
 -- The fields of types compared with one another, and looked up by name. p is the first pool and q the second. Assumes nothing.
-use Prim.Native.Nat.{ℕ, _+_, _≤_, _<_}
-use mathlib.Core.Path.{_≡_, refl, sym, ap, ap₂, _∙_}
-use mathlib.Core.List.{List, _++_}
+use Prim.Native.Nat.{ℕ, suc, _+_, _≤_, _<_}
+use mathlib.Core.Path.{_≡_, refl, sym, ap, ap₂, subst, _∙_}
+use mathlib.Core.List.{List, _∷_, _++_}
+use mathlib.Core.Option.{Option, some}
 use mathlib.Core.Bool.{Bool, true, false, _&&_, not, and-true, and-false, false≢true, Bool·beq}
 use native.Mathlib.Omega.{arith}
 use borrow.Author.Tests.{eq-eqb}
 use lib.ListN.{length, take, drop}
 use lib.Seq.{take-at}
-use Rattle.record.specs.Base.{Str, eqs}
+use Rattle.record.specs.Base.{Str, bytes, eqs, orElse, decimal}
 use Rattle.record.specs.Stretch.{textOf}
 use Rattle.record.specs.Scalars.{Scalar}
 use Rattle.record.specs.Shapes.{Place}
 use Rattle.record.specs.Fill.{fronted}
 use Rattle.record.specs.Write.{largest, Puts}
+use Rattle.record.specs.Lists.{optOf}
 use Rattle.record.specs.Describe.{describedAs}
 use Rattle.record.specs.Reading.{Rec, rec}
 use Rattle.record.specs.Read.{Exact}
+use Rattle.record.specs.declared.text.Text.{Text}
+use Rattle.record.specs.declared.operands.OptText.{OptText}
+use Rattle.record.specs.declared.operands.OptText.the-variants.{Absent, Given}
 use Rattle.record.specs.declared.describe.Description.{Description}
-use Rattle.record.proofs.Basics.{eqs-refl}
+use Rattle.record.specs.declared.describe.Description.the-variants.{Named, Array}
+use Rattle.record.proofs.Basics.{eqs→eq, eqs-refl}
 use Rattle.record.proofs.ListLaws.{find-none, find-hit, find-miss}
 use Rattle.record.proofs.WriterLaws.{puts-exact, puts-front}
 use Rattle.layout.specs.Handles.{layoutOf}
 use Rattle.layout.specs.Table.{Typed}
 use Rattle.layout.specs.FieldSizes.{SizesTable}
-use Rattle.layout.specs.Spots.{spotOf, placesFrom, Sound, SpotsFrom, TypeSpots}
+use Rattle.layout.specs.Spots.{spotOf, placesFrom, spotsLeft, Sound, stepLeft, SpotsFrom, TypeSpots, OthersPassed}
 use Rattle.layout.specs.declared.spots.Spot.{Spot}
 use Rattle.layout.specs.declared.spots.SpotCursor.{SpotCursor}
 use Rattle.layout.specs.declared.spots.SpotStep.{SpotStep}
@@ -46,6 +52,36 @@ read-back {out} {xs} {after} {r} p h l m =
 pub same-described : (p q : Str) (d e : Description) {a b a' b' : Str} {m n : ℕ} (t : Bool) → Puts a 0 (describedAs p d) a' m → m ≤ 0 + 559 → length a ≡ 559
     → Puts b 0 (describedAs q e) b' n → n ≤ 0 + 559 → length b ≡ 559 → t ≡ eqs (take m a') (take n b') → t ≡ eqs (describedAs p d) (describedAs q e)
 same-described p q d e t f g h i j k z = z ∙ ap₂ eqs (read-back f (omega arith) h (omega arith)) (read-back i (omega arith) k (omega arith))
+
+-- descriptions that are alike part by part
+module _ (p q : Str) where
+  same-word : (x y u v : Str) (b : Bool) → x ≡ u → y ≡ v → b ≡ eqs x y → b ≡ true → u ≡ v
+  same-word x y u v b f g h e = sym f ∙ eqs→eq x y (sym h ∙ e) ∙ g
+
+  module _ (a b : OptText) where
+    pub words-absent : a ≡ Absent → b ≡ Absent → optOf p a ≡ optOf q b
+    words-absent m n = rw (m, n)
+
+    pub words-given : (t u : Text) (x y : Str) (r : Bool) → a ≡ Given t → b ≡ Given u → x ≡ textOf p t → y ≡ textOf q u → r ≡ eqs x y → r ≡ true → optOf p a ≡ optOf q b
+    words-given t u x y r m n f g h e = rw (m, n) (ap some (same-word x y (textOf p t) (textOf q u) r f g h e))
+
+  module _ (d e : Description) where
+    pub named-alike : (k n l m : Text) (x y u v : Str) (b c : Bool) → d ≡ Named k n → e ≡ Named l m → x ≡ textOf p k → y ≡ textOf q l → b ≡ eqs x y → b ≡ true
+        → u ≡ textOf p n → v ≡ textOf q m → c ≡ eqs u v → c ≡ true → describedAs p d ≡ describedAs q e
+    named-alike k n l m x y u v b c i j f g h t f2 g2 h2 t2 =
+        rw (i, j) (ap₂ (λ (z w : Str). z ++ (32 ∷ w)) (same-word x y (textOf p k) (textOf q l) b f g h t) (same-word u v (textOf p n) (textOf q m) c f2 g2 h2 t2))
+
+    pub array-alike : (k l : Text) (a b : OptText) (n m : ℕ) (x y : Str) (r c : Bool) → d ≡ Array k a n → e ≡ Array l b m → n ≡ m → x ≡ textOf p k → y ≡ textOf q l → r ≡ eqs x y → r ≡ true
+        → (c ≡ true → optOf p a ≡ optOf q b) → c ≡ true → describedAs p d ≡ describedAs q e
+    array-alike k l a b n m x y r c i j o f g h t z t2 =
+        rw (i, j, o) (ap₂ (λ (v : Str) (w : Option Str). v ++ (32 ∷ orElse w (bytes "u8") ++ bytes " x " ++ decimal m)) (same-word x y (textOf p k) (textOf q l) r f g h t) (z t2))
+
+pub ruleset words-laws = (words-absent, words-given)
+
+pub ruleset alike-laws = (named-alike, array-alike)
+
+pub alike-same : (p q : Str) (d e : Description) (b : Bool) → (b ≡ true → describedAs p d ≡ describedAs q e) → b ≡ true → true ≡ eqs (describedAs p d) (describedAs q e)
+alike-same p q d e b f t = sym (eqs-refl (describedAs p d)) ∙ ap (eqs (describedAs p d)) (f t)
 
 -- one field ----------------------------------------------------------------------------------------------------------------
 
@@ -150,7 +186,14 @@ pub record PlaceOn (r : Rec) (z : List ℕ) (n : Str) (a c : SpotCursor) : Type 
 pub place-here : (r : Rec) (z : List ℕ) (n : Str) (c : SpotCursor) → Sound r z c → PlaceOn r z n c c
 place-here r z n c d = record { sound = d; same = refl }
 
-module _ (s p : Str) (w : List Scalar) (z : List ℕ) (n : Str) (a c : SpotCursor) (i : PlaceOn (rec s p w) z n a c) (o : SpotStep) (f : SpotsFrom (rec s p w) z c o) where
+module _ (s p : Str) (w : List Scalar) (z : List ℕ) (n : Str) (a l c : SpotCursor) (j : PlaceOn (rec s p w) z n a l) (v : OthersPassed s p z n l c) (o : SpotStep) (f : SpotsFrom (rec s p w) z c o) where
+  i : PlaceOn (rec s p w) z n a c
+  unfolding placeIn
+  i = record { sound = v .sound w (j .sound); same = j .same ∙ v .same w (j .sound) }
+
+  pub place-nearer : (x : Spot) (k : SpotCursor) → o ≡ ASpot x k → spotsLeft s k < spotsLeft s l
+  place-nearer x k m = let h : suc (spotsLeft s k) ≤ spotsLeft s c = subst (λ (y : SpotStep). stepLeft s y ≤ spotsLeft s c) m (f .left) in let g = v .left in omega arith
+
   pub place-none : o ≡ NoSpot → placeIn n (placesFrom (rec s p w) a) ≡ spotFound p NoSpot
   unfolding placeIn
   place-none m = i .same ∙ find-none (λ (g : Place). eqs (g .name) n) _ (spots-over-now s p w z c o f (i .sound) m)

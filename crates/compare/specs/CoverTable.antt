@@ -1,4 +1,4 @@
--- The table of what covers each type, as the code fills it and reads it. Assumes nothing.
+-- The table of what covers each type, as the code fills it and reads it: its way to Coverage of definition, check_generations of layout.rs. Assumes nothing.
 use mathlib.Core.Path.{_≡_}
 use mathlib.Core.List.{List, [], _∷_}
 use mathlib.Core.Option.{Option, none, some}

@@ -1,4 +1,4 @@
--- What the code reads off a record's head, whatever the pool. Assumes nothing.
+-- What the code reads off a record's head, whatever the pool: command 01 of 01, Record commands. Assumes nothing.
 use mathlib.Core.Path.{_≡_}
 use mathlib.Core.Bool.{Bool}
 use Rattle.record.specs.Base.{Str, first}

@@ -1,4 +1,4 @@
--- The layouts of a record, and what the code's look-up of a field answers. Assumes nothing.
+-- The layouts of a record, and what the code's look-up of a field answers, as check_fields of layout.rs finds it. Assumes nothing.
 use mathlib.Core.List.{List}
 use mathlib.Core.Option.{Option, none, some}
 use Rattle.record.specs.Base.{Str}

@@ -1,4 +1,4 @@
--- What the code's look-up of a layout in both records answers. Assumes nothing.
+-- What the code's look-up of a layout in both records answers, as check_standalone of layout.rs finds them. Assumes nothing.
 use mathlib.Core.Path.{_≡_}
 use mathlib.Core.List.{List}
 use Rattle.record.specs.Base.{Str}

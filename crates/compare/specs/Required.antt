@@ -1,4 +1,4 @@
--- What the code hands on for a text that a current record must have, whatever the pool. Assumes nothing.
+-- What the code hands on for a text that a current record must have ("!" of 01, Record commands), whatever the pool. Assumes nothing.
 use mathlib.Core.Path.{_≡_}
 use Rattle.record.specs.Base.{Str}
 use Rattle.record.specs.Stretch.{textOf}

@@ -1,4 +1,4 @@
--- What the code's answers on an item of the plugin API mean, over the released pool. Assumes nothing.
+-- What the code's answers on an item of the plugin API mean, over the released pool: Shipped of layout.rs. Assumes nothing.
 use mathlib.Core.Path.{_≡_}
 use mathlib.Core.Option.{Option, none, some}
 use Rattle.record.specs.Base.{Str}

@@ -1,4 +1,4 @@
--- What the code's functions answer, whatever the pools that they do not read. Assumes nothing.
+-- What helpers of the passes answer, whatever the pools that they do not read: the definitions of definition, over the code's own values. Assumes nothing.
 use mathlib.Core.Path.{_≡_}
 use mathlib.Core.Bool.{Bool, _&&_, _||_}
 use Prim.Native.Nat.{ℕ}

@@ -31,7 +31,7 @@ fn entry_at(table: &[u32], i: usize) -> u32
     if i < table.len() { table[i] } else { 0 }
 }
 
-// Whether a type has the fields that the released type of its name had.
+// Whether a type has the fields that the released type of its name had, which is thought to stand near an index of the released types.
 fn unchanged(
     rows: &[u8],
     stream: &[u8],
@@ -42,11 +42,12 @@ fn unchanged(
     old: &[u8],
     shipped: &[u32],
     widths: &[u64],
+    near: usize,
 ) -> bool
     requires { ⌜ Typed (now stream) handle × SizesTable (rec (now stream) (now pool) (scalarsOf (now rows))) (now sizes) × Exact (rec (now stream) (now pool) (scalarsOf (now rows))) × Tables (rec (now past) (now old) (scalarsOf (now rows))) (now shipped) (now widths) ⌝ }
     ensures { λ r. ⌜ r ≡ sameAs (typeIn (typeName (now (stream .entry)) (now (pool .entry)) handle) (types (schemaOf (rec (now (past .entry)) (now (old .entry)) (scalarsOf (now (rows .entry))))))) (layoutOf (rec (now (stream .entry)) (now (pool .entry)) (scalarsOf (now (rows .entry)))) handle) ⌝ }
 {
-    let TypeFound::At(i) = find_same(past, old, shipped, stream, pool, handle) else {
+    let TypeFound::At(i) = find_same(past, old, shipped, stream, pool, handle, near) else {
         return false;
     };
     same_fields(
@@ -83,7 +84,7 @@ pub(crate) fn fill_cover(
     let mut i = 0;
     while i < types.len() {
         let h = types[i];
-        if unchanged(rows, stream, pool, sizes, h, past, old, shipped, widths) {
+        if unchanged(rows, stream, pool, sizes, h, past, old, shipped, widths, i) {
             cover[i] = 0;
             i += 1;
         } else {

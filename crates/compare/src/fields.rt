@@ -147,7 +147,7 @@ fn check_layout(
     )
 }
 
-// One released type, by its handle.
+// One released type, by its handle; its name is thought to stand near an index of the current types.
 fn check_type(
     rows: &[u8],
     stream: &[u8],
@@ -158,11 +158,12 @@ fn check_type(
     old: &[u8],
     widths: &[u64],
     other: u32,
+    near: usize,
 ) -> Verdict
     requires { ⌜ Tables (rec (now stream) (now pool) (scalarsOf (now rows))) (now types) (now sizes) × (Typed (now past) other × SizesTable (rec (now past) (now old) (scalarsOf (now rows))) (now widths) × Exact (rec (now past) (now old) (scalarsOf (now rows)))) ⌝ }
     ensures { λ r. ⌜ meaning (now (pool .entry)) (now (old .entry)) r ≡ checkType (typesOf (rec (now (stream .entry)) (now (pool .entry)) (scalarsOf (now (rows .entry))))) (layoutOf (rec (now (past .entry)) (now (old .entry)) (scalarsOf (now (rows .entry)))) other) ⌝ }
 {
-    let found = find_same(stream, pool, types, past, old, other);
+    let found = find_same(stream, pool, types, past, old, other, near);
     let TypeFound::At(i) = found else {
         return Verdict::TypeGone {
             name: type_name(past, other),
@@ -199,6 +200,7 @@ pub(crate) fn check_fields(
             old,
             widths,
             shipped[i],
+            i,
         );
         if let Verdict::Passed = verdict {
             i += 1;

@@ -4,13 +4,17 @@ use layout::spots::SpotCursor;
 use layout::spots::SpotStep;
 use layout::spots::first_spot;
 use layout::spots::next_spot;
+use layout::spots::pass_others;
 use record::describe::Description;
 use record::describe::put_description;
+use record::operands::OptText;
 use record::text::bytes_of;
 use record::text::same;
 ghost use mathlib.Core.Path.{_≡_};
+ghost use mathlib.Core.Bool.{true};
 ghost use Rattle.record.specs.Base.{eqs};
 ghost use Rattle.record.specs.Scalars.{scalarsOf};
+ghost use Rattle.record.specs.Lists.{optOf};
 ghost use Rattle.record.specs.Describe.{describedAs};
 ghost use Rattle.record.specs.Reading.{rec};
 ghost use Rattle.record.specs.Read.{Exact};
@@ -21,8 +25,52 @@ ghost use Rattle.layout.specs.Spots.{spotOf, placesFrom, Sound};
 ghost use Rattle.definition.specs.Fields.{placeIn, eqPlace, eqPlaces};
 ghost use Rattle.compare.specs.Layouts.{spotFound};
 
+// Whether two texts that may be absent are alike, each in its pool.
+fn alike_words(pool: &[u8], a: OptText, old: &[u8], b: OptText) -> bool
+    ensures { λ r. ⌜ (r ≡ true → optOf (now (pool .entry)) a ≡ optOf (now (old .entry)) b) ⌝ }
+{
+    let OptText::Given(x) = a else {
+        let OptText::Given(_) = b else {
+            return true;
+        };
+        return false;
+    };
+    let OptText::Given(y) = b else {
+        return false;
+    };
+    same(bytes_of(pool, x), bytes_of(old, y))
+}
+
+// Whether two descriptions of the commonest forms are alike part by part, which is quickly seen.
+fn alike(pool: &[u8], d: Description, old: &[u8], e: Description) -> bool
+    ensures { λ r. ⌜ (r ≡ true → describedAs (now (pool .entry)) d ≡ describedAs (now (old .entry)) e) ⌝ }
+{
+    if let Description::Named(kind, name) = d {
+        let Description::Named(other, named) = e else {
+            return false;
+        };
+        if same(bytes_of(pool, kind), bytes_of(old, other)) {
+            return same(bytes_of(pool, name), bytes_of(old, named));
+        }
+        return false;
+    }
+    if let Description::Array(kind, element, n) = d {
+        let Description::Array(other, word, m) = e else {
+            return false;
+        };
+        if n != m {
+            return false;
+        }
+        if same(bytes_of(pool, kind), bytes_of(old, other)) {
+            return alike_words(pool, element, old, word);
+        }
+        return false;
+    }
+    false
+}
+
 // Whether two descriptions read the same, each in its pool: both are put into buffers, since parts that differ may read the same together.
-pub fn same_description(pool: &[u8], d: Description, old: &[u8], e: Description) -> bool
+fn same_text(pool: &[u8], d: Description, old: &[u8], e: Description) -> bool
     ensures { λ r. ⌜ r ≡ eqs (describedAs (now (pool .entry)) d) (describedAs (now (old .entry)) e) ⌝ }
 {
     let mut a = [0u8; 559];
@@ -30,6 +78,16 @@ pub fn same_description(pool: &[u8], d: Description, old: &[u8], e: Description)
     let m = put_description(&mut a, 0, pool, d);
     let n = put_description(&mut b, 0, old, e);
     same(&a[..m], &b[..n])
+}
+
+// The same, by the parts first.
+pub fn same_description(pool: &[u8], d: Description, old: &[u8], e: Description) -> bool
+    ensures { λ r. ⌜ r ≡ eqs (describedAs (now (pool .entry)) d) (describedAs (now (old .entry)) e) ⌝ }
+{
+    if alike(pool, d, old, e) {
+        return true;
+    }
+    same_text(pool, d, old, e)
 }
 
 // Whether two fields are the same, what is quickly seen first.
@@ -107,7 +165,8 @@ pub(crate) fn find_spot(
 {
     let mut cursor = from;
     loop {
-        let SpotStep::ASpot(x, after) = next_spot(rows, stream, pool, sizes, cursor) else {
+        let here = pass_others(stream, pool, sizes, cursor, name);
+        let SpotStep::ASpot(x, after) = next_spot(rows, stream, pool, sizes, here) else {
             return SpotStep::NoSpot;
         };
         let own = x.name;

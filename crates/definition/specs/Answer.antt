@@ -1,4 +1,4 @@
--- The check's answer on bytes. Assumes nothing.
+-- The check's answer on bytes: 01, What a check returns. Assumes nothing.
 use mathlib.Core.List.{[]}
 use Prim.Native.Nat.{ℕ}
 use Rattle.record.specs.Reading.{Rec, Reading, read, refuse, reading}
@@ -7,12 +7,12 @@ use Rattle.layout.specs.Answer.{Answer, refusalOf, textOr}
 use Rattle.definition.specs.Verdicts.{Verdict, pass, stop, wordNumber}
 use Rattle.definition.specs.Compare.{compare}
 
--- accepted: all zero, nothing written
+-- 01: accepted: all zero, nothing written. A verdict has side 0, place 0 and the Rust's error text
 unfoldable pub verdictOf : ℕ → Verdict → Answer
 verdictOf room pass = record { number = 0; side = 0; place = 0; len = 0; text = [] }
 verdictOf room (stop w m) = textOr room (wordNumber w) m
 
--- the current record whole, then the released one
+-- 01: the current record whole, then the released one
 unfoldable pub answered : ℕ → Reading → Reading → Answer
 answered room (refuse n p) rel = refusalOf Current n p
 answered room (read c) (refuse n p) = refusalOf Released n p

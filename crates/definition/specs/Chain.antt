@@ -1,4 +1,4 @@
--- What a record holds, the premises of demand 3, and what it says of two schemas. Assumes nothing.
+-- What a record holds, the premises of demand 3 (01, Premises of the chain), and what demand 3 says of two schemas. Assumes nothing.
 use mathlib.Core.Path.{_≡_}
 use mathlib.Core.List.{List, [], _∷_, map, List·Memᴰ}
 use mathlib.Core.Option.{Option, none, some}

@@ -1,4 +1,4 @@
--- The whole comparison: compare of layout.rs. Assumes nothing.
+-- The whole comparison: compare of layout.rs, in the order of passes in 01, What a check returns. Assumes nothing.
 use mathlib.Core.List.{List, [], _∷_}
 use mathlib.Core.Bool.{cond}
 use Rattle.record.specs.Schema.{Schema}

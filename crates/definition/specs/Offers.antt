@@ -1,4 +1,4 @@
--- Demand 3 on bytes: records offered to the check one after the other. Assumes nothing.
+-- Demand 3 on bytes: records offered to the check one after the other, by 01, Premises of the chain. Assumes nothing.
 use mathlib.Core.Path.{_≡_}
 use mathlib.Core.List.{List, [], _∷_, List·Memᴰ}
 use mathlib.Core.Bool.{cond}

@@ -1,4 +1,4 @@
--- How a pass is put together: the first violation is the verdict. Assumes nothing.
+-- How a pass is put together. 01, What a check returns: the first violation is the verdict. Assumes nothing.
 use mathlib.Core.List.{List, [], _∷_}
 use mathlib.Core.Option.{Option, none, some}
 use mathlib.Core.Bool.{Bool, true, false}

@@ -1,4 +1,5 @@
--- The verdicts: 01's words and numbers, and the messages of layout.rs byte for byte. Written by tools/verdicts.py. Assumes nothing.
+-- The verdicts: the words and numbers of 01, What a check returns, and the messages of layout.rs byte for byte. Written by tools/verdicts.py.
+-- Assumes nothing.
 use mathlib.Core.List.{List, [], _∷_, _++_}
 use mathlib.Core.Option.{Option, none, some}
 use mathlib.Core.Bool.{Bool, true, false}

@@ -1,4 +1,4 @@
--- Along the commands of a stream: an induction, the bytes they take, and the elements of a list that is read off them. Assumes nothing.
+-- Along the commands of a stream: the bytes they take, and the elements of a list that is read off them. Assumes nothing.
 use Prim.Native.Nat.{ℕ, zero, suc, _+_, _≤_}
 use mathlib.Core.List.{List, _∷_, map, List·Memᴰ, List·Memᴰ·head, List·Memᴰ·tail, List·Memᴰ·not-nil}
 use mathlib.Core.Bool.{Bool, true, false}
@@ -15,22 +15,8 @@ use Rattle.record.specs.declared.command.Command.{Command}
 use Rattle.record.specs.declared.command.Command.the-variants as C
 use Rattle.record.specs.declared.command.Step.{Step}
 use Rattle.record.specs.declared.command.Step.the-variants.{Next, Stop}
-use Rattle.record.proofs.CommandLaws.{step-end}
-use Rattle.record.proofs.Stream.{step-found, commands-stop, commands-next, commands-here, commands-later}
+use Rattle.record.proofs.Stream.{step-found, along, commands-stop, commands-next, commands-here, commands-later}
 use Rattle.record.proofs.ListLaws.{byteOf, byte-is, listed-stop, listed-here, listed-over, listed-end}
-
-module _ (s : Str) (P : ℕ → Type 0) (stop : (at : ℕ) → stepAt s at ≡ Stop → P at) (next : (at : ℕ) (c : Command) (k : Cursor) → stepAt s at ≡ Next c k → P (k .at) → P at) where
-  along-from : (n at : ℕ) → length s ≤ n + at → P at
-  along-from zero at h = stop at (sym (step-end s at (omega arith)))
-  along-from (suc n) at h = go (along-from n) (stepAt s at) refl
-    where
-      go : ((to : ℕ) → length s ≤ n + to → P to) → (t : Step) → stepAt s at ≡ t → P at
-      go ih (Next c k) e = next at c k e (ih (k .at) (let f = step-found s at c k e in let a = f .on in omega arith))
-      go ih Stop e = stop at e
-
-  -- what holds where the stream stops, and at a command if it holds after it, holds at every place
-  pub along : (at : ℕ) → P at
-  along at = along-from (length s) at (omega arith)
 
 -- a command takes four bytes at least -------------------------------------------------------------------------------------
 
@@ -127,19 +113,3 @@ module _ {A : Type 0} (s : Str) (over : ℕ → Bool) (b : ℕ) (f : ℕ → Lis
       go a c k e ih m true o p q = let h = eqb-true (byteOf c) b p in here a c k e h ih (rw (listed-here s over b f a c k e h) at m)
       go a c k e ih m false true p q = further a c k e (ih (rw (listed-over s over b f a c k e (eqb-false (byteOf c) b p) q) at m))
       go a c k e ih m false false p q = absurd (List·Memᴰ·not-nil (rw (listed-end s over b f a c k e (eqb-false (byteOf c) b p) q) at m))
-
--- two lists of one number whose elements give the same
-module _ {A B C : Type 0} (s : Str) (over : ℕ → Bool) (b : ℕ) (f : ℕ → List ℕ → A) (g : ℕ → List ℕ → B) (x : A → C) (y : B → C)
-    (same : (at : ℕ) (c : Command) (k : Cursor) → stepAt s at ≡ Next c k → getD s at 0 ≡ b → x (f at (commandsAt s (k .at))) ≡ y (g at (commandsAt s (k .at)))) where
-  pub listed-same : (at : ℕ) → map x (listed s over b f (commandsAt s at)) ≡ map y (listed s over b g (commandsAt s at))
-  listed-same =
-      along s (λ (at : ℕ). map x (listed s over b f (commandsAt s at)) ≡ map y (listed s over b g (commandsAt s at)))
-      (λ at e. rw (listed-stop s over b f at e, listed-stop s over b g at e)) (λ at c k e ih. go at c k e ih (eqb (byteOf c) b) (over (byteOf c)) refl refl)
-    where
-      go : (at : ℕ) (c : Command) (k : Cursor) → stepAt s at ≡ Next c k → map x (listed s over b f (commandsAt s (k .at))) ≡ map y (listed s over b g (commandsAt s (k .at)))
-          → (t o : Bool) → eqb (byteOf c) b ≡ t → over (byteOf c) ≡ o → map x (listed s over b f (commandsAt s at)) ≡ map y (listed s over b g (commandsAt s at))
-      go at c k e ih true o p q =
-          let h = eqb-true (byteOf c) b p in
-          rw (listed-here s over b f at c k e h, listed-here s over b g at c k e h) (ap₂ (λ (z : C) (l : List C). z ∷ l) (same at c k e (byte-is s at c k e ∙ h)) ih)
-      go at c k e ih false true p q = let h = eqb-false (byteOf c) b p in rw (listed-over s over b f at c k e h q, listed-over s over b g at c k e h q) ih
-      go at c k e ih false false p q = let h = eqb-false (byteOf c) b p in rw (listed-end s over b f at c k e h q, listed-end s over b g at c k e h q)

@@ -19,12 +19,12 @@ use Rattle.record.specs.Reading.{Rec, rec, schemaFrom, schemaOf}
 use Rattle.record.specs.declared.command.Cursor.{Cursor}
 use Rattle.record.specs.declared.command.Command.{Command}
 use Rattle.record.specs.declared.command.Step.the-variants.{Next}
-use Rattle.record.proofs.Stream.{step-found}
-use Rattle.record.proofs.ListLaws.{byteOf, byte-is, listed-stop, listed-here, listed-over}
+use Rattle.record.proofs.Stream.{step-found, along}
+use Rattle.record.proofs.ListLaws.{byteOf, byte-is, listed-stop, listed-here, listed-over, listed-same}
 use Rattle.layout.specs.Layout.{TypeLayout, variantName, layStruct, layFamily, layVariant, layFamilies, flattened}
 use Rattle.layout.specs.Handles.{nameAt, familyPart, placePart, typeName, structHandles, variantHandles, joinedHandles, familyHandles, handlesOf, handleFields, layoutOf}
 use Rattle.layout.specs.Table.{Typed, plain, variant}
-use Rattle.layout.proofs.Along.{along, place-stands, listed-element, listed-same}
+use Rattle.layout.proofs.Along.{place-stands, listed-element}
 
 -- the parts of a handle come back out of it -------------------------------------------------------------------------------
 

@@ -5,48 +5,45 @@ use mathlib.Core.Bool.{Bool, true, false, _||_, cond}
 use mathlib.Core.Path.{_≡_, refl, sym, ap, ap₂, subst, _∙_}
 use native.Mathlib.Omega.{arith}
 use native.Mathlib.Numerals.{add-one}
-use types.Run.{OneOf}
-use denote.Enum.Declared.{tagOf}
 use lib.ListN.{length, getD, take, drop, set, length-append, length-set, length-drop, take-append-drop, drop-of-length-le}
 use lib.Seq.{take-suc-set, drop-set-lt, length-take-le, drop-drop, take-at, drop-at, take-all}
 use borrow.Rule.Slice.PartMut.{putMid}
-use lib.Dec.{T, eqb}
+use lib.Dec.{eqb}
 use borrow.Author.Tests.{ne-eqb, eqb-true, eqb-false}
 use Rattle.record.specs.Base.{Str}
 use Rattle.record.specs.Commands.{stepAt, commandsAt}
 use Rattle.record.specs.Lists.{anything, aField}
-use Rattle.record.specs.declared.command as D
+use Rattle.record.specs.Seek.{afterAt, overOf, placesOf, placesLeft, SoughtFrom}
+use Rattle.record.specs.declared.seek.Between.the-variants.{Anything, Fields}
+use Rattle.record.specs.declared.seek.Sought.{Sought}
+use Rattle.record.specs.declared.seek.Sought.the-variants.{Nowhere, At}
+use Rattle.record.proofs.SeekLaws.{Stepped, stepped, ended-there, sought-stands}
 use Rattle.record.specs.declared.command.Cursor.{Cursor}
 use Rattle.record.specs.declared.command.Command.{Command}
-use Rattle.record.specs.declared.command.Command.the-variants as C
-use Rattle.record.specs.declared.command.Step.{Step}
 use Rattle.record.specs.declared.command.Step.the-variants.{Next, Stop}
-use Rattle.record.proofs.command.Command.{the-type}
-use Rattle.record.proofs.CommandLaws.{none-width}
-use Rattle.record.proofs.Tags.{absent}
-use Rattle.record.proofs.Stream.{step-found}
-use Rattle.record.proofs.ListLaws.{byteOf, byte-is, other, listed-stop, listed-here, listed-over, listed-end}
-use Rattle.layout.proofs.Along.{along, four-wide, step-four}
+use Rattle.record.proofs.Stream.{step-found, along}
+use Rattle.record.proofs.ListLaws.{byteOf, listed-stop, listed-here, listed-over, listed-end}
+use Rattle.layout.proofs.Along.{four-wide, step-four}
 use Rattle.record.specs.Fill.{fronted}
-use Rattle.layout.specs.Handles.{structHandles, variantHandles, joinedHandles, familyHandles, handlesOf, placesFrom, familiesFrom}
+use Rattle.layout.specs.Handles.{structHandles, variantHandles, joinedHandles, familyHandles, handlesOf, familiesFrom}
 
 -- a step along the stream -------------------------------------------------------------------------------------------------
 
 module _ (s : Str) (at : ℕ) (c : Command) (k : Cursor) (e : stepAt s at ≡ Next c k) where
   module _ (b : ℕ) where
-    places-at : byteOf c ≡ b → placesFrom s b at ≡ at ∷ placesFrom s b (k .at)
-    unfolding placesFrom
+    places-at : byteOf c ≡ b → placesOf s Anything b at ≡ at ∷ placesOf s Anything b (k .at)
+    unfolding placesOf
     places-at h = listed-here s anything b (λ a rest. a) at c k e h
 
-    places-else : (byteOf c ≡ b → ⊥) → placesFrom s b at ≡ placesFrom s b (k .at)
-    unfolding placesFrom
+    places-else : (byteOf c ≡ b → ⊥) → placesOf s Anything b at ≡ placesOf s Anything b (k .at)
+    unfolding placesOf
     places-else h = listed-over s anything b (λ a rest. a) at c k e h refl
 
     -- no command gives two places
-    place-more : length (placesFrom s b at) ≤ suc (length (placesFrom s b (k .at)))
+    place-more : length (placesOf s Anything b at) ≤ suc (length (placesOf s Anything b (k .at)))
     place-more = go (eqb (byteOf c) b) refl
       where
-        go : (t : Bool) → eqb (byteOf c) b ≡ t → length (placesFrom s b at) ≤ suc (length (placesFrom s b (k .at)))
+        go : (t : Bool) → eqb (byteOf c) b ≡ t → length (placesOf s Anything b at) ≤ suc (length (placesOf s Anything b (k .at)))
         go true q = let l = ap length (places-at (eqb-true (byteOf c) b q)) in omega arith
         go false q = let l = ap length (places-else (eqb-false (byteOf c) b q)) in omega arith
 
@@ -112,7 +109,7 @@ module _ (s : Str) (at : ℕ) (c : Command) (k : Cursor) (e : stepAt s at ≡ Ne
     open-ends h i o = ap₂ (λ (x : List ℕ) (y : List ℕ). x ++ y) (opened-end i o) (families-else h)
 
     abbrev Fewer : ℕ → Type 0
-    Fewer f = length (placesFrom s 8 at) + length (familiesFrom s family at) ≤ suc (length (placesFrom s 8 (k .at)) + length (familiesFrom s f (k .at)))
+    Fewer f = length (placesOf s Anything 8 at) + length (familiesFrom s family at) ≤ suc (length (placesOf s Anything 8 (k .at)) + length (familiesFrom s f (k .at)))
 
     -- no command gives two handles
     one-more : (f : ℕ) × Fewer f
@@ -145,75 +142,75 @@ module _ (s : Str) (at : ℕ) (c : Command) (k : Cursor) (e : stepAt s at ≡ Ne
             let o = ap length (open-ends (eqb-false (byteOf c) 9 b) (eqb-false (byteOf c) 10 d) f) in
             (0, omega arith)
 
--- in the code's words
-module _ (s : Str) (at : ℕ) (r : Step) (c : Command) (k : Cursor) (i : r ≡ stepAt s at) (m : r ≡ Next c k) where
-  e : stepAt s at ≡ Next c k
-  e = sym i ∙ m
+-- the end of the stream
+module _ (s : Str) (at : ℕ) (e : stepAt s at ≡ Stop) where
+  places-none : (b : ℕ) → placesOf s Anything b at ≡ []
+  unfolding placesOf
+  places-none b = listed-stop s anything b (λ a rest. a) at e
 
-  pub place-small : length s ≤ 32768 → at ≤ 32767
-  place-small h = let f = step-found s at c k e in let a = f .on in let b = f .within in omega arith
-
-  module _ (b x : ℕ) (h : x ≡ getD s at 0) where
-    pub places-here : (j : ℕ) → x ≡ b → j ≡ at → placesFrom s b at ≡ j ∷ placesFrom s b (k .at)
-    places-here j g q = rw q (places-at s at c k e b (sym (byte-is s at c k e) ∙ sym h ∙ g))
-
-    pub places-over : (x ≡ b → ⊥) → placesFrom s b at ≡ placesFrom s b (k .at)
-    places-over g = places-else s at c k e b (λ q. g (h ∙ byte-is s at c k e ∙ q))
-
-  module _ (family : ℕ) where
-    pub open-family : (x : D.Family.Family) (j : ℕ) → c ≡ C.Family x → j ≡ at → familiesFrom s family at ≡ j ∷ familiesFrom s (j + 1) (k .at)
-    open-family x j h q = rw q (open-nine s at c k e family (ap byteOf h))
-
-    pub open-variant : (x : D.Variant.Variant) (j : ℕ) → c ≡ C.Variant x → (family ≡ 0 → ⊥) → j ≡ at → familiesFrom s family at ≡ (65536 * family + j) ∷ familiesFrom s family (k .at)
-    open-variant x j h z q = rw q (open-ten s at c k e family (ap byteOf h) z)
-
-    pub open-none : (x : D.Variant.Variant) → c ≡ C.Variant x → family ≡ 0 → familiesFrom s family at ≡ familiesFrom s family (k .at)
-    open-none x h z = let b : byteOf c ≡ 10 = ap byteOf h in open-closed s at c k e family (λ q. omega arith) z
-
-    pub open-passed : OneOf (10 ∷ 11 ∷ []) (tagOf the-type c) → familiesFrom s family at ≡ familiesFrom s family (k .at)
-    open-passed h =
-        let ks : List ℕ = 10 ∷ 11 ∷ [] in
-        open-between s at c k e family (other ks 8 c tt h) (other ks 9 c tt h) (go (eqb (byteOf c) 11) (eqb (byteOf c) 12) refl refl)
-      where
-        last : byteOf c ≡ 15 → ⊥
-        last q = let f = step-found s at c k e in f .going (byte-is s at c k e ∙ q)
-
-        -- all other numbers are no command's
-        go : (x y : Bool) → eqb (byteOf c) 11 ≡ x → eqb (byteOf c) 12 ≡ y → (x || y) ≡ true
-        go true y p q = refl
-        go false true p q = refl
-        go false false p q =
-            let no : (j : ℕ) → T (absent (10 ∷ 11 ∷ []) j) → byteOf c ≡ suc j → ⊥ = λ j t. other (10 ∷ 11 ∷ []) j c t h in
-            let z =
-            none-width (byteOf c) (no 0 tt) (no 1 tt) (no 2 tt) (no 3 tt) (no 4 tt) (no 5 tt) (no 6 tt) (no 7 tt) (no 8 tt) (no 9 tt) (eqb-false (byteOf c) 11 p)
-            (eqb-false (byteOf c) 12 q) (no 12 tt) (no 13 tt) last in
-            let w = four-wide c in
-            absurd (omega arith)
-
-    pub open-over : OneOf (0 ∷ 1 ∷ 2 ∷ 3 ∷ 4 ∷ 5 ∷ 6 ∷ 7 ∷ 12 ∷ 13 ∷ []) (tagOf the-type c) → familiesFrom s family at ≡ familiesFrom s 0 (k .at)
-    open-over h =
-        let ks : List ℕ = 0 ∷ 1 ∷ 2 ∷ 3 ∷ 4 ∷ 5 ∷ 6 ∷ 7 ∷ 12 ∷ 13 ∷ [] in
-        let o : aField (byteOf c) ≡ false = rw (ne-eqb (byteOf c) 11 (other ks 10 c tt h), ne-eqb (byteOf c) 12 (other ks 11 c tt h)) in
-        open-ends s at c k e family (other ks 8 c tt h) (other ks 9 c tt h) o
-
-module _ (s : Str) (at : ℕ) (r : Step) (i : r ≡ stepAt s at) (m : r ≡ Stop) where
-  pub places-stop : (b : ℕ) → placesFrom s b at ≡ []
-  unfolding placesFrom
-  places-stop b = listed-stop s anything b (λ a rest. a) at (sym i ∙ m)
-
-  pub open-stop : (family : ℕ) → familiesFrom s family at ≡ []
+  open-none : (family : ℕ) → familiesFrom s family at ≡ []
   unfolding familiesFrom variantHandles familyHandles joinedHandles
-  open-stop family =
-      ap₂ (λ (x : List ℕ) (y : List (List ℕ)). cond (eqb family 0) [] x ++ joinedHandles y) (listed-stop s aField 10 (λ a rest. 65536 * (family - 1 + 1) + a) at (sym i ∙ m))
-      (listed-stop s anything 9 (λ a rest. a ∷ variantHandles s a rest) at (sym i ∙ m)) ∙ none (eqb family 0)
+  open-none family =
+      ap₂ (λ (x : List ℕ) (y : List (List ℕ)). cond (eqb family 0) [] x ++ joinedHandles y) (listed-stop s aField 10 (λ a rest. 65536 * (family - 1 + 1) + a) at e)
+      (listed-stop s anything 9 (λ a rest. a ∷ variantHandles s a rest) at e) ∙ none (eqb family 0)
     where
       none : (b : Bool) → _≡_ {A = List ℕ} (cond b [] [] ++ []) []
       none true = refl
       none false = refl
 
-pub ruleset place-laws = (places-here, places-over)
+-- in the code's words: a command of one number
+module _ (s : Str) (b at : ℕ) (r : Sought) (i : SoughtFrom s Anything b at r) where
+  pub places-end : r ≡ Nowhere → placesOf s Anything b at ≡ []
+  places-end m = i .list ∙ ap (placesLeft s Anything b) m
 
-pub ruleset open-laws = (open-family, open-variant, open-none, open-passed, open-over)
+  module _ (a k : ℕ) (m : r ≡ At a k) where
+    pub sought-small : length s ≤ 32768 → a ≤ 32767
+    sought-small h = let f = sought-stands s Anything b at r i a k m in let o = f .on in let w = f .within in omega arith
+
+    pub places-here : (j : ℕ) → j ≡ a → placesOf s Anything b at ≡ j ∷ placesOf s Anything b k
+    places-here j q = rw q (i .list ∙ ap (placesLeft s Anything b) m)
+
+-- the command at a place, by its number
+module _ (s : Str) (at n : ℕ) (i : n ≡ afterAt s at) where
+  pub open-stop : n ≡ 0 → (family : ℕ) → familiesFrom s family at ≡ []
+  open-stop z = open-none s at (ended-there s at n i z)
+
+  module _ (z : n ≡ 0 → ⊥) where
+    t : Stepped s at n
+    t = stepped s at n i z
+
+    pub place-small : length s ≤ 32768 → at ≤ 32767
+    place-small h = let f = step-found s at (t .command) (t .cursor) (t .step) in let a = f .on in let b = f .within in omega arith
+
+    module _ (x : ℕ) (h : x ≡ getD s at 0) (family : ℕ) where
+      number : byteOf (t .command) ≡ x
+      number = sym (h ∙ t .number)
+
+      abbrev After : ℕ → List ℕ → Type 0
+      After f l = familiesFrom s family at ≡ l ++ familiesFrom s f n
+
+      moved : (f : ℕ) (l : List ℕ) → familiesFrom s family at ≡ l ++ familiesFrom s f (t .cursor .at) → After f l
+      moved f l e = e ∙ ap (λ (k : ℕ). l ++ familiesFrom s f k) (t .to)
+
+      pub open-family : (j : ℕ) → x ≡ 9 → j ≡ at → familiesFrom s family at ≡ j ∷ familiesFrom s (j + 1) n
+      open-family j g q = rw q (moved (at + 1) (at ∷ []) (open-nine s at (t .command) (t .cursor) (t .step) family (number ∙ g)))
+
+      pub open-variant : (j : ℕ) → x ≡ 10 → (family ≡ 0 → ⊥) → j ≡ at → familiesFrom s family at ≡ (65536 * family + j) ∷ familiesFrom s family n
+      open-variant j g w q = rw q (moved family ((65536 * family + at) ∷ []) (open-ten s at (t .command) (t .cursor) (t .step) family (number ∙ g) w))
+
+      pub open-unowned : x ≡ 10 → family ≡ 0 → familiesFrom s family at ≡ familiesFrom s family n
+      open-unowned g w = moved family [] (open-closed s at (t .command) (t .cursor) (t .step) family (λ q. let d = number in omega arith) w)
+
+      module _ (p : x ≡ 9 → ⊥) (q : x ≡ 10 → ⊥) (o : Bool) (v : o ≡ overOf Fields x) where
+        pub open-passed : o ≡ true → familiesFrom s family at ≡ familiesFrom s family n
+        open-passed g =
+            moved family [] (open-between s at (t .command) (t .cursor) (t .step) family (λ e. p (sym number ∙ e)) (λ e. q (sym number ∙ e)) (ap aField number ∙ sym v ∙ g))
+
+        pub open-over : o ≡ false → familiesFrom s family at ≡ familiesFrom s 0 n
+        open-over g =
+            moved 0 [] (open-ends s at (t .command) (t .cursor) (t .step) family (λ e. p (sym number ∙ e)) (λ e. q (sym number ∙ e)) (ap aField number ∙ sym v ∙ g))
+
+pub ruleset open-laws = (open-family, open-variant, open-unowned, open-passed, open-over)
 
 -- a table while it is filled: what is there of it, what is yet to come, and the old rest ------------------------------------
 
@@ -264,25 +261,25 @@ module _ (all o t : List ℕ) (n : ℕ) (left : List ℕ) (f : Filling all left 
 pub ruleset fill-laws = (fill-more, fill-same)
 
 -- where a handle is still to come there is room for it
-module _ (s : Str) (at : ℕ) (r : Step) (c : Command) (k : Cursor) (i : r ≡ stepAt s at) (m : r ≡ Next c k) (all o t : List ℕ) (n : ℕ) where
-  pub place-room : (b x : ℕ) → Filling all (placesFrom s b at) o t n → x ≡ getD s at 0 → x ≡ b → n < length t
-  place-room b x f h g = fill-room all o t n (placesFrom s b at) f at (placesFrom s b (k .at)) (places-here s at r c k i m b x h at g refl)
+module _ (s : Str) (all o t : List ℕ) (n : ℕ) where
+  pub place-room : (b at : ℕ) (r : Sought) → SoughtFrom s Anything b at r → (a k : ℕ) → r ≡ At a k → Filling all (placesOf s Anything b at) o t n → n < length t
+  place-room b at r i a k m f = fill-room all o t n (placesOf s Anything b at) f a (placesOf s Anything b k) (places-here s b at r i a k m a refl)
 
-  pub family-room : (family : ℕ) (x : D.Family.Family) → Filling all (familiesFrom s family at) o t n → c ≡ C.Family x → n < length t
-  family-room family x f h = fill-room all o t n (familiesFrom s family at) f at (familiesFrom s (at + 1) (k .at)) (open-family s at r c k i m family x at h refl)
+  module _ (at after : ℕ) (i : after ≡ afterAt s at) (z : after ≡ 0 → ⊥) (x : ℕ) (h : x ≡ getD s at 0) (family : ℕ) (f : Filling all (familiesFrom s family at) o t n) where
+    pub family-room : x ≡ 9 → n < length t
+    family-room g = fill-room all o t n (familiesFrom s family at) f at (familiesFrom s (at + 1) after) (open-family s at after i z x h family at g refl)
 
-  pub variant-room : (family : ℕ) (x : D.Variant.Variant) → Filling all (familiesFrom s family at) o t n → c ≡ C.Variant x → (family ≡ 0 → ⊥) → n < length t
-  variant-room family x f h z =
-      fill-room all o t n (familiesFrom s family at) f (65536 * family + at) (familiesFrom s family (k .at)) (open-variant s at r c k i m family x at h z refl)
+    pub variant-room : x ≡ 10 → (family ≡ 0 → ⊥) → n < length t
+    variant-room g w = fill-room all o t n (familiesFrom s family at) f (65536 * family + at) (familiesFrom s family after) (open-variant s at after i z x h family at g w refl)
 
 pub ruleset room-laws = (place-room, family-room, variant-room)
 
 -- the places of one number ------------------------------------------------------------------------------------------------
 
 module _ (s : Str) (b : ℕ) where
-  places-room : (at : ℕ) → 4 * length (placesFrom s b at) ≤ length s - at
+  places-room : (at : ℕ) → 4 * length (placesOf s Anything b at) ≤ length s - at
   places-room =
-      along s (λ (at : ℕ). 4 * length (placesFrom s b at) ≤ length s - at) (λ at e. let a = ap length (places-stop s at Stop (sym e) refl b) in omega arith)
+      along s (λ (at : ℕ). 4 * length (placesOf s Anything b at) ≤ length s - at) (λ at e. let a = ap length (places-none s at e b) in omega arith)
       (λ at c k e ih.
       let f = step-found s at c k e in
       let w = f .within in
@@ -291,19 +288,19 @@ module _ (s : Str) (b : ℕ) where
       omega arith)
 
   -- they are at most 8,192
-  pub places-fit : (o : List ℕ) → length s ≤ 32768 → 8192 ≤ length o → length (placesFrom s b 0) ≤ length o
+  pub places-fit : (o : List ℕ) → length s ≤ 32768 → 8192 ≤ length o → length (placesOf s Anything b 0) ≤ length o
   places-fit o h k = let a = places-room 0 in omega arith
 
-  pub places-few : (o t left : List ℕ) (n : ℕ) → Filling (placesFrom s b 0) left o t n → left ≡ [] → length s ≤ 32768 → n ≤ 8192
-  places-few o t left n f z h = let a = places-room 0 in let i = fill-count (placesFrom s b 0) o t n left f z in omega arith
+  pub places-few : (o t left : List ℕ) (n : ℕ) → Filling (placesOf s Anything b 0) left o t n → left ≡ [] → length s ≤ 32768 → n ≤ 8192
+  places-few o t left n f z h = let a = places-room 0 in let i = fill-count (placesOf s Anything b 0) o t n left f z in omega arith
 
 -- all handles -------------------------------------------------------------------------------------------------------------
 
 module _ (s : Str) where
-  all-room : (at family : ℕ) → 4 * (length (placesFrom s 8 at) + length (familiesFrom s family at)) ≤ length s - at
+  all-room : (at family : ℕ) → 4 * (length (placesOf s Anything 8 at) + length (familiesFrom s family at)) ≤ length s - at
   all-room =
-      along s (λ (at : ℕ). (family : ℕ) → 4 * (length (placesFrom s 8 at) + length (familiesFrom s family at)) ≤ length s - at)
-      (λ at e family. let a = ap length (places-stop s at Stop (sym e) refl 8) in let b = ap length (open-stop s at Stop (sym e) refl family) in omega arith)
+      along s (λ (at : ℕ). (family : ℕ) → 4 * (length (placesOf s Anything 8 at) + length (familiesFrom s family at)) ≤ length s - at)
+      (λ at e family. let a = ap length (places-none s at e 8) in let b = ap length (open-none s at e family) in omega arith)
       (λ at c k e ih family.
       let f = step-found s at c k e in
       let w = f .within in
@@ -313,27 +310,27 @@ module _ (s : Str) where
       let l = o .1 in
       omega arith)
 
-  all-are : placesFrom s 8 0 ++ familiesFrom s 0 0 ≡ handlesOf s
-  unfolding placesFrom familiesFrom handlesOf structHandles
+  all-are : placesOf s Anything 8 0 ++ familiesFrom s 0 0 ≡ handlesOf s
+  unfolding placesOf familiesFrom handlesOf structHandles
   all-are = refl
 
   -- a record has at most 8,192 types
-  few : length s ≤ 32768 → length (placesFrom s 8 0) + length (familiesFrom s 0 0) ≤ 8192
+  few : length s ≤ 32768 → length (placesOf s Anything 8 0) + length (familiesFrom s 0 0) ≤ 8192
   few h = let a = all-room 0 0 in omega arith
 
-  pub families-fit : (n : ℕ) → length s ≤ 32768 → n ≡ length (placesFrom s 8 0) → n + length (familiesFrom s 0 0) ≤ 8192
+  pub families-fit : (n : ℕ) → length s ≤ 32768 → n ≡ length (placesOf s Anything 8 0) → n + length (familiesFrom s 0 0) ≤ 8192
   families-fit n h i = let a = few h in omega arith
 
-  module _ (o t : List ℕ) (n : ℕ) (i : n ≡ length (placesFrom s 8 0)) where
+  module _ (o t : List ℕ) (n : ℕ) (i : n ≡ length (placesOf s Anything 8 0)) where
     pub all-count : (m : ℕ) → m ≡ length (familiesFrom s 0 0) → n + m ≡ length (handlesOf s)
     all-count m j = rw (← all-are, length-append, i, j)
 
-    pub all-filled : (x : List ℕ) → t ≡ fronted o (placesFrom s 8 0) → n ≤ length t → x ≡ fronted (take (length t - n) (drop n t)) (familiesFrom s 0 0)
+    pub all-filled : (x : List ℕ) → t ≡ fronted o (placesOf s Anything 8 0) → n ≤ length t → x ≡ fronted (take (length t - n) (drop n t)) (familiesFrom s 0 0)
         → putMid n (length t - n) t x ≡ fronted o (handlesOf s)
     unfolding fronted
     all-filled x f h g =
-        let a : take n t ≡ placesFrom s 8 0 = ap (take n) f ∙ take-at (placesFrom s 8 0) (drop (length (placesFrom s 8 0)) o) n (sym i) in
-        let b : drop n t ≡ drop n o = ap (drop n) f ∙ drop-at (placesFrom s 8 0) (drop (length (placesFrom s 8 0)) o) n (sym i) ∙ ap (λ (j : ℕ). drop j o) (sym i) in
+        let a : take n t ≡ placesOf s Anything 8 0 = ap (take n) f ∙ take-at (placesOf s Anything 8 0) (drop (length (placesOf s Anything 8 0)) o) n (sym i) in
+        let b : drop n t ≡ drop n o = ap (drop n) f ∙ drop-at (placesOf s Anything 8 0) (drop (length (placesOf s Anything 8 0)) o) n (sym i) ∙ ap (λ (j : ℕ). drop j o) (sym i) in
         let l : length (drop n t) ≤ length t - n = rw length-drop (omega arith) in
         let d : drop (length t - n) (drop n t) ≡ [] = drop-of-length-le (drop n t) l in
-        rw (d, g, take-all (length t - n) (drop n t) l, append-nil, a, b, drop-drop (length (familiesFrom s 0 0)) n o, i, ← append-assoc (placesFrom s 8 0) (familiesFrom s 0 0) (drop (length (placesFrom s 8 0) + length (familiesFrom s 0 0)) o), ← length-append (placesFrom s 8 0) (familiesFrom s 0 0), all-are)
+        rw (d, g, take-all (length t - n) (drop n t) l, append-nil, a, b, drop-drop (length (familiesFrom s 0 0)) n o, i, ← append-assoc (placesOf s Anything 8 0) (familiesFrom s 0 0) (drop (length (placesOf s Anything 8 0) + length (familiesFrom s 0 0)) o), ← length-append (placesOf s Anything 8 0) (familiesFrom s 0 0), all-are)

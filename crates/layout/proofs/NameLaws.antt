@@ -18,13 +18,13 @@ use Rattle.record.specs.declared.text.Text.{Text}
 use Rattle.record.specs.declared.operands.OptText.the-variants.{Absent, Given}
 use Rattle.record.proofs.Basics.{eqs→eq}
 use Rattle.record.proofs.WriterLaws.{puts-then}
-use Rattle.layout.specs.Words.{Skipped}
+use Rattle.record.specs.Words.{Skipped}
 use Rattle.layout.specs.Layout.{variantName}
 use Rattle.layout.specs.Handles.{nameAt, familyPart, placePart, typeName}
 use Rattle.layout.specs.Names.{joined, frontOf, colonsOf, backOf, Parts, nameOf, nameTextAt, stretchesOf}
 use Rattle.record.specs.Lists.{optOf}
 use Rattle.layout.specs.declared.names.TypeName.{TypeName}
-use Rattle.layout.proofs.WordLaws.{before-next, before-below, before-above, before-longer, before-shorter, before-end, before-skip}
+use Rattle.record.proofs.WordLaws.{before-next, before-below, before-above, before-longer, before-shorter, before-end, before-skip}
 
 -- the text at a place -----------------------------------------------------------------------------------------------------
 

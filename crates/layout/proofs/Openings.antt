@@ -16,10 +16,9 @@ use Rattle.record.specs.Reading.{Opened, openedAt, opened}
 use Rattle.record.specs.declared.command.Cursor.{Cursor}
 use Rattle.record.specs.declared.command.Command.{Command}
 use Rattle.record.specs.declared.command.Step.the-variants.{Next}
-use Rattle.record.proofs.Stream.{commands-stop, commands-next}
+use Rattle.record.proofs.Stream.{commands-stop, commands-next, along}
 use Rattle.layout.specs.Handles.{placePart, handleFields}
 use Rattle.layout.specs.Table.{Typed, plain, variant}
-use Rattle.layout.proofs.Along.{along}
 use Rattle.layout.proofs.Flattened.{own-fields, family-fields}
 
 -- a structure, a family or a variant

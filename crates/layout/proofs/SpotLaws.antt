@@ -2,17 +2,23 @@
 use Prim.Native.Nat.{ℕ, suc, _+_, _-_, _/_, _≤_, _<_}
 use mathlib.Core.List.{List, [], _∷_, _++_, List·Memᴰ, List·Memᴰ·head, List·Memᴰ·tail}
 use mathlib.Core.Option.{none, some}
-use mathlib.Core.Bool.{Bool, false}
+use mathlib.Core.Bool.{Bool, true, false}
 use mathlib.Core.Path.{_≡_, refl, sym, ap, ap₂, subst, _∙_}
 use native.Mathlib.Omega.{arith}
 use types.Run.{OneOf}
 use denote.Enum.Declared.{tagOf}
+use lib.Dec.{eqb}
+use borrow.Author.Tests.{eqb-true, eqb-false}
 use lib.ListN.{length, getD, drop}
 use Rattle.record.specs.Base.{Str, bytes, eqs, orElse, orOption}
 use Rattle.record.specs.Stretch.{textOf}
 use Rattle.record.specs.Scalars.{Scalar, primSize}
 use Rattle.record.specs.Schema.{Schema, Field}
-use Rattle.record.specs.Commands.{operands, wide, widths, widthWith, widthOf, commandOf, familyAt, stepAt}
+use Rattle.record.specs.Commands.{operands, wide, widths, widthWith, widthOf, commandOf, familyAt, fieldAt, place, stepAt}
+use Rattle.record.specs.Seek.{afterAt, SoughtFrom}
+use Rattle.record.specs.declared.seek.Between.the-variants.{Keys}
+use Rattle.record.specs.declared.seek.Sought.{Sought}
+use Rattle.record.specs.declared.seek.Sought.the-variants.{At}
 use Rattle.record.specs.Lists.{optOf, fieldOf, familyOf}
 use Rattle.record.specs.Steps.{enumsAt, fieldKeyAt, fieldsAt, FieldsFrom, FieldPlace}
 use Rattle.record.specs.Kind.{words, meaning, kindOf, isPadding}
@@ -35,8 +41,9 @@ use Rattle.record.specs.declared.lists.FieldStep.{FieldStep}
 use Rattle.record.specs.declared.lists.FieldStep.the-variants.{NoField, AField}
 use Rattle.record.proofs.command.Command.{the-type}
 use Rattle.record.proofs.Stream.{step-found}
-use Rattle.record.proofs.ListLaws.{byteOf, other, byte-is, operands-are}
-use Rattle.record.proofs.StepLaws.{fields-over-now, fields-now, fields-nearer, fields-stand}
+use Rattle.record.proofs.ListLaws.{byteOf, other, byte-is, operands-are, find-miss}
+use Rattle.record.proofs.SeekLaws.{stepped as stepped-there, ended-there, sought-nearer}
+use Rattle.record.proofs.StepLaws.{fields-found, fields-over-now, fields-now, fields-nearer, fields-stand}
 use Rattle.record.proofs.SizeLaws.{cap-low, keyless}
 use Rattle.record.proofs.DescribeLaws.{described-keyless}
 use Rattle.layout.specs.declared.spots.Spot.{Spot}
@@ -45,10 +52,10 @@ use Rattle.layout.specs.declared.spots.Ahead.the-variants.{Front, Middle
 use Rattle.layout.specs.declared.spots.SpotCursor.{SpotCursor}
 use Rattle.layout.specs.declared.spots.SpotStep.{SpotStep}
 use Rattle.layout.specs.declared.spots.SpotStep.the-variants.{NoSpot, ASpot}
-use Rattle.layout.specs.Handles.{placePart, handleFields, layoutOf}
+use Rattle.layout.specs.Handles.{nameAt, placePart, handleFields, layoutOf}
 use Rattle.layout.specs.Table.{Typed, TypesTable}
 use Rattle.layout.specs.FieldSizes.{fieldSize, SizesFrom, SizesTable}
-use Rattle.layout.specs.Spots.{spotOf, cursorAt, bodyPlace, fieldsAhead, placesFrom, aheadLeft, spotsLeft, Sound, spotsOf, soundAfter, stepLeft, SpotsFrom, TypeSpots}
+use Rattle.layout.specs.Spots.{spotOf, cursorAt, bodyPlace, fieldsAhead, placesFrom, aheadLeft, spotsLeft, Sound, spotsOf, soundAfter, stepLeft, SpotsFrom, TypeSpots, OthersPassed}
 use Rattle.layout.proofs.Along.{place-stands}
 use Rattle.layout.proofs.Flattened.{own-fields, family-fields}
 use Rattle.layout.proofs.Openings.{typed-place, typed-opened}
@@ -76,23 +83,20 @@ module _ (r : Rec) (t : List ℕ) (a b : Ahead) (offset : ℕ) (f : Field) (more
     end-exact : (z e : ℕ) → z ≡ shapeSize S f → e ≡ capped (offset + z) → e ≡ offset + shapeSize S f
     end-exact z e q u = u ∙ ap (λ (n : ℕ). capped (offset + n)) q ∙ sym (cap-low (offset + shapeSize S f) first-ends)
 
-  module _ (z e : ℕ) (size : Sound r t (cursorAt a offset) → z ≡ shapeSize S f) (u : e ≡ capped (offset + z)) (x : Spot) (is : z ≡ shapeSize S f → spotOf (r .pool) x ≡ placeOf S offset f)
-      (kept : SizesFrom r t (bodyPlace a) → SizesFrom r t (bodyPlace b)) (left : suc (aheadLeft (r .stream) b) ≤ aheadLeft (r .stream) a) where
-    stepped : SpotsFrom r t (cursorAt a offset) (ASpot x (cursorAt b e))
+  module _ (z e : ℕ) (size : Sound r t (cursorAt a offset) → z ≡ shapeSize S f) (u : e ≡ capped (offset + z)) (kept : SizesFrom r t (bodyPlace a) → SizesFrom r t (bodyPlace b)) where
+    one-more : Sound r t (cursorAt a offset) → placesFrom r (cursorAt a offset) ≡ placeOf S offset f ∷ placesFrom r (cursorAt b e)
     unfolding placesFrom
-    stepped =
+    one-more d = all-places ∙ ap (λ (n : ℕ). placeOf S offset f ∷ places S n (fieldsAhead (r .stream) (r .pool) b)) (sym (end-exact d z e (size d) u))
+
+    still-sound : Sound r t (cursorAt a offset) → Sound r t (cursorAt b e)
+    still-sound d = record { sizes = kept (d .sizes); ends = λ g m. d .ends g (subst (λ (l : List Place). List·Memᴰ g l) (sym (one-more d)) (List·Memᴰ·tail m)) }
+
+    stepped : (x : Spot) → (z ≡ shapeSize S f → spotOf (r .pool) x ≡ placeOf S offset f) → suc (aheadLeft (r .stream) b) ≤ aheadLeft (r .stream) a
+        → SpotsFrom r t (cursorAt a offset) (ASpot x (cursorAt b e))
+    stepped x is left =
         record {
-          list = λ d.
-              all-places
-              ∙ ap₂ (λ (y : Place) (n : ℕ). y ∷ places S n (fieldsAhead (r .stream) (r .pool) b)) (sym (is (size d))) (sym (end-exact d z e (size d) u));
-          sound = λ d.
-              record {
-                sizes = kept (d .sizes);
-                ends = λ g m.
-                    d .ends g
-                    (subst (λ (l : List Place). List·Memᴰ g l) (sym all-places)
-                    (List·Memᴰ·tail (subst (λ (n : ℕ). List·Memᴰ g (places S n (fieldsAhead (r .stream) (r .pool) b))) (end-exact d z e (size d) u) m)));
-              };
+          list = λ d. one-more d ∙ ap (λ (y : Place). y ∷ placesFrom r (cursorAt b e)) (sym (is (size d)));
+          sound = still-sound;
           left = left;
         }
 
@@ -134,13 +138,13 @@ module _ (s p : Str) (w : List Scalar) (t : List ℕ) (f : D.Family.Family) (k :
   unfolding prefix
   spot-disc o b z e g h j u =
       stepped R t (Front f k) (Middle f k) offset disc refl z e
-      (λ d. j ∙ h ∙ ap (λ (y : OptText). sized (optOf p y) (enumSize (enumsAt s p 0)) 1) g ∙ sym disc-size) u _ (disc-place z) (λ q. q) (omega arith)
+      (λ d. j ∙ h ∙ ap (λ (y : OptText). sized (optOf p y) (enumSize (enumsAt s p 0)) 1) g ∙ sym disc-size) u (λ q. q) _ (disc-place z) (omega arith)
 
   pub spot-len : (b z e : ℕ) → b ≡ primSize w (orElse (optOf p (f .«param_len_type»)) (bytes "u8")) → z ≡ b → e ≡ capped (offset + z)
       → SpotsFrom R t (cursorAt (Middle f k) offset)
       (ASpot (record { name = f .«param_len_field»; offset = offset; size = z; described = Length (f .«param_len_type»); padding = false }) (cursorAt (Body k) e))
   unfolding prefix
-  spot-len b z e h j u = stepped R t (Middle f k) (Body k) offset len refl z e (λ d. j ∙ h ∙ sym len-size) u _ (len-place z) (λ q. q) (omega arith)
+  spot-len b z e h j u = stepped R t (Middle f k) (Body k) offset len refl z e (λ d. j ∙ h ∙ sym len-size) u (λ q. q) _ (len-place z) (omega arith)
 
 -- a field of the record ----------------------------------------------------------------------------------------------------
 
@@ -193,9 +197,23 @@ module _ (s p : Str) (w : List Scalar) (t : List ℕ) (k : Cursor) (offset : ℕ
         let read : describedAs p d ≡ shapeType whole = v ∙ sym (described-keyless p f (fieldKeyAt s p (j .at))) in
         let pad : b ≡ isPadding (kindOf (textOf p (f .kind))) = g ∙ ap isPadding (o ∙ ap kindOf n) in
         let near = fields-nearer s (k .at) r h f j m in
-        stepped (rec s p w) t (Body k) (Body j) offset whole more z e (λ y. size-exact (rec s p w) t (Body k) (Body j) offset whole more y z (u ∙ table-size (y .sizes))) i
+        stepped (rec s p w) t (Body k) (Body j) offset whole more z e (λ y. size-exact (rec s p w) t (Body k) (Body j) offset whole more y z (u ∙ table-size (y .sizes))) i table-kept
         (record { name = f .name; offset = offset; size = z; described = d; padding = b })
-        (λ y a. record { name = textOf p (f .name); offset = offset; size = y a; described = read a; padding = pad a }) table-kept (omega arith)
+        (λ y a. record { name = textOf p (f .name); offset = offset; size = y a; described = read a; padding = pad a }) (omega arith)
+
+    -- a field that is passed over
+    module _ (z e : ℕ) (u : z ≡ getD t (j .at / 33) 0) (i : e ≡ capped (offset + z)) (d : Sound (rec s p w) t (cursorAt (Body k) offset)) where
+      more : fieldsAt s p (k .at) ≡ whole ∷ fieldsAt s p (j .at)
+      more = fields-now s (k .at) r h p f j m
+
+      sized-so : Sound (rec s p w) t (cursorAt (Body k) offset) → z ≡ shapeSize T whole
+      sized-so y = size-exact (rec s p w) t (Body k) (Body j) offset whole more y z (u ∙ table-size (y .sizes))
+
+      field-passed : placesFrom (rec s p w) (cursorAt (Body k) offset) ≡ placeOf T offset whole ∷ placesFrom (rec s p w) (cursorAt (Body j) e)
+      field-passed = one-more (rec s p w) t (Body k) (Body j) offset whole more z e sized-so i table-kept d
+
+      passed-sound : Sound (rec s p w) t (cursorAt (Body j) e)
+      passed-sound = still-sound (rec s p w) t (Body k) (Body j) offset whole more z e sized-so i table-kept d
 
 -- a step from any cursor ---------------------------------------------------------------------------------------------------
 
@@ -208,6 +226,44 @@ module _ (s p : Str) (w : List Scalar) (t : List ℕ) (c : SpotCursor) (r : Spot
 
   pub next-body : (k : Cursor) → c .ahead ≡ Body k → ((v : List Scalar) → SpotsFrom (rec s p v) t (cursorAt (Body k) (c .offset)) r) → SpotsFrom (rec s p w) t c r
   next-body k m g = subst (λ (a : Ahead). SpotsFrom (rec s p w) t (cursorAt a (c .offset)) r) (sym m) (g w)
+
+-- fields passed over by their names ---------------------------------------------------------------------------------------
+
+module _ (s p : Str) (t : List ℕ) (n : Str) (c : SpotCursor) where
+  pub others-here : OthersPassed s p t n c c
+  others-here = record { same = λ w d. refl; sound = λ w d. d; left = omega arith }
+
+  -- of a cursor at the record's fields only the place counts
+  pub others-body : (k : Cursor) (d : SpotCursor) → c .ahead ≡ Body k → OthersPassed s p t n (cursorAt (Body (place (k .at))) (c .offset)) d → OthersPassed s p t n c d
+  unfolding placesFrom
+  others-body k d m o = subst (λ (a : Ahead). OthersPassed s p t n (cursorAt a (c .offset)) d) (sym m) (record { same = λ w y. o .same w (record { sizes = y .sizes; ends = y .ends }); sound = λ w y. o .sound w (record { sizes = y .sizes; ends = y .ends }); left = o .left })
+
+  module _ (at offset : ℕ) (o : OthersPassed s p t n c (cursorAt (Body (place at)) offset)) where
+    pub others-so-far : (k : Cursor) → k ≡ place at → OthersPassed s p t n c (cursorAt (Body k) offset)
+    others-so-far k e = subst (λ (x : Cursor). OthersPassed s p t n c (cursorAt (Body x) offset)) (sym e) o
+
+    module _ (r : Sought) (i : SoughtFrom s Keys 11 at r) (a k : ℕ) (m : r ≡ At a k) where
+      found : FieldsFrom s at (AField (fieldAt (drop a s)) (place k))
+      found = fields-found s at r i a k m (drop a s) (fieldAt (drop a s)) (place k) refl refl refl
+
+      pub others-on : (x : Str) (b : Bool) (z e : ℕ) → x ≡ nameAt s p a → b ≡ eqs x n → b ≡ false → z ≡ getD t (k / 33) 0 → e ≡ capped (offset + z)
+          → OthersPassed s p t n c (cursorAt (Body (place k)) e)
+      unfolding nameAt placeOf
+      others-on x b z e g h q u v =
+          let near = sought-nearer s Keys 11 at r i a k m in
+          let l = o .left in
+          record {
+            same = λ w d.
+                o .same w d
+                ∙ find-miss (λ (f : Place). eqs (f .name) n) _ _ _
+                (field-passed s p w t (place at) offset (AField (fieldAt (drop a s)) (place k)) found (fieldAt (drop a s)) (place k) refl z e u v (o .sound w d))
+                (ap (λ (y : Str). eqs y n) (sym g) ∙ sym h ∙ q);
+            sound = λ w d.
+                passed-sound s p w t (place at) offset (AField (fieldAt (drop a s)) (place k)) found (fieldAt (drop a s)) (place k) refl z e u v (o .sound w d);
+            left = omega arith;
+          }
+
+pub ruleset others-laws = (others-so-far, others-on)
 
 -- where the fields of a type begin ------------------------------------------------------------------------------------------
 
@@ -253,7 +309,23 @@ module _ (s : Str) (h n : ℕ) (e : n ≡ placePart h) (r : Step) (i : r ≡ ste
         let b = byte-is s (placePart h) c k at-step in
         begins (Body k) refl (λ p. sym (own-fields s p (placePart h) c k at-step (λ q. other ks 8 c tt g (sym b ∙ q))))
 
-pub ruleset first-laws = (first-none, first-family, first-body)
+-- where no family stands only the place after the command counts
+module _ (s : Str) (h n : ℕ) (e : n ≡ placePart h) (b : ℕ) (j : b ≡ getD s n 0) (after : ℕ) (i : after ≡ afterAt s n) (k : Cursor) (l : k ≡ place after) where
+  pub first-plain : (b ≡ 9 → ⊥) → TypeSpots s h (cursorAt (Body k) 0)
+  first-plain g = go (eqb after 0) refl
+    where
+      go : (x : Bool) → eqb after 0 ≡ x → TypeSpots s h (cursorAt (Body k) 0)
+      go true q = first-none s h n e (stepAt s n) refl k (ended-there s n after i (eqb-true after 0 q))
+      go false q =
+          let t = stepped-there s n after i (eqb-false after 0 q) in
+          let o : k .at ≡ t .cursor .at = ap (λ (x : Cursor). x .at) l ∙ sym (t .to) in
+          let u : stepAt s (placePart h) ≡ Next (t .command) (t .cursor) = ap (stepAt s) (sym e) ∙ t .step in
+          begins s h n e (stepAt s n) refl (t .command) (t .cursor) (t .step) (Body k) o
+          (λ p.
+          ap (fieldsAt s p) o
+          ∙ sym (own-fields s p (placePart h) (t .command) (t .cursor) u (λ y. g (j ∙ ap (λ (x : ℕ). getD s x 0) e ∙ y))))
+
+pub ruleset first-laws = (first-none, first-family, first-body, first-plain)
 
 -- for loops over the fields --------------------------------------------------------------------------------------------------
 
@@ -272,10 +344,6 @@ module _ (s p : Str) (w : List Scalar) (t : List ℕ) (c : SpotCursor) (o : Spot
     pub spots-nearer : spotsLeft s k < spotsLeft s c
     spots-nearer = let h : suc (spotsLeft s k) ≤ spotsLeft s c = subst (λ (y : SpotStep). stepLeft s y ≤ spotsLeft s c) m (f .left) in omega arith
 
-    -- a field of a sound cursor ends within the limit
-    pub spot-ends : Sound (rec s p w) t c → x .offset + x .size ≤ limit
-    spot-ends d = d .ends (spotOf p x) (subst (λ (l : List Place). List·Memᴰ (spotOf p x) l) (sym (spots-now d)) (List·Memᴰ·head refl))
-
 -- how many fields there can be
 pub spots-few : (s : Str) (c : SpotCursor) → spotsLeft s c ≤ length s + 2
 spots-few s c = go (c .ahead)
@@ -284,14 +352,3 @@ spots-few s c = go (c .ahead)
     go (Front f k) = omega arith
     go (Middle f k) = omega arith
     go (Body k) = omega arith
-
--- for loops over the types: every handle of the table begins with its layout's fields, and sound
-module _ (s p : Str) (y : List ℕ) (table : TypesTable s p y) (i h : ℕ) (inside : i < length y) (e : h ≡ getD y i 0) (c : SpotCursor) (f : TypeSpots s h c) (w : List Scalar) where
-  typed : Typed s h
-  typed = subst (λ (n : ℕ). Typed s n) (sym e) (table .typed i inside)
-
-  pub table-list : placesFrom (rec s p w) c ≡ layoutOf (rec s p w) h .fields
-  table-list = f .list typed p w
-
-  pub table-sound : (t : List ℕ) → SizesTable (rec s p w) t → Exact (rec s p w) → Sound (rec s p w) t c
-  table-sound t = f .sound typed p w t

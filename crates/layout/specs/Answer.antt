@@ -1,4 +1,4 @@
--- 01's answers: number, side, place, length of the text, and the text; and what a call's answer says of one. Assumes nothing.
+-- The answers of 01, What a check returns: number, side, place, length of the text, and the text; and what a call's answer says of one. Assumes nothing.
 use mathlib.Core.Path.{_≡_}
 use mathlib.Core.List.{[]}
 use mathlib.Core.Bool.{cond}
@@ -14,6 +14,7 @@ use Rattle.record.specs.declared.refusal.Refusal.{Refusal}
 use Rattle.layout.specs.Listing.{listOf}
 use Rattle.layout.specs.declared.answer.Answer as D
 
+-- 01: an answer is a number, a side, a place and a message length; with the text to be written
 pub record Answer : Type 0 where
   pub number : ℕ
   pub side : ℕ
@@ -21,7 +22,7 @@ pub record Answer : Type 0 where
   pub len : ℕ
   pub text : Str
 
--- a refused record writes nothing
+-- 01: numbers 1 to 9 write nothing and give length 0
 unfoldable pub refusalOf : Side → Refusal → ℕ → Answer
 refusalOf side n p = record { number = refusalNumber n; side = sideNumber side; place = p; len = 0; text = [] }
 

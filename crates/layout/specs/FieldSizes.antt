@@ -1,4 +1,4 @@
--- The table of the sizes of a record's fields. Assumes nothing.
+-- The code's table of the sizes of a record's fields; a size is shape_size of schema.rs, defined in Shapes of record. Assumes nothing.
 use mathlib.Core.Path.{_≡_}
 use mathlib.Core.List.{List, List·Memᴰ}
 use mathlib.Core.Option.{none}

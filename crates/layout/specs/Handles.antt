@@ -1,4 +1,4 @@
--- A type by a number: the types of a record in flattening order as the places of their commands. Assumes nothing.
+-- A type by a number: the types of a record in flattening order as the places of their commands. The code's way to the layouts of Layout. Assumes nothing.
 use mathlib.Core.List.{List, [], _∷_, _++_}
 use mathlib.Core.Bool.{cond}
 use Prim.Native.Nat.{ℕ, _+_, _-_, _*_, _/_, _%_}
@@ -62,10 +62,7 @@ layoutOf r h = record {
   fields = places (schemaOf r) 0 (handleFields (r .stream) (r .pool) (placePart h));
 }
 
--- the same as the code goes along the stream, from a place on: the commands of one number, which for 8 are the structures, and the families;
--- `family` is one more than the place of the family whose variants may follow, or 0
-unfoldable pub placesFrom : Str → ℕ → ℕ → List ℕ
-placesFrom s b at = listed s anything b (λ at rest. at) (commandsAt s at)
-
+-- the families' handles as the code goes along the stream, from a place on; `family` is one more than the place of the family whose variants may
+-- follow, or 0
 unfoldable pub familiesFrom : Str → ℕ → ℕ → List ℕ
 familiesFrom s family at = cond (eqb family 0) [] (variantHandles s (family - 1) (commandsAt s at)) ++ familyHandles s (commandsAt s at)

@@ -1,4 +1,4 @@
--- Flattening: add_type, variant_name, of_schema and of_released of layout.rs. Both sides are flattened by one function. Assumes nothing.
+-- Flattening: add_type, variant_name, of_schema and of_released of layout.rs, and 01, Flattening. Both sides are flattened by one function. Assumes nothing.
 use mathlib.Core.List.{List, [], _∷_, _++_, map}
 use mathlib.Core.Option.{Option}
 use Rattle.record.specs.Base.{Str, eqs, find}
@@ -24,12 +24,12 @@ layFamily s m = record { name = m .name; fields = places s 0 (prefix m ++ m .com
 unfoldable pub layVariant : Schema → Family → Variant → TypeLayout
 layVariant s m v = record { name = variantName (m .name) (v .disc); fields = places s 0 (v .fields) }
 
--- each family is followed by its variants
+-- each family is followed by its variants: the order of of_schema and of_released
 unfoldable pub layFamilies : Schema → List Family → List TypeLayout
 layFamilies s [] = []
 layFamilies s (m ∷ ms) = layFamily s m ∷ map (layVariant s m) (m .variants) ++ layFamilies s ms
 
--- every layout, families after all structures: the order in which the Rust inserts them
+-- 01: family layouts come after all structs. Every layout, in the order in which the Rust inserts them
 unfoldable pub flattened : Schema → List TypeLayout
 flattened s = map (layStruct s) (s .structs) ++ layFamilies s (s .families)
 

@@ -1,4 +1,4 @@
--- 01's list of a record's layouts: one line a field, types in byte order, fields in record order. Assumes nothing.
+-- The list of a record's layouts, by 01, Flattening: one line a field, types in byte order, fields in record order. Assumes nothing.
 use mathlib.Core.List.{List, [], _∷_, _++_}
 use Rattle.record.specs.Base.{Str, bytes, decimal}
 use Rattle.record.specs.Fill.{joined}
@@ -6,7 +6,7 @@ use Rattle.record.specs.Schema.{Schema}
 use Rattle.record.specs.Shapes.{Place}
 use Rattle.layout.specs.Layout.{TypeLayout, types}
 
--- type name, dot, field name, space, offset, space, size, space, description, line feed
+-- 01: type name, dot, field name, space, offset, space, size, space, description, line feed
 unfoldable pub lineOf : Str → Place → Str
 lineOf t f =
     joined (t ∷ bytes "." ∷ f .name ∷ bytes " " ∷ decimal (f .offset) ∷ bytes " " ∷ decimal (f .size) ∷ bytes " " ∷ f .described ∷ bytes "\n" ∷ [])
@@ -15,7 +15,7 @@ unfoldable pub linesOf : Str → List Place → Str
 linesOf t [] = []
 linesOf t (f ∷ fs) = lineOf t f ++ linesOf t fs
 
--- a type without fields has no line
+-- 01: types without fields have no line
 unfoldable pub linesOfAll : List TypeLayout → Str
 linesOfAll [] = []
 linesOfAll (t ∷ ts) = linesOf (t .name) (t .fields) ++ linesOfAll ts

@@ -1,4 +1,4 @@
--- What the owner call answers: the owner of a name of a current record. Assumes nothing.
+-- What the owner call answers, by 01, What a check returns: the owner of a name of a current record. Assumes nothing.
 use mathlib.Core.Path.{_≡_}
 use Prim.Native.Nat.{ℕ}
 use mathlib.Core.Option.{Option, none, some}
@@ -20,7 +20,7 @@ abbrev pub ownerGiven : Owner → OwnerAnswer
 ownerGiven Nobody = Unowned
 ownerGiven (Owned t) = OwnedBy t
 
--- a record that can't be read answers its refusal, whatever the name
+-- 01: the owner's name as the stretch its root's 08 gives, or none, or the record's refusal
 abbrev pub ownerRead : Rec → Str → Reading → OwnerAnswer
 ownerRead r n (read s) = ownerGiven (ownerAt (r .stream) (r .pool) n)
 ownerRead r n (refuse x p) = Unreadable x p

@@ -1,5 +1,5 @@
 -- Numbers in the byte order of their names: a stable sort by insertion, the merge of two lists, a list taken a stretch at a time, and the
--- last of each run of one name. Assumes nothing.
+-- last of each run of one name. The code's way to the map of Sorted. Assumes nothing.
 use Prim.Native.Nat.{ℕ, zero, suc, _+_, _<_, _≤_}
 use mathlib.Core.Path.{_≡_}
 use mathlib.Core.List.{List, [], _∷_, _++_}

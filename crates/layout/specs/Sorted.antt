@@ -1,4 +1,4 @@
--- A map by name, the Rust's BTreeMap: a list in byte order of names. Of two of one name the later stays. Assumes nothing.
+-- A map by name, the BTreeMap of layout.rs: a list in byte order of names. 01, Flattening: of two of one name the later stays. Assumes nothing.
 use mathlib.Core.List.{List, [], _∷_}
 use mathlib.Core.Bool.{cond}
 use Rattle.record.specs.Base.{Str, eqs, before}

@@ -1,9 +1,10 @@
--- The fields of a type one after the other: what the code's cursor has ahead, and what a step along it answers. Assumes nothing.
+-- The fields of a type one after the other: what the code's cursor has ahead, and what a step along it answers. The fields are add_type and fam_prefix of
+-- layout.rs, defined in Shapes of record. Assumes nothing.
 use mathlib.Core.Path.{_≡_}
 use mathlib.Core.List.{List, [], _∷_, _++_, List·Memᴰ}
 use Prim.Native.Nat.{ℕ, suc, _+_, _-_, _≤_}
 use lib.ListN.{length, drop}
-use Rattle.record.specs.Base.{Str}
+use Rattle.record.specs.Base.{Str, eqs, find}
 use Rattle.record.specs.Stretch.{textOf}
 use Rattle.record.specs.Scalars.{Scalar}
 use Rattle.record.specs.Schema.{Field}
@@ -90,3 +91,9 @@ pub record SpotsFrom (r : Rec) (t : List ℕ) (c : SpotCursor) (step : SpotStep)
 pub record TypeSpots (s : Str) (h : ℕ) (c : SpotCursor) : Type 0 where
   pub list : Typed s h → (p : Str) (w : List Scalar) → placesFrom (rec s p w) c ≡ layoutOf (rec s p w) h .fields
   pub sound : Typed s h → (p : Str) (w : List Scalar) (t : List ℕ) → SizesTable (rec s p w) t → Exact (rec s p w) → Sound (rec s p w) t c
+
+-- the first field of a name from a cursor on is the first from another on, which is not further from the end
+pub record OthersPassed (s p : Str) (t : List ℕ) (n : Str) (c d : SpotCursor) : Type 0 where
+  pub same : (w : List Scalar) → Sound (rec s p w) t c → find (λ (f : Place). eqs (f .name) n) (placesFrom (rec s p w) c) ≡ find (λ (f : Place). eqs (f .name) n) (placesFrom (rec s p w) d)
+  pub sound : (w : List Scalar) → Sound (rec s p w) t c → Sound (rec s p w) t d
+  pub left : spotsLeft s d ≤ spotsLeft s c

@@ -1,4 +1,4 @@
--- The tables of a record that can be read: its types and the sizes of their fields. Assumes nothing.
+-- The code's tables of a record that can be read: its types and the sizes of their fields. Assumes nothing.
 use mathlib.Core.List.{List}
 use Prim.Native.Nat.{ℕ, _≤_}
 use lib.ListN.{length}

@@ -1,7 +1,9 @@
 // The sizes of a record's fields, each computed once, in a table that the caller lends.
-use record::command::Command;
-use record::command::Cursor;
-use record::command::Step;
+use record::command::field_at;
+use record::cut;
+use record::seek::Between;
+use record::seek::Sought;
+use record::seek::seek;
 use record::sizes::shape_size;
 ghost use Prim.Native.Nat.{_/_, _≤_};
 ghost use mathlib.Core.Path.{_≡_};
@@ -36,16 +38,13 @@ pub fn size_before(sizes: &[u64], after: usize) -> u64
 pub fn fill_sizes(rows: &[u8], stream: &[u8], pool: &[u8], sizes: &mut [u64])
     ensures { λ r. ⌜ (length (now (stream .entry)) ≤ 32768 → 993 ≤ length (now (sizes .entry)) → SizesTable (rec (now (stream .entry)) (now (pool .entry)) (scalarsOf (now (rows .entry)))) (now (sizes .exit))) ⌝ }
 {
-    let mut cursor = Cursor::new();
+    let mut at = 0;
     loop {
-        let Step::Next(command, after) = cursor.next(stream) else {
+        let Sought::At(place, after) = seek(stream, at, 11, Between::Anything) else {
             return;
         };
-        if let Command::Field(f) = command {
-            put_size(sizes, after.at, shape_size(rows, stream, pool, f));
-            cursor = after;
-        } else {
-            cursor = after;
-        }
+        let f = field_at(cut::from(stream, place));
+        put_size(sizes, after, shape_size(rows, stream, pool, f));
+        at = after;
     }
 }

@@ -1,13 +1,17 @@
 // The types of a record as numbers, in flattening order: all structures, then each family followed by its variants.
-use record::command::Command;
-use record::command::Cursor;
-use record::command::Step;
 use record::le::byte_at;
+use record::seek::Between;
+use record::seek::Sought;
+use record::seek::after_at;
+use record::seek::passes;
+use record::seek::seek;
 ghost use Prim.Native.Nat.{_+_, _≤_};
 ghost use mathlib.Core.Path.{_≡_};
 ghost use lib.ListN.{length};
 ghost use Rattle.record.specs.Fill.{fronted};
-ghost use Rattle.layout.specs.Handles.{placesFrom, familiesFrom, handlesOf};
+ghost use Rattle.record.specs.Seek.{placesOf};
+ghost use Rattle.record.specs.declared.seek.Between.the-variants.{Anything};
+ghost use Rattle.layout.specs.Handles.{familiesFrom, handlesOf};
 
 // A place as a part of a handle.
 fn narrow(at: usize) -> u32
@@ -20,29 +24,24 @@ fn narrow(at: usize) -> u32
 // The places of the commands of one number at the front of the table, the rest as it was; and how many they are.
 pub(crate) fn fill_places(stream: &[u8], number: u8, out: &mut [u32]) -> usize
     requires { ⌜ (length (now stream) ≤ 32768) × (8192 ≤ length (now out)) ⌝ }
-    ensures { λ r. ⌜ (r ≡ length (placesFrom (now (stream .entry)) number 0)) × (now (out .exit) ≡ fronted (now (out .entry)) (placesFrom (now (stream .entry)) number 0)) × (r ≤ 8192) ⌝ }
+    ensures { λ r. ⌜ (r ≡ length (placesOf (now (stream .entry)) Anything number 0)) × (now (out .exit) ≡ fronted (now (out .entry)) (placesOf (now (stream .entry)) Anything number 0)) × (r ≤ 8192) ⌝ }
 {
-    let mut cursor = Cursor::new();
+    let mut at = 0;
     let mut n = 0;
     loop {
-        let at = cursor.at;
-        let Step::Next(_, after) = cursor.next(stream) else {
+        let Sought::At(place, after) = seek(stream, at, number, Between::Anything) else {
             return n;
         };
-        if byte_at(stream, at) == number {
-            out[n] = narrow(at);
-            n += 1;
-            cursor = after;
-        } else {
-            cursor = after;
-        }
+        out[n] = narrow(place);
+        n += 1;
+        at = after;
     }
 }
 
 // The structures' handles at the front of the table, and how many they are; there is room for the families' after them.
 fn fill_structs(stream: &[u8], out: &mut [u32]) -> usize
     requires { ⌜ (length (now stream) ≤ 32768) × (8192 ≤ length (now out)) ⌝ }
-    ensures { λ r. ⌜ (r ≡ length (placesFrom (now (stream .entry)) 8 0)) × (now (out .exit) ≡ fronted (now (out .entry)) (placesFrom (now (stream .entry)) 8 0)) × (r + length (familiesFrom (now (stream .entry)) 0 0) ≤ 8192) ⌝ }
+    ensures { λ r. ⌜ (r ≡ length (placesOf (now (stream .entry)) Anything 8 0)) × (now (out .exit) ≡ fronted (now (out .entry)) (placesOf (now (stream .entry)) Anything 8 0)) × (r + length (familiesFrom (now (stream .entry)) 0 0) ≤ 8192) ⌝ }
 {
     fill_places(stream, 8, out)
 }
@@ -52,38 +51,34 @@ fn fill_families(stream: &[u8], out: &mut [u32]) -> usize
     requires { ⌜ (length (now stream) ≤ 32768) × (length (familiesFrom (now stream) 0 0) ≤ length (now out)) ⌝ }
     ensures { λ r. ⌜ (r ≡ length (familiesFrom (now (stream .entry)) 0 0)) × (now (out .exit) ≡ fronted (now (out .entry)) (familiesFrom (now (stream .entry)) 0 0)) ⌝ }
 {
-    let mut cursor = Cursor::new();
+    let mut at = 0;
     let mut family: u32 = 0;
     let mut n = 0;
     loop {
-        let at = cursor.at;
-        let Step::Next(command, after) = cursor.next(stream) else {
+        let after = after_at(stream, at);
+        if after == 0 {
             return n;
-        };
-        match command {
-            Command::Family(_) => {
-                let place = narrow(at);
-                family = place + 1;
-                out[n] = place;
+        }
+        let byte = byte_at(stream, at);
+        if byte == 9 {
+            let place = narrow(at);
+            family = place + 1;
+            out[n] = place;
+            n += 1;
+            at = after;
+        } else if byte == 10 {
+            if family == 0 {
+                at = after;
+            } else {
+                out[n] = 65536 * family + narrow(at);
                 n += 1;
-                cursor = after;
+                at = after;
             }
-            Command::Variant(_) => {
-                if family == 0 {
-                    cursor = after;
-                } else {
-                    out[n] = 65536 * family + narrow(at);
-                    n += 1;
-                    cursor = after;
-                }
-            }
-            Command::Field(_) | Command::PluginKey(_) => {
-                cursor = after;
-            }
-            _ => {
-                family = 0;
-                cursor = after;
-            }
+        } else if passes(Between::Fields, byte) {
+            at = after;
+        } else {
+            family = 0;
+            at = after;
         }
     }
 }

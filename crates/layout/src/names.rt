@@ -1,6 +1,4 @@
 // The names of types: by their handles, with their byte order, and as texts. A name in parts is a front, up to two colons and a back.
-use crate::words::skip;
-use crate::words::text_before;
 use record::cut::from;
 use record::le::byte_at;
 use record::operands::OptText;
@@ -8,6 +6,8 @@ use record::operands::text_at;
 use record::text::Text;
 use record::text::bytes_of;
 use record::text::same;
+use record::words::skip;
+use record::words::text_before;
 use record::writer::put_text;
 use record::writer::put_worded;
 ghost use Prim.Native.Nat.{_+_, _≤_};

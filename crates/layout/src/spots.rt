@@ -1,30 +1,38 @@
 // The fields of a type one after the other, each with its offset and its size: add_type and fam_prefix of layout.rs.
 use crate::field_sizes::size_before;
+use crate::names::name_at;
 use crate::names::place_part;
 use record::command::Command;
 use record::command::Cursor;
 use record::command::Family;
-use record::command::Parent;
 use record::command::Step;
 use record::describe::Description;
 use record::describe::shape_type;
 use record::kind::is_padding;
 use record::kind::kind_of;
+use record::le::byte_at;
 use record::lists::FieldStep;
 use record::lists::next_field;
 use record::operands::OptText;
+use record::reader::command_at;
+use record::seek::Between;
+use record::seek::Sought;
+use record::seek::after_at;
+use record::seek::seek;
 use record::sizes::enum_bytes;
 use record::sizes::scalar_bytes;
 use record::sizes::sum;
 use record::sizes::wide;
 use record::text::Text;
 use record::text::bytes_of;
+use record::text::same;
 ghost use mathlib.Core.List.{List};
 ghost use Prim.Native.Nat.{ℕ};
 ghost use Rattle.record.specs.Base.{Str};
 ghost use Rattle.record.specs.Scalars.{Scalar, scalarsOf};
+ghost use Rattle.record.specs.Commands.{place};
 ghost use Rattle.record.specs.Reading.{rec};
-ghost use Rattle.layout.specs.Spots.{cursorAt, SpotsFrom, TypeSpots};
+ghost use Rattle.layout.specs.Spots.{cursorAt, SpotsFrom, TypeSpots, OthersPassed};
 
 // A field of a type: where it is and how it reads.
 pub struct Spot {
@@ -53,18 +61,21 @@ pub enum SpotStep {
     ASpot(Spot, SpotCursor),
 }
 
-// The front of a type, by its handle.
+// The front of a type, by its handle. Of a number that is no type's handle the contract asks nothing.
 pub fn first_spot(stream: &[u8], handle: u32) -> SpotCursor
     ensures { λ r. ⌜ TypeSpots (now (stream .entry)) handle r ⌝ }
 {
-    let here = Cursor {
-        at: place_part(handle),
-        last: 0,
-        parent: Parent::NoParent,
-    };
-    let Step::Next(command, after) = here.next(stream) else {
+    let at = place_part(handle);
+    // Only a family's command has to be read whole.
+    if byte_at(stream, at) != 9 {
         return SpotCursor {
-            ahead: Ahead::Body(here),
+            ahead: Ahead::Body(Cursor::place(after_at(stream, at))),
+            offset: 0,
+        };
+    }
+    let Step::Next(command, after) = command_at(stream, at) else {
+        return SpotCursor {
+            ahead: Ahead::Body(Cursor::new()),
             offset: 0,
         };
     };
@@ -160,4 +171,52 @@ fn field_spot(stream: &[u8], pool: &[u8], sizes: &[u64], k: Cursor, offset: u64)
             offset: sum(offset, size),
         },
     )
+}
+
+// The fields from a cursor on without those at their front that have another name; a family's front is not passed over.
+pub fn pass_others(
+    stream: &[u8],
+    pool: &[u8],
+    sizes: &[u64],
+    c: SpotCursor,
+    name: &[u8],
+) -> SpotCursor
+    ensures { λ r. ⌜ OthersPassed (now (stream .entry)) (now (pool .entry)) (now (sizes .entry)) (now (name .entry)) c r ⌝ }
+{
+    let ahead = c.ahead;
+    let Ahead::Body(k) = ahead else {
+        return c;
+    };
+    pass_fields(stream, pool, sizes, k.at, c.offset, name)
+}
+
+// The same from a place on, by the names alone: what a field has beside its name is not read.
+fn pass_fields(
+    stream: &[u8],
+    pool: &[u8],
+    sizes: &[u64],
+    from: usize,
+    start: u64,
+    name: &[u8],
+) -> SpotCursor
+    ensures { λ r. ⌜ OthersPassed (now (stream .entry)) (now (pool .entry)) (now (sizes .entry)) (now (name .entry)) (cursorAt (Ahead.Body (place from)) start) r ⌝ }
+{
+    let mut at = from;
+    let mut offset = start;
+    loop {
+        let Sought::At(here, after) = seek(stream, at, 11, Between::Keys) else {
+            return SpotCursor {
+                ahead: Ahead::Body(Cursor::place(at)),
+                offset,
+            };
+        };
+        if same(name_at(stream, pool, here), name) {
+            return SpotCursor {
+                ahead: Ahead::Body(Cursor::place(at)),
+                offset,
+            };
+        }
+        offset = sum(offset, size_before(sizes, after));
+        at = after;
+    }
 }

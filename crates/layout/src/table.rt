@@ -1,4 +1,5 @@
 // The sorted table of a record's types, and look-ups by name in it.
+use crate::fronts::fill_fronts;
 use crate::handles::fill_handles;
 use crate::names::TypeName;
 use crate::names::back;
@@ -10,21 +11,64 @@ use crate::sort::keep_last;
 use crate::sort::sort_handles;
 use record::operands::OptText;
 use record::text::bytes_of;
-ghost use Prim.Native.Nat.{_≤_};
+ghost use Prim.Native.Nat.{_≤_, _<_};
 ghost use mathlib.Core.Path.{_≡_};
 ghost use lib.ListN.{length, take};
 ghost use Rattle.layout.specs.Handles.{typeName};
+ghost use Rattle.layout.specs.Fronts.{Fronts};
 ghost use Rattle.layout.specs.Names.{joined, Parts, nameOf};
 ghost use Rattle.layout.specs.Sort.{arranged, lasts};
 ghost use Rattle.layout.specs.Table.{TypesTable, FoundType};
 
 // Handles in byte order of their names, the last of each name at the front; and how many those are.
+fn arrange_by(
+    stream: &[u8],
+    pool: &[u8],
+    fronts: &[u64],
+    handles: &mut [u32],
+    scratch: &mut [u32],
+) -> usize
+    requires { ⌜ (length (now scratch) ≡ length (now handles)) × (length (now handles) ≤ 65536) × Fronts (now stream) (now pool) (now fronts) ⌝ }
+    ensures { λ r. ⌜ (take r (now (handles .exit)) ≡ lasts (typeName (now (stream .entry)) (now (pool .entry))) (arranged (typeName (now (stream .entry)) (now (pool .entry))) (now (handles .entry)))) × (r ≤ length (now (handles .entry))) ⌝ }
+{
+    sort_handles(stream, pool, fronts, handles, scratch);
+    keep_last(stream, pool, fronts, handles)
+}
+
+// The same, by the fronts of their names in a lent table.
+fn arrange_lent(
+    stream: &[u8],
+    pool: &[u8],
+    fronts: &mut [u64],
+    handles: &mut [u32],
+    scratch: &mut [u32],
+) -> usize
+    requires { ⌜ (length (now scratch) ≡ length (now handles)) × (length (now handles) ≤ 65536) ⌝ }
+    ensures { λ r. ⌜ (take r (now (handles .exit)) ≡ lasts (typeName (now (stream .entry)) (now (pool .entry))) (arranged (typeName (now (stream .entry)) (now (pool .entry))) (now (handles .entry)))) × (r ≤ length (now (handles .entry))) ⌝ }
+{
+    fill_fronts(stream, pool, handles, fronts);
+    arrange_by(stream, pool, fronts, handles, scratch)
+}
+
+// The same, with a table that stands in this call.
+fn arrange_many(stream: &[u8], pool: &[u8], handles: &mut [u32], scratch: &mut [u32]) -> usize
+    requires { ⌜ (length (now scratch) ≡ length (now handles)) × (length (now handles) ≤ 65536) ⌝ }
+    ensures { λ r. ⌜ (take r (now (handles .exit)) ≡ lasts (typeName (now (stream .entry)) (now (pool .entry))) (arranged (typeName (now (stream .entry)) (now (pool .entry))) (now (handles .entry)))) × (r ≤ length (now (handles .entry))) ⌝ }
+{
+    let mut fronts = [0u64; 8192];
+    arrange_lent(stream, pool, &mut fronts, handles, scratch)
+}
+
+// The same; for a few names a table costs more than it saves.
 pub(crate) fn arrange(stream: &[u8], pool: &[u8], handles: &mut [u32], scratch: &mut [u32]) -> usize
     requires { ⌜ (length (now scratch) ≡ length (now handles)) × (length (now handles) ≤ 65536) ⌝ }
     ensures { λ r. ⌜ (take r (now (handles .exit)) ≡ lasts (typeName (now (stream .entry)) (now (pool .entry))) (arranged (typeName (now (stream .entry)) (now (pool .entry))) (now (handles .entry)))) × (r ≤ length (now (handles .entry))) ⌝ }
 {
-    sort_handles(stream, pool, handles, scratch);
-    keep_last(stream, pool, handles)
+    if 64 <= handles.len() {
+        return arrange_many(stream, pool, handles, scratch);
+    }
+    let mut fronts = [0u64; 1];
+    arrange_lent(stream, pool, &mut fronts, handles, scratch)
 }
 
 // The table of a record's types at the front of `types`; and how many they are.
@@ -47,19 +91,52 @@ pub enum TypeFound {
     At(usize),
 }
 
-// The type of a name in parts.
-fn find_parts(stream: &[u8], pool: &[u8], types: &[u32], f: &[u8], k: usize, b: &[u8]) -> TypeFound
+// Where to look next between two indexes: at the one that is thought near, while it lies there and may be tried, else in the middle.
+fn look_at(lo: usize, hi: usize, near: usize, tries: usize) -> usize
+    requires { ⌜ lo < hi ⌝ }
+    ensures { λ r. ⌜ (lo ≤ r) × (r < hi) ⌝ }
+{
+    if 0 < tries {
+        if lo <= near {
+            if near < hi {
+                return near;
+            }
+        }
+    }
+    lo + (hi - lo) / 2
+}
+
+// One less, and 0 of none.
+fn less_one(n: usize) -> usize {
+    if n == 0 { 0 } else { n - 1 }
+}
+
+// The type of a name in parts. It is thought to be near an index: there and beside it is looked first, so a right thought takes two looks.
+fn find_parts(
+    stream: &[u8],
+    pool: &[u8],
+    types: &[u32],
+    f: &[u8],
+    k: usize,
+    b: &[u8],
+    near: usize,
+) -> TypeFound
     requires { ⌜ TypesTable (now stream) (now pool) (now types) × Parts (now f) k (now b) ⌝ }
     ensures { λ r. ⌜ FoundType (now (stream .entry)) (now (pool .entry)) (now (types .entry)) (joined (now (f .entry)) k (now (b .entry))) r ⌝ }
 {
     let mut lo = 0;
     let mut hi = types.len();
+    let mut next = near;
+    let mut tries = 2;
     while lo < hi {
-        let mid = lo + (hi - lo) / 2;
-        if type_under(stream, pool, types[mid], f, k, b) {
-            lo = mid + 1;
+        let at = look_at(lo, hi, next, tries);
+        tries = less_one(tries);
+        if type_under(stream, pool, types[at], f, k, b) {
+            lo = at + 1;
+            next = lo;
         } else {
-            hi = mid;
+            hi = at;
+            next = less_one(at);
         }
     }
     if types.len() <= lo {
@@ -76,10 +153,10 @@ fn find_type(stream: &[u8], pool: &[u8], types: &[u32], name: &[u8]) -> TypeFoun
     requires { ⌜ TypesTable (now stream) (now pool) (now types) ⌝ }
     ensures { λ r. ⌜ FoundType (now (stream .entry)) (now (pool .entry)) (now (types .entry)) (now (name .entry)) r ⌝ }
 {
-    find_parts(stream, pool, types, name, 0, &name[..0])
+    find_parts(stream, pool, types, name, 0, &name[..0], 0)
 }
 
-// The type that has the name of another record's type.
+// The type that has the name of another record's type; where it is thought to be changes nothing but the time.
 pub fn find_same(
     stream: &[u8],
     pool: &[u8],
@@ -87,13 +164,14 @@ pub fn find_same(
     past: &[u8],
     old: &[u8],
     handle: u32,
+    near: usize,
 ) -> TypeFound
     requires { ⌜ TypesTable (now stream) (now pool) (now types) ⌝ }
     ensures { λ r. ⌜ FoundType (now (stream .entry)) (now (pool .entry)) (now (types .entry)) (typeName (now (past .entry)) (now (old .entry)) handle) r ⌝ }
 {
     let f = front(past, old, handle);
     let b = back(past, old, handle);
-    find_parts(stream, pool, types, f, colons(handle), b)
+    find_parts(stream, pool, types, f, colons(handle), b, near)
 }
 
 // The type of a name whose texts are in a pool.
@@ -113,5 +191,5 @@ pub fn find_named(
     let OptText::Given(own) = back else {
         return find_type(stream, pool, types, f);
     };
-    find_parts(stream, pool, types, f, 2, bytes_of(texts, own))
+    find_parts(stream, pool, types, f, 2, bytes_of(texts, own), 0)
 }

@@ -1,5 +1,5 @@
 -- The cases of each definition, as the code's branches need them.
-use Prim.Native.Nat.{ℕ, _+_, _-_, _≤_, _<_}
+use Prim.Native.Nat.{ℕ, _+_, _*_, _-_, _≤_, _<_}
 use mathlib.Core.List.{List, []}
 use mathlib.Core.Option.{none}
 use mathlib.Core.Path.{_≡_, sym}
@@ -22,6 +22,10 @@ module _ (s : List ℕ) (at : ℕ) where
   pub text-here : (a b : ℕ) → a ≡ u16At s at → b ≡ getD s (at + 2) 0 → _≡_ {A = Text} (record { start = a; len = b }) (textAt s at)
   unfolding textAt
   text-here a b p q = cc
+
+  pub text-whole : (a b : ℕ) → a ≡ getD s at 0 + 256 * getD s (at + 1) 0 → b ≡ getD s (at + 2) 0 → _≡_ {A = Text} (record { start = a; len = b }) (textAt s at)
+  unfolding u16At
+  text-whole a b p q = text-here a b p q
 
   pub text-past : length s ≤ at → _≡_ {A = Text} (record { start = 0; len = 0 }) (textAt s at)
   text-past h = text-here 0 0 (sym (u16-past s at h)) (sym (u8-past s (at + 2) (omega arith)))
@@ -50,7 +54,7 @@ module _ (s : List ℕ) (at : ℕ) where
   unfolding optNumberAt
   number-past h = rw (u8-past s at h)
 
-pub ruleset operand-laws = (text-here, text-past, opt-absent, opt-long, opt-given, number-here, number-none, number-past)
+pub ruleset operand-laws = (text-here, text-whole, text-past, opt-absent, opt-long, opt-given, number-here, number-none, number-past)
 
 -- a number that is none of the commands'
 pub none-operands : (b : ℕ) → (b ≡ 1 → ⊥) → (b ≡ 2 → ⊥) → (b ≡ 3 → ⊥) → (b ≡ 4 → ⊥) → (b ≡ 5 → ⊥) → (b ≡ 6 → ⊥) → (b ≡ 7 → ⊥) → (b ≡ 8 → ⊥) → (b ≡ 9 → ⊥) → (b ≡ 10 → ⊥) → (b ≡ 11 → ⊥) → (b ≡ 12 → ⊥) → (b ≡ 13 → ⊥) → (b ≡ 14 → ⊥) → (b ≡ 15 → ⊥) → operands b ≡ none

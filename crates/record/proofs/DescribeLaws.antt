@@ -102,16 +102,6 @@ pub described-keyless : (p : Str) (f : D.Field.Field) (k : Option Key) → shape
 unfolding shapeType
 described-keyless p f k = ap (λ (r : Str). textOf p (f .kind) ++ r) (rest-keyless (kindOf (textOf p (f .kind))) p f k)
 
--- a family's front -------------------------------------------------------------------------------------------------------
-
-pub discriminant-described : (p n : Str) (t : Text) → describedAs p (Discriminant t) ≡ shapeType (plain n (bytes "enum") (textOf p t))
-unfolding shapeType plain restAs named spaced orOption kindOf meaning words eqs bytes
-discriminant-described p n t = refl
-
-pub length-described : (p n : Str) (o : OptText) → describedAs p (Length o) ≡ shapeType (plain n (bytes "scalar") (orElse (optOf p o) (bytes "u8")))
-unfolding shapeType plain restAs named spaced orOption kindOf meaning words eqs bytes
-length-described p n o = refl
-
 -- puts -------------------------------------------------------------------------------------------------------------------
 
 module _ (p : Str) {out after : Str} {at r : ℕ} where

@@ -1,6 +1,6 @@
 -- The laws that every list of a record shares: what one step along the stream says of the list from there on. Assumes nothing.
-use mathlib.Core.Path.{_≡_, refl, sym, ap, _∙_}
-use mathlib.Core.List.{List, [], _∷_, List·Memᴰ}
+use mathlib.Core.Path.{_≡_, refl, sym, ap, ap₂, _∙_}
+use mathlib.Core.List.{List, [], _∷_, map}
 use mathlib.Core.Option.{Option, none, some}
 use mathlib.Core.Bool.{Bool, true, false, cond}
 use Prim.Native.Nat.{ℕ, suc, _-_, _≤_}
@@ -20,7 +20,7 @@ use Rattle.record.specs.declared.command.Step.the-variants.{Next, Stop}
 use Rattle.record.proofs.command.Command.{the-type}
 use Rattle.record.proofs.CommandLaws.{none-width}
 use Rattle.record.proofs.Tags.{absent, not-one-of}
-use Rattle.record.proofs.Stream.{step-found, commands-stop, commands-next, commands-later}
+use Rattle.record.proofs.Stream.{step-found, along, commands-stop, commands-next}
 
 -- a command's number
 abbrev pub byteOf : Command → ℕ
@@ -110,19 +110,21 @@ module _ {A : Type 0} (s : List ℕ) (over : ℕ → Bool) (b : ℕ) (f : ℕ �
     unfolding listed
     listed-end h o = rw (commands-next s at c k e, byte-is s at c k e, ne-eqb (byteOf c) b h, o)
 
--- a list goes on as it is from one place to a later one
-pub record Onward {A : Type 0} (f : Str → Str → ℕ → List A) (s : Str) (a b : ℕ) : Type 0 where
-  pub same : (p : Str) → f s p a ≡ f s p b
-  pub on : length s - b ≤ length s - a
-  pub later : (v : ℕ) → List·Memᴰ v (commandsAt s b) → List·Memᴰ v (commandsAt s a)
-
-pub onward-here : {A : Type 0} (f : Str → Str → ℕ → List A) (s : Str) (a : ℕ) → Onward f s a a
-onward-here f s a = record { same = λ p. refl; on = omega arith; later = λ v m. m }
-
--- what comes after a command that is passed over
-pub onward-later : {A : Type 0} (f : Str → Str → ℕ → List A) (s : Str) (a at : ℕ) → Onward f s a at → (c : Command) (k : Cursor) → stepAt s at ≡ Next c k
-    → (v : ℕ) → List·Memᴰ v (commandsAt s (k .at)) → List·Memᴰ v (commandsAt s a)
-onward-later f s a at o c k e v m = o .later v (commands-later s at c k e v m)
+-- two lists of one number whose elements give the same
+module _ {A B C : Type 0} (s : List ℕ) (over : ℕ → Bool) (b : ℕ) (f : ℕ → List ℕ → A) (g : ℕ → List ℕ → B) (x : A → C) (y : B → C)
+    (same : (at : ℕ) (c : Command) (k : Cursor) → stepAt s at ≡ Next c k → getD s at 0 ≡ b → x (f at (commandsAt s (k .at))) ≡ y (g at (commandsAt s (k .at)))) where
+  pub listed-same : (at : ℕ) → map x (listed s over b f (commandsAt s at)) ≡ map y (listed s over b g (commandsAt s at))
+  listed-same =
+      along s (λ (at : ℕ). map x (listed s over b f (commandsAt s at)) ≡ map y (listed s over b g (commandsAt s at)))
+      (λ at e. rw (listed-stop s over b f at e, listed-stop s over b g at e)) (λ at c k e ih. go at c k e ih (eqb (byteOf c) b) (over (byteOf c)) refl refl)
+    where
+      go : (at : ℕ) (c : Command) (k : Cursor) → stepAt s at ≡ Next c k → map x (listed s over b f (commandsAt s (k .at))) ≡ map y (listed s over b g (commandsAt s (k .at)))
+          → (t o : Bool) → eqb (byteOf c) b ≡ t → over (byteOf c) ≡ o → map x (listed s over b f (commandsAt s at)) ≡ map y (listed s over b g (commandsAt s at))
+      go at c k e ih true o p q =
+          let h = eqb-true (byteOf c) b p in
+          rw (listed-here s over b f at c k e h, listed-here s over b g at c k e h) (ap₂ (λ (z : C) (l : List C). z ∷ l) (same at c k e (byte-is s at c k e ∙ h)) ih)
+      go at c k e ih false true p q = let h = eqb-false (byteOf c) b p in rw (listed-over s over b f at c k e h q, listed-over s over b g at c k e h q) ih
+      go at c k e ih false false p q = let h = eqb-false (byteOf c) b p in rw (listed-end s over b f at c k e h q, listed-end s over b g at c k e h q)
 
 -- a list's first element that passes a test
 module _ {A : Type 0} (q : A → Bool) (l : List A) where

@@ -5,41 +5,37 @@ use mathlib.Core.Option.{Option, none, some}
 use mathlib.Core.Bool.{Bool, true, false, _||_, cond, false≢true}
 use Prim.Native.Nat.{ℕ, suc, _+_, _-_, _≤_, _<_}
 use native.Mathlib.Omega.{arith}
-use types.Run.{OneOf}
-use denote.Enum.Declared.{tagOf}
 use lib.ListN.{length, getD, drop}
-use lib.Dec.{T, eqb}
-use borrow.Author.Tests.{eqb-true, ne-eqb}
-use Rattle.record.specs.Base.{Str, first}
+use lib.Dec.{eqb}
+use borrow.Author.Tests.{eqb-true}
+use Rattle.record.specs.Base.{Str, bytes, first}
 use Rattle.record.specs.Stretch.{textOf}
 use Rattle.record.specs.Schema.{Field, Struct, Family}
-use Rattle.record.specs.Commands.{start, stepAt, commandsAt, fieldAt, variantAt}
-use Rattle.record.specs.Lists.{optOf, fieldOf, variantOf, listed, keys, fields, variants}
-use Rattle.record.specs.Steps.{keysAt, fieldsAt, structsAt, variantsAt, familiesAt, structIn, structFound, familyIn, familyFound}
+use Rattle.record.specs.Commands.{operands, wide, widths, widthWith, widthOf, start, place, commandsAt, fieldAt, variantAt}
+use Rattle.record.specs.Lists.{aVariant, optOf, fieldOf, variantOf, listed, keys, fields, variants}
+use Rattle.record.specs.Steps.{keysAt, fieldKeyAt, fieldsAt, structsAt, variantsAt, familiesAt, structIn, structFound, familyIn, familyFound}
+use Rattle.record.specs.Seek.{SoughtFrom}
 use Rattle.record.specs.Owner.{Types, referenced, hasSlot, variantFields, fieldsIn, typeFields}
 use Rattle.record.specs.References.{typesAt, Refers}
-use Rattle.record.specs.Marks.{aVariant, between, bodyAt, bodyLeft, PlacesFrom, referenceAt, entered, targetAt}
+use Rattle.record.specs.Marks.{between, bodyAt, bodyLeft, PlacesFrom, referenceAt, entered, targetAt}
 use Rattle.record.specs.declared.text.Text.{Text}
 use Rattle.record.specs.declared.operands.OptText.{OptText}
 use Rattle.record.specs.declared.operands.OptText.the-variants.{Absent, Given}
 use Rattle.record.specs.declared.command as D
 use Rattle.record.specs.declared.command.Cursor.{Cursor}
-use Rattle.record.specs.declared.command.Command.{Command}
-use Rattle.record.specs.declared.command.Command.the-variants as C
-use Rattle.record.specs.declared.command.Step.{Step}
-use Rattle.record.specs.declared.command.Step.the-variants.{Next, Stop}
+use Rattle.record.specs.declared.seek.Between.{Between}
+use Rattle.record.specs.declared.seek.Sought.{Sought}
+use Rattle.record.specs.declared.seek.Sought.the-variants.{Nowhere, At}
 use Rattle.record.specs.declared.lists.StructStep.{StructStep}
 use Rattle.record.specs.declared.lists.StructStep.the-variants.{NoStruct, AStruct}
 use Rattle.record.specs.declared.lists.FamilyStep.{FamilyStep}
 use Rattle.record.specs.declared.lists.FamilyStep.the-variants.{NoFamily, AFamily}
 use Rattle.record.specs.declared.marks.PlaceStep.{PlaceStep}
 use Rattle.record.specs.declared.marks.PlaceStep.the-variants.{NoPlace, APlace}
-use Rattle.record.proofs.command.Command.{the-type}
 use Rattle.record.proofs.CommandLaws.{step-end}
-use Rattle.record.proofs.Tags.{absent}
-use Rattle.record.proofs.Stream.{step-found, commands-stop}
+use Rattle.record.proofs.Stream.{commands-stop}
 use Rattle.record.proofs.ReferenceLaws.{struct-at-front}
-use Rattle.record.proofs.ListLaws.{byteOf, other, listed-stop, listed-here, listed-over, listed-end, Onward, onward-later}
+use Rattle.record.proofs.SeekLaws.{sought-stands, sought-nearer, listed-none, listed-some}
 
 -- where the fields begin -------------------------------------------------------------------------------------------------
 
@@ -87,64 +83,37 @@ module _ (s p n : Str) (o : Cursor) (front : o ≡ start) (r : StructStep) (foun
     unfolding typeFields fieldsIn bodyAt fieldsAt variantsAt one
     body-family e k g = rw (struct-at, m, family-at, g) (family-fields s p (commandsAt s (k .at)))
 
-    pub body-none : q ≡ NoFamily → typeFields (typesAt s p) n ≡ bodyAt false s p (length s)
+    pub body-none : (c : Cursor) → c ≡ place (length s) → q ≡ NoFamily → typeFields (typesAt s p) n ≡ bodyAt false s p (c .at)
     unfolding typeFields fieldsIn bodyAt listed
-    body-none g = rw (struct-at, m, family-at, g, commands-stop s (length s) (sym (step-end s (length s) (omega arith))))
+    body-none c h g = rw (h, struct-at, m, family-at, g, commands-stop s (length s) (sym (step-end s (length s) (omega arith))))
 
 pub ruleset body-laws = (body-struct, body-family, body-none)
 
 -- a step -----------------------------------------------------------------------------------------------------------------
 
-none-between : (f : Bool) (n : ℕ) → (n ≡ 10 → ⊥) → (n ≡ 12 → ⊥) → between f n ≡ false
-none-between true n v k = rw (ne-eqb n 10 v, ne-eqb n 12 k)
-none-between false n v k = ne-eqb n 12 k
+module _ (f : Bool) (s : Str) (at : ℕ) (o : Between) (u : o ≡ between f) (r : Sought) (i : SoughtFrom s o 11 at r) where
+  body-from : SoughtFrom s (between f) 11 at r
+  body-from = subst (λ (x : Between). SoughtFrom s x 11 at r) u i
 
-module _ (f : Bool) (s : Str) (a at : ℕ) (o : Onward (bodyAt f) s a at) (r : Step) (i : r ≡ stepAt s at) where
-  pub place-end : r ≡ Stop → PlacesFrom f s a NoPlace
+  pub place-end : r ≡ Nowhere → PlacesFrom f s at NoPlace
   unfolding bodyAt
-  place-end m = record { list = λ p. o .same p ∙ listed-stop s (between f) 11 _ at (sym i ∙ m); left = omega arith; within = omega arith }
+  place-end m = record { list = λ p. listed-none s (between f) 11 _ at r body-from m; left = omega arith; within = omega arith }
 
-  module _ (c : Command) (k : Cursor) (m : r ≡ Next c k) where
-    pass : (byteOf c ≡ 11 → ⊥) → between f (byteOf c) ≡ true → Onward (bodyAt f) s a (k .at)
-    unfolding bodyAt
-    pass h b =
-        let g = step-found s at c k (sym i ∙ m) in
-        let near = o .on in
-        let on = g .on in
-        record { same = λ p. o .same p ∙ listed-over s (between f) 11 _ at c k (sym i ∙ m) h b; on = omega arith; later = onward-later (bodyAt f) s a at o c k (sym i ∙ m) }
+  pub place-found : (a k : ℕ) (c : Cursor) → r ≡ At a k → c ≡ place k → PlacesFrom f s at (APlace a c)
+  unfolding bodyAt keysAt widthOf widthWith operands widths wide bytes
+  place-found a k c m g =
+      let h = sought-stands s o 11 at r i a k m in
+      let w : k ≡ a + 33 = h .after in
+      let near = sought-nearer s o 11 at r i a k m in
+      let inside = h .within in
+      let q : c .at ≡ k = ap (λ (x : Cursor). x .at) g in
+      record {
+        list = λ p. listed-some s (between f) 11 _ at r body-from a k m ∙ ap (λ (j : ℕ). fieldOf p (fieldAt (drop a s)) (fieldKeyAt s p j) ∷ bodyAt f s p j) (sym q);
+        left = omega arith;
+        within = omega arith;
+      }
 
-    finish : (byteOf c ≡ 11 → ⊥) → between f (byteOf c) ≡ false → PlacesFrom f s a NoPlace
-    unfolding bodyAt
-    finish h b = record { list = λ p. o .same p ∙ listed-end s (between f) 11 _ at c k (sym i ∙ m) h b; left = omega arith; within = omega arith }
-
-    pub place-found : (e : D.Field.Field) → c ≡ C.Field e → PlacesFrom f s a (APlace at k)
-    unfolding bodyAt keysAt
-    place-found e h =
-        let g = step-found s at c k (sym i ∙ m) in
-        let on = g .on in
-        let within = g .within in
-        let near = o .on in
-        record { list = λ p. o .same p ∙ listed-here s (between f) 11 _ at c k (sym i ∙ m) (ap byteOf h); left = omega arith; within = omega arith }
-
-    pub place-key : (e : D.PluginKey.PluginKey) → c ≡ C.PluginKey e → Onward (bodyAt f) s a (k .at)
-    place-key e h = pass (λ z. let y = ap byteOf h in omega arith) (ap (λ (x : Command). between f (byteOf x)) h ∙ passes f)
-      where
-        passes : (x : Bool) → between x 12 ≡ true
-        passes true = refl
-        passes false = refl
-
-    pub place-variant : (e : D.Variant.Variant) → c ≡ C.Variant e → f ≡ true → Onward (bodyAt f) s a (k .at)
-    place-variant e h t = pass (λ z. let y = ap byteOf h in omega arith) (ap (λ (x : Command). between f (byteOf x)) h ∙ ap (λ (x : Bool). between x 10) t)
-
-    pub place-ends : (e : D.Variant.Variant) → c ≡ C.Variant e → f ≡ false → PlacesFrom f s a NoPlace
-    place-ends e h t = finish (λ z. let y = ap byteOf h in omega arith) (ap (λ (x : Command). between f (byteOf x)) h ∙ ap (λ (x : Bool). between x 10) t)
-
-    pub place-over : OneOf (0 ∷ 1 ∷ 2 ∷ 3 ∷ 4 ∷ 5 ∷ 6 ∷ 7 ∷ 8 ∷ 12 ∷ 13 ∷ []) (tagOf the-type c) → PlacesFrom f s a NoPlace
-    place-over h =
-        let not : (j : ℕ) → T (absent (0 ∷ 1 ∷ 2 ∷ 3 ∷ 4 ∷ 5 ∷ 6 ∷ 7 ∷ 8 ∷ 12 ∷ 13 ∷ []) j) → byteOf c ≡ suc j → ⊥ = λ j t. other (0 ∷ 1 ∷ 2 ∷ 3 ∷ 4 ∷ 5 ∷ 6 ∷ 7 ∷ 8 ∷ 12 ∷ 13 ∷ []) j c t h in
-        finish (not 10 tt) (none-between f (byteOf c) (not 9 tt) (not 11 tt))
-
-pub ruleset place-laws = (place-end, place-found, place-key, place-variant, place-ends, place-over)
+pub ruleset place-laws = (place-end, place-found)
 
 -- the cursor moves on
 pub places-nearer : (f : Bool) (s : Str) (at : ℕ) (r : PlaceStep) → PlacesFrom f s at r → (q : ℕ) (k : Cursor) → r ≡ APlace q k → length s - k .at < length s - at

@@ -12,8 +12,9 @@ use Rattle.record.specs.Base.{Str, eqs, isText, isSome}
 use Rattle.record.specs.Stretch.{textOf}
 use Rattle.record.specs.Schema.{Field, Key, Struct}
 use Rattle.record.specs.Kind.{kindOf}
-use Rattle.record.specs.Commands.{start, stepAt, commandOf, structAt}
-use Rattle.record.specs.Lists.{optOf, fieldOf, structOf, anything}
+use Rattle.record.specs.Commands.{start, place, structAt}
+use Rattle.record.specs.Lists.{optOf, fieldOf, structOf}
+use Rattle.record.specs.Seek.{SoughtFrom}
 use Rattle.record.specs.Steps.{structsAt, fieldsAt, structIn, structFound}
 use Rattle.record.specs.Owner.{referenced, referencedAs, structInSlot, slotted, hasSlot}
 use Rattle.record.specs.References.{typesAt, Refers, slotIn, structCommandsAt, commandInSlot, InSlot}
@@ -24,16 +25,15 @@ use Rattle.record.specs.declared.kind.Kind.{Kind}
 use Rattle.record.specs.declared.kind.Kind.the-variants as K
 use Rattle.record.specs.declared.command as D
 use Rattle.record.specs.declared.command.Cursor.{Cursor}
-use Rattle.record.specs.declared.command.Command.{Command}
-use Rattle.record.specs.declared.command.Command.the-variants as C
-use Rattle.record.specs.declared.command.Step.{Step}
-use Rattle.record.specs.declared.command.Step.the-variants.{Next, Stop}
+use Rattle.record.specs.declared.seek.Between.the-variants.{Anything}
+use Rattle.record.specs.declared.seek.Sought.{Sought}
+use Rattle.record.specs.declared.seek.Sought.the-variants.{Nowhere, At}
 use Rattle.record.specs.declared.lists.StructStep.{StructStep}
 use Rattle.record.specs.declared.lists.StructStep.the-variants.{NoStruct, AStruct}
-use Rattle.record.proofs.command.Command.{the-type}
 use Rattle.record.proofs.kind.Kind.{the-type as kinds}
-use Rattle.record.proofs.ListLaws.{byteOf, other, operands-are, listed-stop, listed-here, listed-over, onward-here, find-none, find-hit, find-miss}
-use Rattle.record.proofs.StepLaws.{structs-skip, structs-found, structs-end}
+use Rattle.record.proofs.ListLaws.{find-none, find-hit, find-miss}
+use Rattle.record.proofs.SeekLaws.{listed-none, listed-some}
+use Rattle.record.proofs.StepLaws.{structs-none, structs-found}
 
 -- referenced_type --------------------------------------------------------------------------------------------------------
 
@@ -179,51 +179,37 @@ pub record Before (s p slot : Str) (at : ℕ) : Type 0 where
   pub structs : structInSlot slot (structsAt s p 0) ≡ structInSlot slot (structsAt s p at)
   pub commands : commandInSlot p slot (structCommandsAt s 0) ≡ commandInSlot p slot (structCommandsAt s at)
 
-pub before-start : (s p slot : Str) (o : Cursor) → o ≡ start → Before s p slot (o .at)
-before-start s p slot o e = rw e (record { structs = refl; commands = refl })
+pub before-start : (s p slot : Str) → Before s p slot 0
+before-start s p slot = record { structs = refl; commands = refl }
 
-module _ (s : Str) (at : ℕ) (r : Step) (i : r ≡ stepAt s at) (p slot : Str) (b : Before s p slot at) where
-  pub slot-end : r ≡ Stop → InSlot s p slot NoStruct
+module _ (s : Str) (at : ℕ) (r : Sought) (i : SoughtFrom s Anything 8 at r) (p slot : Str) (b : Before s p slot at) where
+  pub slot-end : r ≡ Nowhere → InSlot s p slot NoStruct
   unfolding structInSlot commandInSlot structCommandsAt
   slot-end m = record {
-    struct = b .structs ∙ find-none _ (structsAt s p at) (structs-end s at r i at (onward-here structsAt s at) m .list p);
-    command = b .commands ∙ find-none _ (structCommandsAt s at) (listed-stop s anything 8 _ at (sym i ∙ m));
+    struct = b .structs ∙ find-none _ (structsAt s p at) (structs-none s at r i m .list p);
+    command = b .commands ∙ find-none _ (structCommandsAt s at) (listed-none s Anything 8 _ at r i m);
   }
 
-  module _ (c : Command) (k : Cursor) (m : r ≡ Next c k) where
-    pub slot-skip : OneOf (0 ∷ 1 ∷ 2 ∷ 3 ∷ 4 ∷ 5 ∷ 6 ∷ 8 ∷ 9 ∷ 10 ∷ 11 ∷ 12 ∷ 13 ∷ []) (tagOf the-type c) → Before s p slot (k .at)
+  module _ (a k : ℕ) (m : r ≡ At a k) (y : Str) (e : D.Struct.Struct) (d : y ≡ drop a s) (f : e ≡ structAt y) (t : Bool) (is : t ≡ isText (optOf p (e .«generation_slot»)) slot) where
+    struct-now : (c : Cursor) → c ≡ place k → structsAt s p at ≡ structOf p e (fieldsAt s p (c .at)) ∷ structsAt s p (c .at)
+    struct-now c g = structs-found s at r i a k m y e c d f g .list p
+
+    command-now : structCommandsAt s at ≡ e ∷ structCommandsAt s k
     unfolding structCommandsAt
-    slot-skip h = record {
-      structs = b .structs ∙ ap (structInSlot slot) (structs-skip s at r i c k m at (onward-here structsAt s at) h .same p);
-      commands = b .commands ∙ ap (commandInSlot p slot) (listed-over s anything 8 _ at c k (sym i ∙ m) (other (0 ∷ 1 ∷ 2 ∷ 3 ∷ 4 ∷ 5 ∷ 6 ∷ 8 ∷ 9 ∷ 10 ∷ 11 ∷ 12 ∷ 13 ∷ []) 7 c tt h) refl);
+    command-now = listed-some s Anything 8 _ at r i a k m ∙ ap (λ (x : D.Struct.Struct). x ∷ structCommandsAt s k) (sym (f ∙ ap structAt d))
+
+    pub slot-hit : (c : Cursor) → c ≡ place k → t ≡ true → InSlot s p slot (AStruct e c)
+    unfolding structInSlot commandInSlot
+    slot-hit c g z = record {
+      struct = b .structs ∙ find-hit _ (structsAt s p at) _ _ (struct-now c g) (sym is ∙ z);
+      command = b .commands ∙ find-hit _ (structCommandsAt s at) _ _ command-now (sym is ∙ z);
     }
 
-    module _ (e : D.Struct.Struct) (h : c ≡ C.Struct e) (t : Bool) (is : t ≡ isText (optOf p (e .«generation_slot»)) slot) where
-      struct-now : structsAt s p at ≡ structOf p e (fieldsAt s p (k .at)) ∷ structsAt s p (k .at)
-      struct-now = structs-found s at r i c k m at e (onward-here structsAt s at) h .list p
+    pub slot-miss : t ≡ false → Before s p slot k
+    unfolding structInSlot commandInSlot
+    slot-miss z = record {
+      structs = b .structs ∙ find-miss _ (structsAt s p at) _ _ (struct-now (place k) refl) (sym is ∙ z);
+      commands = b .commands ∙ find-miss _ (structCommandsAt s at) _ _ command-now (sym is ∙ z);
+    }
 
-      command-is : (x : List ℕ) → commandOf 8 x ≡ C.Struct e → structAt x ≡ e
-      unfolding commandOf
-      command-is x g = cc
-
-      command-now : structCommandsAt s at ≡ e ∷ structCommandsAt s (k .at)
-      unfolding structCommandsAt
-      command-now =
-          listed-here s anything 8 _ at c k (sym i ∙ m) (ap byteOf h)
-          ∙ ap (λ (x : D.Struct.Struct). x ∷ structCommandsAt s (k .at)) (command-is (drop at s) (operands-are s at c k (sym i ∙ m) 8 (ap byteOf h) ∙ h))
-
-      pub slot-hit : t ≡ true → InSlot s p slot (AStruct e k)
-      unfolding structInSlot commandInSlot
-      slot-hit y = record {
-        struct = b .structs ∙ find-hit _ (structsAt s p at) _ _ struct-now (sym is ∙ y);
-        command = b .commands ∙ find-hit _ (structCommandsAt s at) _ _ command-now (sym is ∙ y);
-      }
-
-      pub slot-miss : t ≡ false → Before s p slot (k .at)
-      unfolding structInSlot commandInSlot
-      slot-miss y = record {
-        structs = b .structs ∙ find-miss _ (structsAt s p at) _ _ struct-now (sym is ∙ y);
-        commands = b .commands ∙ find-miss _ (structCommandsAt s at) _ _ command-now (sym is ∙ y);
-      }
-
-pub ruleset in-slot-laws = (slot-end, slot-skip, slot-hit, slot-miss)
+pub ruleset in-slot-laws = (slot-end, slot-hit, slot-miss)

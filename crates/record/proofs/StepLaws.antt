@@ -1,29 +1,25 @@
 -- The laws of each list, as the branches of its iterator and of its look-up need them. Written by tools/lists.py. Assumes nothing.
-use mathlib.Core.Path.{_≡_, refl, sym, ap, subst, _∙_}
+use mathlib.Core.Path.{_≡_, sym, ap, ap₂, subst, _∙_}
 use mathlib.Core.List.{List, [], _∷_}
 use mathlib.Core.Option.{Option, none, some}
 use mathlib.Core.Bool.{Bool, true, false}
 use Prim.Native.Nat.{ℕ, suc, _+_, _-_, _≤_, _<_}
 use native.Mathlib.Omega.{arith}
-use types.Run.{OneOf}
-use denote.Enum.Declared.{tagOf}
-use lib.ListN.{length, getD, drop}
-use Rattle.record.proofs.command.Command.{the-type}
+use lib.ListN.{length, drop}
 use Rattle.record.specs.Base.{Str, bytes, eqs, find, first}
 use Rattle.record.specs.Stretch.{textOf}
 use Rattle.record.specs.Schema.{Alias, BitField, Const, Enum, EnumValue, Family, Field, Heading, Key, Member, Struct, Variant, Version}
-use Rattle.record.specs.Commands.{operands, wide, widths, widthWith, widthOf, commandOf, stepAt, commandsAt, aliasAt, bitfieldAt, constantAt, enumAt, familyAt, fieldAt, headAt, keyAt, memberAt, structAt, valueAt, variantAt, versionAt}
-use Rattle.record.specs.Lists.{listed, anything, nothing, aKey, aField, aliasOf, aliases, bitfieldOf, bitfields, constantOf, constants, enumOf, enums, families, familyOf, fieldOf, fields, headOf, heads, keyOf, keys, memberOf, members, structOf, structs, unstored, valueOf, values, variantOf, variants, versionOf, versions}
+use Rattle.record.specs.Commands.{operands, wide, widths, widthWith, widthOf, place, commandsAt, aliasAt, bitfieldAt, constantAt, enumAt, familyAt, fieldAt, headAt, keyAt, memberAt, structAt, valueAt, variantAt, versionAt}
+use Rattle.record.specs.Lists.{aliasOf, aliases, bitfieldOf, bitfields, constantOf, constants, enumOf, enums, families, familyOf, fieldOf, fields, headOf, heads, keyOf, keys, memberOf, members, structOf, structs, unstored, valueOf, values, variantOf, variants, versionOf, versions}
+use Rattle.record.specs.Seek.{SoughtFrom}
 use Rattle.record.specs.Steps.{fieldKeyAt, FieldPlace, fieldPlaced, headsAt, headsOf, headsLeft, HeadsFrom, constantsAt, constantsOf, constantsLeft, ConstantsFrom, constantFound, constantIn, aliasesAt, aliasesOf, aliasesLeft, AliasesFrom, aliasFound, aliasIn, valuesAt, valuesOf, valuesLeft, ValuesFrom, valueFound, valueIn, enumsAt, enumsOf, enumsLeft, EnumsFrom, enumFound, enumIn, membersAt, membersOf, membersLeft, MembersFrom, memberFound, memberIn, bitfieldsAt, bitfieldsOf, bitfieldsLeft, BitfieldsFrom, bitfieldFound, bitfieldIn, keysAt, keysOf, keysLeft, KeysFrom, fieldsAt, fieldsOf, fieldsLeft, FieldsFrom, structsAt, structsOf, structsLeft, StructsFrom, structFound, structIn, variantsAt, variantsOf, variantsLeft, VariantsFrom, familiesAt, familiesOf, familiesLeft, FamiliesFrom, familyFound, familyIn, unstoredAt, unstoredOf, unstoredLeft, UnstoredFrom, versionsAt, versionsOf, versionsLeft, VersionsFrom}
 use Rattle.record.specs.declared.command as D
 use Rattle.record.specs.declared.command.Cursor.{Cursor}
-use Rattle.record.specs.declared.command.Command.{Command}
-use Rattle.record.specs.declared.command.Command.the-variants as C
-use Rattle.record.specs.declared.command.Step.{Step}
-use Rattle.record.specs.declared.command.Step.the-variants.{Next, Stop}
-use Rattle.record.proofs.Tags.{not-one-of}
-use Rattle.record.proofs.Stream.{step-found, commands-here}
-use Rattle.record.proofs.ListLaws.{byteOf, other, byte-is, operands-are, listed-stop, listed-here, listed-over, listed-end, Onward, onward-later, find-none, find-hit, find-miss}
+use Rattle.record.specs.declared.seek.Between.the-variants.{Anything, Nothing, Keys, Fields}
+use Rattle.record.specs.declared.seek.Sought.{Sought}
+use Rattle.record.specs.declared.seek.Sought.the-variants.{Nowhere, At}
+use Rattle.record.proofs.SeekLaws.{sought-stands, sought-nearer, listed-none, listed-some}
+use Rattle.record.proofs.ListLaws.{find-none, find-hit, find-miss}
 use Rattle.record.specs.declared.lists.HeadStep.{HeadStep}
 use Rattle.record.specs.declared.lists.HeadStep.the-variants.{NoHead, AHead}
 use Rattle.record.specs.declared.lists.ConstantStep.{ConstantStep}
@@ -54,568 +50,307 @@ use Rattle.record.specs.declared.lists.VersionStep.{VersionStep}
 use Rattle.record.specs.declared.lists.VersionStep.the-variants.{NoVersion, AVersion}
 
 -- heads
-head-is : (x : List ℕ) (e : D.Head.Head) → commandOf 1 x ≡ C.Head e → headAt x ≡ e
-unfolding commandOf
-head-is x e h = cc
-
-module _ (s : Str) (at : ℕ) (r : Step) (i : r ≡ stepAt s at) where
-  heads-none : (p : Str) → r ≡ Stop → headsAt s p at ≡ []
+module _ (s : Str) (at : ℕ) (r : Sought) (i : SoughtFrom s Anything 1 at r) where
+  pub heads-none : r ≡ Nowhere → HeadsFrom s at NoHead
   unfolding headsAt heads
-  heads-none p m = listed-stop s anything 1 _ at (sym i ∙ m)
+  heads-none m = record { list = λ p. listed-none s Anything 1 _ at r i m; left = omega arith }
 
-  module _ (c : Command) (k : Cursor) (m : r ≡ Next c k) where
-    heads-here : (p : Str) (e : D.Head.Head) → c ≡ C.Head e → headsAt s p at ≡ headOf p e ∷ headsAt s p (k .at)
+  module _ (a k : ℕ) (m : r ≡ At a k) (y : Str) (e : D.Head.Head) (c : Cursor) (d : y ≡ drop a s) (f : e ≡ headAt y) (g : c ≡ place k) where
+    heads-here : (p : Str) → headsAt s p at ≡ headsOf s p (AHead e c)
     unfolding headsAt heads
-    heads-here p e g =
-        listed-here s anything 1 _ at c k (sym i ∙ m) (ap byteOf g)
-        ∙ ap (λ (y : D.Head.Head). headOf p y ∷ heads s p (commandsAt s (k .at))) (head-is (drop at s) e (operands-are s at c k (sym i ∙ m) 1 (ap byteOf g) ∙ g))
+    heads-here p =
+        listed-some s Anything 1 _ at r i a k m
+        ∙ ap₂ (λ (x : D.Head.Head) (j : ℕ). headOf p x ∷ headsAt s p j) (sym (f ∙ ap headAt d)) (sym (ap (λ (x : Cursor). x .at) g))
 
-    pub heads-skip : (a : ℕ) → Onward headsAt s a at → OneOf (1 ∷ 2 ∷ 3 ∷ 4 ∷ 5 ∷ 6 ∷ 7 ∷ 8 ∷ 9 ∷ 10 ∷ 11 ∷ 12 ∷ 13 ∷ []) (tagOf the-type c) → Onward headsAt s a (k .at)
-    unfolding headsAt heads
-    heads-skip a o h =
-        let g = step-found s at c k (sym i ∙ m) in
-        let near = o .on in
-        let on = g .on in
-        record { same = λ p. o .same p ∙ listed-over s anything 1 _ at c k (sym i ∙ m) (other (1 ∷ 2 ∷ 3 ∷ 4 ∷ 5 ∷ 6 ∷ 7 ∷ 8 ∷ 9 ∷ 10 ∷ 11 ∷ 12 ∷ 13 ∷ []) 0 c tt h) refl; on = omega arith; later = onward-later headsAt s a at o c k (sym i ∙ m) }
+    pub heads-found : HeadsFrom s at (AHead e c)
+    heads-found =
+        let h = sought-nearer s Anything 1 at r i a k m in
+        let q : c .at ≡ k = ap (λ (x : Cursor). x .at) g in
+        record { list = heads-here; left = omega arith }
 
-    pub heads-found : (a : ℕ) (e : D.Head.Head) → Onward headsAt s a at → c ≡ C.Head e → HeadsFrom s a (AHead e k)
-    heads-found a e o h =
-        let g = step-found s at c k (sym i ∙ m) in
-        let on = g .on in
-        let within = g .within in
-        let near = o .on in record { list = λ p. o .same p ∙ heads-here p e h; left = omega arith }
-
-  pub heads-end : (a : ℕ) → Onward headsAt s a at → r ≡ Stop → HeadsFrom s a NoHead
-  heads-end a o m = record { list = λ p. o .same p ∙ heads-none p m; left = omega arith }
-
-pub ruleset heads-laws = (heads-skip, heads-found, heads-end)
+pub ruleset heads-laws = (heads-none, heads-found)
 
 -- constants
-constant-is : (x : List ℕ) (e : D.Constant.Constant) → commandOf 2 x ≡ C.Constant e → constantAt x ≡ e
-unfolding commandOf
-constant-is x e h = cc
-
-module _ (s : Str) (at : ℕ) (r : Step) (i : r ≡ stepAt s at) where
-  constants-none : (p : Str) → r ≡ Stop → constantsAt s p at ≡ []
+module _ (s : Str) (at : ℕ) (r : Sought) (i : SoughtFrom s Anything 2 at r) where
+  pub constants-none : r ≡ Nowhere → ConstantsFrom s at NoConstant
   unfolding constantsAt constants
-  constants-none p m = listed-stop s anything 2 _ at (sym i ∙ m)
+  constants-none m = record { list = λ p. listed-none s Anything 2 _ at r i m; left = omega arith }
 
-  module _ (c : Command) (k : Cursor) (m : r ≡ Next c k) where
-    constants-here : (p : Str) (e : D.Constant.Constant) → c ≡ C.Constant e → constantsAt s p at ≡ constantOf p e ∷ constantsAt s p (k .at)
+  module _ (a k : ℕ) (m : r ≡ At a k) (y : Str) (e : D.Constant.Constant) (c : Cursor) (d : y ≡ drop a s) (f : e ≡ constantAt y) (g : c ≡ place k) where
+    constants-here : (p : Str) → constantsAt s p at ≡ constantsOf s p (AConstant e c)
     unfolding constantsAt constants
-    constants-here p e g =
-        listed-here s anything 2 _ at c k (sym i ∙ m) (ap byteOf g)
-        ∙ ap (λ (y : D.Constant.Constant). constantOf p y ∷ constants s p (commandsAt s (k .at))) (constant-is (drop at s) e (operands-are s at c k (sym i ∙ m) 2 (ap byteOf g) ∙ g))
+    constants-here p =
+        listed-some s Anything 2 _ at r i a k m
+        ∙ ap₂ (λ (x : D.Constant.Constant) (j : ℕ). constantOf p x ∷ constantsAt s p j) (sym (f ∙ ap constantAt d)) (sym (ap (λ (x : Cursor). x .at) g))
 
-    pub constants-skip : (a : ℕ) → Onward constantsAt s a at → OneOf (0 ∷ 2 ∷ 3 ∷ 4 ∷ 5 ∷ 6 ∷ 7 ∷ 8 ∷ 9 ∷ 10 ∷ 11 ∷ 12 ∷ 13 ∷ []) (tagOf the-type c) → Onward constantsAt s a (k .at)
-    unfolding constantsAt constants
-    constants-skip a o h =
-        let g = step-found s at c k (sym i ∙ m) in
-        let near = o .on in
-        let on = g .on in
-        record { same = λ p. o .same p ∙ listed-over s anything 2 _ at c k (sym i ∙ m) (other (0 ∷ 2 ∷ 3 ∷ 4 ∷ 5 ∷ 6 ∷ 7 ∷ 8 ∷ 9 ∷ 10 ∷ 11 ∷ 12 ∷ 13 ∷ []) 1 c tt h) refl; on = omega arith; later = onward-later constantsAt s a at o c k (sym i ∙ m) }
+    pub constants-found : ConstantsFrom s at (AConstant e c)
+    constants-found =
+        let h = sought-nearer s Anything 2 at r i a k m in
+        let q : c .at ≡ k = ap (λ (x : Cursor). x .at) g in
+        record { list = constants-here; left = omega arith }
 
-    pub constants-found : (a : ℕ) (e : D.Constant.Constant) → Onward constantsAt s a at → c ≡ C.Constant e → ConstantsFrom s a (AConstant e k)
-    constants-found a e o h =
-        let g = step-found s at c k (sym i ∙ m) in
-        let on = g .on in
-        let within = g .within in
-        let near = o .on in record { list = λ p. o .same p ∙ constants-here p e h; left = omega arith }
-
-  pub constants-end : (a : ℕ) → Onward constantsAt s a at → r ≡ Stop → ConstantsFrom s a NoConstant
-  constants-end a o m = record { list = λ p. o .same p ∙ constants-none p m; left = omega arith }
-
-pub ruleset constants-laws = (constants-skip, constants-found, constants-end)
+pub ruleset constants-laws = (constants-none, constants-found)
 
 -- aliases
-alias-is : (x : List ℕ) (e : D.TypeAlias.TypeAlias) → commandOf 3 x ≡ C.TypeAlias e → aliasAt x ≡ e
-unfolding commandOf
-alias-is x e h = cc
-
-module _ (s : Str) (at : ℕ) (r : Step) (i : r ≡ stepAt s at) where
-  aliases-none : (p : Str) → r ≡ Stop → aliasesAt s p at ≡ []
+module _ (s : Str) (at : ℕ) (r : Sought) (i : SoughtFrom s Anything 3 at r) where
+  pub aliases-none : r ≡ Nowhere → AliasesFrom s at NoAlias
   unfolding aliasesAt aliases
-  aliases-none p m = listed-stop s anything 3 _ at (sym i ∙ m)
+  aliases-none m = record { list = λ p. listed-none s Anything 3 _ at r i m; left = omega arith }
 
-  module _ (c : Command) (k : Cursor) (m : r ≡ Next c k) where
-    aliases-here : (p : Str) (e : D.TypeAlias.TypeAlias) → c ≡ C.TypeAlias e → aliasesAt s p at ≡ aliasOf p e ∷ aliasesAt s p (k .at)
+  module _ (a k : ℕ) (m : r ≡ At a k) (y : Str) (e : D.TypeAlias.TypeAlias) (c : Cursor) (d : y ≡ drop a s) (f : e ≡ aliasAt y) (g : c ≡ place k) where
+    aliases-here : (p : Str) → aliasesAt s p at ≡ aliasesOf s p (AnAlias e c)
     unfolding aliasesAt aliases
-    aliases-here p e g =
-        listed-here s anything 3 _ at c k (sym i ∙ m) (ap byteOf g)
-        ∙ ap (λ (y : D.TypeAlias.TypeAlias). aliasOf p y ∷ aliases s p (commandsAt s (k .at))) (alias-is (drop at s) e (operands-are s at c k (sym i ∙ m) 3 (ap byteOf g) ∙ g))
+    aliases-here p =
+        listed-some s Anything 3 _ at r i a k m
+        ∙ ap₂ (λ (x : D.TypeAlias.TypeAlias) (j : ℕ). aliasOf p x ∷ aliasesAt s p j) (sym (f ∙ ap aliasAt d)) (sym (ap (λ (x : Cursor). x .at) g))
 
-    pub aliases-skip : (a : ℕ) → Onward aliasesAt s a at → OneOf (0 ∷ 1 ∷ 3 ∷ 4 ∷ 5 ∷ 6 ∷ 7 ∷ 8 ∷ 9 ∷ 10 ∷ 11 ∷ 12 ∷ 13 ∷ []) (tagOf the-type c) → Onward aliasesAt s a (k .at)
-    unfolding aliasesAt aliases
-    aliases-skip a o h =
-        let g = step-found s at c k (sym i ∙ m) in
-        let near = o .on in
-        let on = g .on in
-        record { same = λ p. o .same p ∙ listed-over s anything 3 _ at c k (sym i ∙ m) (other (0 ∷ 1 ∷ 3 ∷ 4 ∷ 5 ∷ 6 ∷ 7 ∷ 8 ∷ 9 ∷ 10 ∷ 11 ∷ 12 ∷ 13 ∷ []) 2 c tt h) refl; on = omega arith; later = onward-later aliasesAt s a at o c k (sym i ∙ m) }
+    pub aliases-found : AliasesFrom s at (AnAlias e c)
+    aliases-found =
+        let h = sought-nearer s Anything 3 at r i a k m in
+        let q : c .at ≡ k = ap (λ (x : Cursor). x .at) g in
+        record { list = aliases-here; left = omega arith }
 
-    pub aliases-found : (a : ℕ) (e : D.TypeAlias.TypeAlias) → Onward aliasesAt s a at → c ≡ C.TypeAlias e → AliasesFrom s a (AnAlias e k)
-    aliases-found a e o h =
-        let g = step-found s at c k (sym i ∙ m) in
-        let on = g .on in
-        let within = g .within in
-        let near = o .on in record { list = λ p. o .same p ∙ aliases-here p e h; left = omega arith }
-
-  pub aliases-end : (a : ℕ) → Onward aliasesAt s a at → r ≡ Stop → AliasesFrom s a NoAlias
-  aliases-end a o m = record { list = λ p. o .same p ∙ aliases-none p m; left = omega arith }
-
-pub ruleset aliases-laws = (aliases-skip, aliases-found, aliases-end)
+pub ruleset aliases-laws = (aliases-none, aliases-found)
 
 -- values
-value-is : (x : List ℕ) (e : D.Value.Value) → commandOf 5 x ≡ C.Value e → valueAt x ≡ e
-unfolding commandOf
-value-is x e h = cc
-
-module _ (s : Str) (at : ℕ) (r : Step) (i : r ≡ stepAt s at) where
-  values-none : (p : Str) → r ≡ Stop → valuesAt s p at ≡ []
+module _ (s : Str) (at : ℕ) (r : Sought) (i : SoughtFrom s Nothing 5 at r) where
+  pub values-none : r ≡ Nowhere → ValuesFrom s at NoValue
   unfolding valuesAt values
-  values-none p m = listed-stop s nothing 5 _ at (sym i ∙ m)
+  values-none m = record { list = λ p. listed-none s Nothing 5 _ at r i m; left = omega arith }
 
-  module _ (c : Command) (k : Cursor) (m : r ≡ Next c k) where
-    values-here : (p : Str) (e : D.Value.Value) → c ≡ C.Value e → valuesAt s p at ≡ valueOf p e ∷ valuesAt s p (k .at)
+  module _ (a k : ℕ) (m : r ≡ At a k) (y : Str) (e : D.Value.Value) (c : Cursor) (d : y ≡ drop a s) (f : e ≡ valueAt y) (g : c ≡ place k) where
+    values-here : (p : Str) → valuesAt s p at ≡ valuesOf s p (AValue e c)
     unfolding valuesAt values
-    values-here p e g =
-        listed-here s nothing 5 _ at c k (sym i ∙ m) (ap byteOf g)
-        ∙ ap (λ (y : D.Value.Value). valueOf p y ∷ values s p (commandsAt s (k .at))) (value-is (drop at s) e (operands-are s at c k (sym i ∙ m) 5 (ap byteOf g) ∙ g))
+    values-here p =
+        listed-some s Nothing 5 _ at r i a k m
+        ∙ ap₂ (λ (x : D.Value.Value) (j : ℕ). valueOf p x ∷ valuesAt s p j) (sym (f ∙ ap valueAt d)) (sym (ap (λ (x : Cursor). x .at) g))
 
-    pub values-over : OneOf (0 ∷ 1 ∷ 2 ∷ 3 ∷ 5 ∷ 6 ∷ 7 ∷ 8 ∷ 9 ∷ 10 ∷ 11 ∷ 12 ∷ 13 ∷ []) (tagOf the-type c) → ValuesFrom s at NoValue
-    unfolding valuesAt values
-    values-over h = record { list = λ p. listed-end s nothing 5 _ at c k (sym i ∙ m) (other (0 ∷ 1 ∷ 2 ∷ 3 ∷ 5 ∷ 6 ∷ 7 ∷ 8 ∷ 9 ∷ 10 ∷ 11 ∷ 12 ∷ 13 ∷ []) 4 c tt h) (refl); left = omega arith }
+    pub values-found : ValuesFrom s at (AValue e c)
+    values-found =
+        let h = sought-nearer s Nothing 5 at r i a k m in
+        let q : c .at ≡ k = ap (λ (x : Cursor). x .at) g in
+        record { list = values-here; left = omega arith }
 
-    pub values-found : (e : D.Value.Value) → c ≡ C.Value e → ValuesFrom s at (AValue e k)
-    values-found e h =
-        let g = step-found s at c k (sym i ∙ m) in
-        let on = g .on in
-        let within = g .within in
-        record { list = λ p. values-here p e h; left = omega arith }
-
-  pub values-end : r ≡ Stop → ValuesFrom s at NoValue
-  values-end m = record { list = λ p. values-none p m; left = omega arith }
-
-pub ruleset values-laws = (values-over, values-found, values-end)
+pub ruleset values-laws = (values-none, values-found)
 
 -- enums
-enum-is : (x : List ℕ) (e : D.Enum.Enum) → commandOf 4 x ≡ C.Enum e → enumAt x ≡ e
-unfolding commandOf
-enum-is x e h = cc
-
-module _ (s : Str) (at : ℕ) (r : Step) (i : r ≡ stepAt s at) where
-  enums-none : (p : Str) → r ≡ Stop → enumsAt s p at ≡ []
+module _ (s : Str) (at : ℕ) (r : Sought) (i : SoughtFrom s Anything 4 at r) where
+  pub enums-none : r ≡ Nowhere → EnumsFrom s at NoEnum
   unfolding enumsAt enums
-  enums-none p m = listed-stop s anything 4 _ at (sym i ∙ m)
+  enums-none m = record { list = λ p. listed-none s Anything 4 _ at r i m; left = omega arith }
 
-  module _ (c : Command) (k : Cursor) (m : r ≡ Next c k) where
-    enums-here : (p : Str) (e : D.Enum.Enum) → c ≡ C.Enum e → enumsAt s p at ≡ enumOf p e (valuesAt s p (k .at)) ∷ enumsAt s p (k .at)
+  module _ (a k : ℕ) (m : r ≡ At a k) (y : Str) (e : D.Enum.Enum) (c : Cursor) (d : y ≡ drop a s) (f : e ≡ enumAt y) (g : c ≡ place k) where
+    enums-here : (p : Str) → enumsAt s p at ≡ enumsOf s p (AnEnum e c)
     unfolding enumsAt enums valuesAt
-    enums-here p e g =
-        listed-here s anything 4 _ at c k (sym i ∙ m) (ap byteOf g)
-        ∙ ap (λ (y : D.Enum.Enum). enumOf p y (valuesAt s p (k .at)) ∷ enums s p (commandsAt s (k .at))) (enum-is (drop at s) e (operands-are s at c k (sym i ∙ m) 4 (ap byteOf g) ∙ g))
+    enums-here p =
+        listed-some s Anything 4 _ at r i a k m
+        ∙ ap₂ (λ (x : D.Enum.Enum) (j : ℕ). enumOf p x (valuesAt s p j) ∷ enumsAt s p j) (sym (f ∙ ap enumAt d)) (sym (ap (λ (x : Cursor). x .at) g))
 
-    pub enums-skip : (a : ℕ) → Onward enumsAt s a at → OneOf (0 ∷ 1 ∷ 2 ∷ 4 ∷ 5 ∷ 6 ∷ 7 ∷ 8 ∷ 9 ∷ 10 ∷ 11 ∷ 12 ∷ 13 ∷ []) (tagOf the-type c) → Onward enumsAt s a (k .at)
-    unfolding enumsAt enums
-    enums-skip a o h =
-        let g = step-found s at c k (sym i ∙ m) in
-        let near = o .on in
-        let on = g .on in
-        record { same = λ p. o .same p ∙ listed-over s anything 4 _ at c k (sym i ∙ m) (other (0 ∷ 1 ∷ 2 ∷ 4 ∷ 5 ∷ 6 ∷ 7 ∷ 8 ∷ 9 ∷ 10 ∷ 11 ∷ 12 ∷ 13 ∷ []) 3 c tt h) refl; on = omega arith; later = onward-later enumsAt s a at o c k (sym i ∙ m) }
+    pub enums-found : EnumsFrom s at (AnEnum e c)
+    enums-found =
+        let h = sought-nearer s Anything 4 at r i a k m in
+        let q : c .at ≡ k = ap (λ (x : Cursor). x .at) g in
+        record { list = enums-here; left = omega arith }
 
-    pub enums-found : (a : ℕ) (e : D.Enum.Enum) → Onward enumsAt s a at → c ≡ C.Enum e → EnumsFrom s a (AnEnum e k)
-    enums-found a e o h =
-        let g = step-found s at c k (sym i ∙ m) in
-        let on = g .on in
-        let within = g .within in
-        let near = o .on in record { list = λ p. o .same p ∙ enums-here p e h; left = omega arith }
-
-  pub enums-end : (a : ℕ) → Onward enumsAt s a at → r ≡ Stop → EnumsFrom s a NoEnum
-  enums-end a o m = record { list = λ p. o .same p ∙ enums-none p m; left = omega arith }
-
-pub ruleset enums-laws = (enums-skip, enums-found, enums-end)
+pub ruleset enums-laws = (enums-none, enums-found)
 
 -- members
-member-is : (x : List ℕ) (e : D.Member.Member) → commandOf 7 x ≡ C.Member e → memberAt x ≡ e
-unfolding commandOf
-member-is x e h = cc
-
-module _ (s : Str) (at : ℕ) (r : Step) (i : r ≡ stepAt s at) where
-  members-none : (p : Str) → r ≡ Stop → membersAt s p at ≡ []
+module _ (s : Str) (at : ℕ) (r : Sought) (i : SoughtFrom s Nothing 7 at r) where
+  pub members-none : r ≡ Nowhere → MembersFrom s at NoMember
   unfolding membersAt members
-  members-none p m = listed-stop s nothing 7 _ at (sym i ∙ m)
+  members-none m = record { list = λ p. listed-none s Nothing 7 _ at r i m; left = omega arith }
 
-  module _ (c : Command) (k : Cursor) (m : r ≡ Next c k) where
-    members-here : (p : Str) (e : D.Member.Member) → c ≡ C.Member e → membersAt s p at ≡ memberOf p e ∷ membersAt s p (k .at)
+  module _ (a k : ℕ) (m : r ≡ At a k) (y : Str) (e : D.Member.Member) (c : Cursor) (d : y ≡ drop a s) (f : e ≡ memberAt y) (g : c ≡ place k) where
+    members-here : (p : Str) → membersAt s p at ≡ membersOf s p (AMember e c)
     unfolding membersAt members
-    members-here p e g =
-        listed-here s nothing 7 _ at c k (sym i ∙ m) (ap byteOf g)
-        ∙ ap (λ (y : D.Member.Member). memberOf p y ∷ members s p (commandsAt s (k .at))) (member-is (drop at s) e (operands-are s at c k (sym i ∙ m) 7 (ap byteOf g) ∙ g))
+    members-here p =
+        listed-some s Nothing 7 _ at r i a k m
+        ∙ ap₂ (λ (x : D.Member.Member) (j : ℕ). memberOf p x ∷ membersAt s p j) (sym (f ∙ ap memberAt d)) (sym (ap (λ (x : Cursor). x .at) g))
 
-    pub members-over : OneOf (0 ∷ 1 ∷ 2 ∷ 3 ∷ 4 ∷ 5 ∷ 7 ∷ 8 ∷ 9 ∷ 10 ∷ 11 ∷ 12 ∷ 13 ∷ []) (tagOf the-type c) → MembersFrom s at NoMember
-    unfolding membersAt members
-    members-over h = record { list = λ p. listed-end s nothing 7 _ at c k (sym i ∙ m) (other (0 ∷ 1 ∷ 2 ∷ 3 ∷ 4 ∷ 5 ∷ 7 ∷ 8 ∷ 9 ∷ 10 ∷ 11 ∷ 12 ∷ 13 ∷ []) 6 c tt h) (refl); left = omega arith }
+    pub members-found : MembersFrom s at (AMember e c)
+    members-found =
+        let h = sought-nearer s Nothing 7 at r i a k m in
+        let q : c .at ≡ k = ap (λ (x : Cursor). x .at) g in
+        record { list = members-here; left = omega arith }
 
-    pub members-found : (e : D.Member.Member) → c ≡ C.Member e → MembersFrom s at (AMember e k)
-    members-found e h =
-        let g = step-found s at c k (sym i ∙ m) in
-        let on = g .on in
-        let within = g .within in
-        record { list = λ p. members-here p e h; left = omega arith }
-
-  pub members-end : r ≡ Stop → MembersFrom s at NoMember
-  members-end m = record { list = λ p. members-none p m; left = omega arith }
-
-pub ruleset members-laws = (members-over, members-found, members-end)
+pub ruleset members-laws = (members-none, members-found)
 
 -- bitfields
-bitfield-is : (x : List ℕ) (e : D.Bitfield.Bitfield) → commandOf 6 x ≡ C.Bitfield e → bitfieldAt x ≡ e
-unfolding commandOf
-bitfield-is x e h = cc
-
-module _ (s : Str) (at : ℕ) (r : Step) (i : r ≡ stepAt s at) where
-  bitfields-none : (p : Str) → r ≡ Stop → bitfieldsAt s p at ≡ []
+module _ (s : Str) (at : ℕ) (r : Sought) (i : SoughtFrom s Anything 6 at r) where
+  pub bitfields-none : r ≡ Nowhere → BitfieldsFrom s at NoBitfield
   unfolding bitfieldsAt bitfields
-  bitfields-none p m = listed-stop s anything 6 _ at (sym i ∙ m)
+  bitfields-none m = record { list = λ p. listed-none s Anything 6 _ at r i m; left = omega arith }
 
-  module _ (c : Command) (k : Cursor) (m : r ≡ Next c k) where
-    bitfields-here : (p : Str) (e : D.Bitfield.Bitfield) → c ≡ C.Bitfield e → bitfieldsAt s p at ≡ bitfieldOf p e (membersAt s p (k .at)) ∷ bitfieldsAt s p (k .at)
+  module _ (a k : ℕ) (m : r ≡ At a k) (y : Str) (e : D.Bitfield.Bitfield) (c : Cursor) (d : y ≡ drop a s) (f : e ≡ bitfieldAt y) (g : c ≡ place k) where
+    bitfields-here : (p : Str) → bitfieldsAt s p at ≡ bitfieldsOf s p (ABitfield e c)
     unfolding bitfieldsAt bitfields membersAt
-    bitfields-here p e g =
-        listed-here s anything 6 _ at c k (sym i ∙ m) (ap byteOf g)
-        ∙ ap (λ (y : D.Bitfield.Bitfield). bitfieldOf p y (membersAt s p (k .at)) ∷ bitfields s p (commandsAt s (k .at))) (bitfield-is (drop at s) e (operands-are s at c k (sym i ∙ m) 6 (ap byteOf g) ∙ g))
+    bitfields-here p =
+        listed-some s Anything 6 _ at r i a k m
+        ∙ ap₂ (λ (x : D.Bitfield.Bitfield) (j : ℕ). bitfieldOf p x (membersAt s p j) ∷ bitfieldsAt s p j) (sym (f ∙ ap bitfieldAt d)) (sym (ap (λ (x : Cursor). x .at) g))
 
-    pub bitfields-skip : (a : ℕ) → Onward bitfieldsAt s a at → OneOf (0 ∷ 1 ∷ 2 ∷ 3 ∷ 4 ∷ 6 ∷ 7 ∷ 8 ∷ 9 ∷ 10 ∷ 11 ∷ 12 ∷ 13 ∷ []) (tagOf the-type c) → Onward bitfieldsAt s a (k .at)
-    unfolding bitfieldsAt bitfields
-    bitfields-skip a o h =
-        let g = step-found s at c k (sym i ∙ m) in
-        let near = o .on in
-        let on = g .on in
-        record { same = λ p. o .same p ∙ listed-over s anything 6 _ at c k (sym i ∙ m) (other (0 ∷ 1 ∷ 2 ∷ 3 ∷ 4 ∷ 6 ∷ 7 ∷ 8 ∷ 9 ∷ 10 ∷ 11 ∷ 12 ∷ 13 ∷ []) 5 c tt h) refl; on = omega arith; later = onward-later bitfieldsAt s a at o c k (sym i ∙ m) }
+    pub bitfields-found : BitfieldsFrom s at (ABitfield e c)
+    bitfields-found =
+        let h = sought-nearer s Anything 6 at r i a k m in
+        let q : c .at ≡ k = ap (λ (x : Cursor). x .at) g in
+        record { list = bitfields-here; left = omega arith }
 
-    pub bitfields-found : (a : ℕ) (e : D.Bitfield.Bitfield) → Onward bitfieldsAt s a at → c ≡ C.Bitfield e → BitfieldsFrom s a (ABitfield e k)
-    bitfields-found a e o h =
-        let g = step-found s at c k (sym i ∙ m) in
-        let on = g .on in
-        let within = g .within in
-        let near = o .on in record { list = λ p. o .same p ∙ bitfields-here p e h; left = omega arith }
-
-  pub bitfields-end : (a : ℕ) → Onward bitfieldsAt s a at → r ≡ Stop → BitfieldsFrom s a NoBitfield
-  bitfields-end a o m = record { list = λ p. o .same p ∙ bitfields-none p m; left = omega arith }
-
-pub ruleset bitfields-laws = (bitfields-skip, bitfields-found, bitfields-end)
+pub ruleset bitfields-laws = (bitfields-none, bitfields-found)
 
 -- keys
-key-is : (x : List ℕ) (e : D.PluginKey.PluginKey) → commandOf 12 x ≡ C.PluginKey e → keyAt x ≡ e
-unfolding commandOf
-key-is x e h = cc
-
-module _ (s : Str) (at : ℕ) (r : Step) (i : r ≡ stepAt s at) where
-  keys-none : (p : Str) → r ≡ Stop → keysAt s p at ≡ []
+module _ (s : Str) (at : ℕ) (r : Sought) (i : SoughtFrom s Nothing 12 at r) where
+  pub keys-none : r ≡ Nowhere → KeysFrom s at NoKey
   unfolding keysAt keys
-  keys-none p m = listed-stop s nothing 12 _ at (sym i ∙ m)
+  keys-none m = record { list = λ p. listed-none s Nothing 12 _ at r i m; left = omega arith }
 
-  module _ (c : Command) (k : Cursor) (m : r ≡ Next c k) where
-    keys-here : (p : Str) (e : D.PluginKey.PluginKey) → c ≡ C.PluginKey e → keysAt s p at ≡ keyOf p e ∷ keysAt s p (k .at)
+  module _ (a k : ℕ) (m : r ≡ At a k) (y : Str) (e : D.PluginKey.PluginKey) (c : Cursor) (d : y ≡ drop a s) (f : e ≡ keyAt y) (g : c ≡ place k) where
+    keys-here : (p : Str) → keysAt s p at ≡ keysOf s p (AKey e c)
     unfolding keysAt keys
-    keys-here p e g =
-        listed-here s nothing 12 _ at c k (sym i ∙ m) (ap byteOf g)
-        ∙ ap (λ (y : D.PluginKey.PluginKey). keyOf p y ∷ keys s p (commandsAt s (k .at))) (key-is (drop at s) e (operands-are s at c k (sym i ∙ m) 12 (ap byteOf g) ∙ g))
+    keys-here p =
+        listed-some s Nothing 12 _ at r i a k m
+        ∙ ap₂ (λ (x : D.PluginKey.PluginKey) (j : ℕ). keyOf p x ∷ keysAt s p j) (sym (f ∙ ap keyAt d)) (sym (ap (λ (x : Cursor). x .at) g))
 
-    pub keys-over : OneOf (0 ∷ 1 ∷ 2 ∷ 3 ∷ 4 ∷ 5 ∷ 6 ∷ 7 ∷ 8 ∷ 9 ∷ 10 ∷ 12 ∷ 13 ∷ []) (tagOf the-type c) → KeysFrom s at NoKey
-    unfolding keysAt keys
-    keys-over h = record { list = λ p. listed-end s nothing 12 _ at c k (sym i ∙ m) (other (0 ∷ 1 ∷ 2 ∷ 3 ∷ 4 ∷ 5 ∷ 6 ∷ 7 ∷ 8 ∷ 9 ∷ 10 ∷ 12 ∷ 13 ∷ []) 11 c tt h) (refl); left = omega arith }
+    pub keys-found : KeysFrom s at (AKey e c)
+    keys-found =
+        let h = sought-nearer s Nothing 12 at r i a k m in
+        let q : c .at ≡ k = ap (λ (x : Cursor). x .at) g in
+        record { list = keys-here; left = omega arith }
 
-    pub keys-found : (e : D.PluginKey.PluginKey) → c ≡ C.PluginKey e → KeysFrom s at (AKey e k)
-    keys-found e h =
-        let g = step-found s at c k (sym i ∙ m) in
-        let on = g .on in
-        let within = g .within in
-        record { list = λ p. keys-here p e h; left = omega arith }
-
-  pub keys-end : r ≡ Stop → KeysFrom s at NoKey
-  keys-end m = record { list = λ p. keys-none p m; left = omega arith }
-
-pub ruleset keys-laws = (keys-over, keys-found, keys-end)
+pub ruleset keys-laws = (keys-none, keys-found)
 
 -- fields
-fields-ends : (c : Command) → OneOf (0 ∷ 1 ∷ 2 ∷ 3 ∷ 4 ∷ 5 ∷ 6 ∷ 7 ∷ 8 ∷ 9 ∷ 12 ∷ 13 ∷ []) (tagOf the-type c) → aKey (byteOf c) ≡ false
-fields-ends (C.Head x) h = refl
-fields-ends (C.Constant x) h = refl
-fields-ends (C.TypeAlias x) h = refl
-fields-ends (C.Enum x) h = refl
-fields-ends (C.Value x) h = refl
-fields-ends (C.Bitfield x) h = refl
-fields-ends (C.Member x) h = refl
-fields-ends (C.Struct x) h = refl
-fields-ends (C.Family x) h = refl
-fields-ends (C.Variant x) h = refl
-fields-ends (C.Field x) h = refl
-fields-ends (C.PluginKey x) h = absurd (not-one-of (0 ∷ 1 ∷ 2 ∷ 3 ∷ 4 ∷ 5 ∷ 6 ∷ 7 ∷ 8 ∷ 9 ∷ 12 ∷ 13 ∷ []) 11 tt h)
-fields-ends (C.UnstoredKey x) h = refl
-fields-ends (C.Version x) h = refl
-
-field-is : (x : List ℕ) (e : D.Field.Field) → commandOf 11 x ≡ C.Field e → fieldAt x ≡ e
-unfolding commandOf
-field-is x e h = cc
-
-module _ (s : Str) (at : ℕ) (r : Step) (i : r ≡ stepAt s at) where
-  fields-none : (p : Str) → r ≡ Stop → fieldsAt s p at ≡ []
+module _ (s : Str) (at : ℕ) (r : Sought) (i : SoughtFrom s Keys 11 at r) where
+  pub fields-none : r ≡ Nowhere → FieldsFrom s at NoField
   unfolding fieldsAt fields
-  fields-none p m = listed-stop s aKey 11 _ at (sym i ∙ m)
+  fields-none m = record { list = λ p. listed-none s Keys 11 _ at r i m; left = omega arith; placed = tt }
 
-  module _ (c : Command) (k : Cursor) (m : r ≡ Next c k) where
-    fields-here : (p : Str) (e : D.Field.Field) → c ≡ C.Field e → fieldsAt s p at ≡ fieldOf p e (fieldKeyAt s p (k .at)) ∷ fieldsAt s p (k .at)
+  module _ (a k : ℕ) (m : r ≡ At a k) (y : Str) (e : D.Field.Field) (c : Cursor) (d : y ≡ drop a s) (f : e ≡ fieldAt y) (g : c ≡ place k) where
+    fields-here : (p : Str) → fieldsAt s p at ≡ fieldsOf s p (AField e c)
     unfolding fieldsAt fields keysAt
-    fields-here p e g =
-        listed-here s aKey 11 _ at c k (sym i ∙ m) (ap byteOf g)
-        ∙ ap (λ (y : D.Field.Field). fieldOf p y (fieldKeyAt s p (k .at)) ∷ fields s p (commandsAt s (k .at))) (field-is (drop at s) e (operands-are s at c k (sym i ∙ m) 11 (ap byteOf g) ∙ g))
+    fields-here p =
+        listed-some s Keys 11 _ at r i a k m
+        ∙ ap₂ (λ (x : D.Field.Field) (j : ℕ). fieldOf p x (fieldKeyAt s p j) ∷ fieldsAt s p j) (sym (f ∙ ap fieldAt d)) (sym (ap (λ (x : Cursor). x .at) g))
 
-    pub fields-skip-key : (a : ℕ) (x : D.PluginKey.PluginKey) → Onward fieldsAt s a at → c ≡ C.PluginKey x → Onward fieldsAt s a (k .at)
-    unfolding fieldsAt fields
-    fields-skip-key a x o h =
-        let g = step-found s at c k (sym i ∙ m) in
-        let near = o .on in
-        let on = g .on in
-        record { same = λ p. o .same p ∙ listed-over s aKey 11 _ at c k (sym i ∙ m) (λ z. let y = ap byteOf h in omega arith) (ap (λ z. aKey (byteOf z)) h); on = omega arith; later = onward-later fieldsAt s a at o c k (sym i ∙ m) }
-
-    pub fields-over : (a : ℕ) → Onward fieldsAt s a at → OneOf (0 ∷ 1 ∷ 2 ∷ 3 ∷ 4 ∷ 5 ∷ 6 ∷ 7 ∷ 8 ∷ 9 ∷ 12 ∷ 13 ∷ []) (tagOf the-type c) → FieldsFrom s a NoField
-    unfolding fieldsAt fields
-    fields-over a o h = record { list = λ p. o .same p ∙ listed-end s aKey 11 _ at c k (sym i ∙ m) (other (0 ∷ 1 ∷ 2 ∷ 3 ∷ 4 ∷ 5 ∷ 6 ∷ 7 ∷ 8 ∷ 9 ∷ 12 ∷ 13 ∷ []) 10 c tt h) (fields-ends c h); left = omega arith; placed = tt }
-
-    fields-placed : (a : ℕ) (e : D.Field.Field) → Onward fieldsAt s a at → c ≡ C.Field e → FieldPlace s a e k
+    fields-placed : FieldPlace s at e c
     unfolding widthOf widthWith operands widths wide bytes
-    fields-placed a e o h =
-        let g = step-found s at c k (sym i ∙ m) in
-        let b : getD s at 0 ≡ 11 = byte-is s at c k (sym i ∙ m) ∙ ap byteOf h in
-        let w : k .at ≡ at + 33 = g .wide ∙ ap (λ (n : ℕ). at + widthOf n) b in
-        let q : k .at - 33 ≡ at = omega arith in
-        let x : e ≡ fieldAt (drop at s) = sym (field-is (drop at s) e (operands-are s at c k (sym i ∙ m) 11 (ap byteOf h) ∙ h)) in
-        record { past = omega arith; in-stream = rw q (o .later at (commands-here s at c k (sym i ∙ m))); number = rw q b; operands = rw q x }
+    fields-placed =
+        let h = sought-stands s Keys 11 at r i a k m in
+        let w : k ≡ a + 33 = h .after in
+        let q : c .at ≡ k = ap (λ (x : Cursor). x .at) g in
+        let z : c .at - 33 ≡ a = omega arith in
+        record { past = omega arith; in-stream = rw z (h .in-stream); number = rw z (h .number); operands = rw z (f ∙ ap fieldAt d) }
 
-    pub fields-found : (a : ℕ) (e : D.Field.Field) → Onward fieldsAt s a at → c ≡ C.Field e → FieldsFrom s a (AField e k)
-    fields-found a e o h =
-        let g = step-found s at c k (sym i ∙ m) in
-        let on = g .on in
-        let within = g .within in
-        let near = o .on in record { list = λ p. o .same p ∙ fields-here p e h; left = omega arith; placed = fields-placed a e o h }
+    pub fields-found : FieldsFrom s at (AField e c)
+    fields-found =
+        let h = sought-nearer s Keys 11 at r i a k m in
+        let q : c .at ≡ k = ap (λ (x : Cursor). x .at) g in
+        record { list = fields-here; left = omega arith; placed = fields-placed }
 
-  pub fields-end : (a : ℕ) → Onward fieldsAt s a at → r ≡ Stop → FieldsFrom s a NoField
-  fields-end a o m = record { list = λ p. o .same p ∙ fields-none p m; left = omega arith; placed = tt }
-
-pub ruleset fields-laws = (fields-skip-key, fields-over, fields-found, fields-end)
+pub ruleset fields-laws = (fields-none, fields-found)
 
 -- structs
-struct-is : (x : List ℕ) (e : D.Struct.Struct) → commandOf 8 x ≡ C.Struct e → structAt x ≡ e
-unfolding commandOf
-struct-is x e h = cc
-
-module _ (s : Str) (at : ℕ) (r : Step) (i : r ≡ stepAt s at) where
-  structs-none : (p : Str) → r ≡ Stop → structsAt s p at ≡ []
+module _ (s : Str) (at : ℕ) (r : Sought) (i : SoughtFrom s Anything 8 at r) where
+  pub structs-none : r ≡ Nowhere → StructsFrom s at NoStruct
   unfolding structsAt structs
-  structs-none p m = listed-stop s anything 8 _ at (sym i ∙ m)
+  structs-none m = record { list = λ p. listed-none s Anything 8 _ at r i m; left = omega arith }
 
-  module _ (c : Command) (k : Cursor) (m : r ≡ Next c k) where
-    structs-here : (p : Str) (e : D.Struct.Struct) → c ≡ C.Struct e → structsAt s p at ≡ structOf p e (fieldsAt s p (k .at)) ∷ structsAt s p (k .at)
+  module _ (a k : ℕ) (m : r ≡ At a k) (y : Str) (e : D.Struct.Struct) (c : Cursor) (d : y ≡ drop a s) (f : e ≡ structAt y) (g : c ≡ place k) where
+    structs-here : (p : Str) → structsAt s p at ≡ structsOf s p (AStruct e c)
     unfolding structsAt structs fieldsAt
-    structs-here p e g =
-        listed-here s anything 8 _ at c k (sym i ∙ m) (ap byteOf g)
-        ∙ ap (λ (y : D.Struct.Struct). structOf p y (fieldsAt s p (k .at)) ∷ structs s p (commandsAt s (k .at))) (struct-is (drop at s) e (operands-are s at c k (sym i ∙ m) 8 (ap byteOf g) ∙ g))
+    structs-here p =
+        listed-some s Anything 8 _ at r i a k m
+        ∙ ap₂ (λ (x : D.Struct.Struct) (j : ℕ). structOf p x (fieldsAt s p j) ∷ structsAt s p j) (sym (f ∙ ap structAt d)) (sym (ap (λ (x : Cursor). x .at) g))
 
-    pub structs-skip : (a : ℕ) → Onward structsAt s a at → OneOf (0 ∷ 1 ∷ 2 ∷ 3 ∷ 4 ∷ 5 ∷ 6 ∷ 8 ∷ 9 ∷ 10 ∷ 11 ∷ 12 ∷ 13 ∷ []) (tagOf the-type c) → Onward structsAt s a (k .at)
-    unfolding structsAt structs
-    structs-skip a o h =
-        let g = step-found s at c k (sym i ∙ m) in
-        let near = o .on in
-        let on = g .on in
-        record { same = λ p. o .same p ∙ listed-over s anything 8 _ at c k (sym i ∙ m) (other (0 ∷ 1 ∷ 2 ∷ 3 ∷ 4 ∷ 5 ∷ 6 ∷ 8 ∷ 9 ∷ 10 ∷ 11 ∷ 12 ∷ 13 ∷ []) 7 c tt h) refl; on = omega arith; later = onward-later structsAt s a at o c k (sym i ∙ m) }
+    pub structs-found : StructsFrom s at (AStruct e c)
+    structs-found =
+        let h = sought-nearer s Anything 8 at r i a k m in
+        let q : c .at ≡ k = ap (λ (x : Cursor). x .at) g in
+        record { list = structs-here; left = omega arith }
 
-    pub structs-found : (a : ℕ) (e : D.Struct.Struct) → Onward structsAt s a at → c ≡ C.Struct e → StructsFrom s a (AStruct e k)
-    structs-found a e o h =
-        let g = step-found s at c k (sym i ∙ m) in
-        let on = g .on in
-        let within = g .within in
-        let near = o .on in record { list = λ p. o .same p ∙ structs-here p e h; left = omega arith }
-
-  pub structs-end : (a : ℕ) → Onward structsAt s a at → r ≡ Stop → StructsFrom s a NoStruct
-  structs-end a o m = record { list = λ p. o .same p ∙ structs-none p m; left = omega arith }
-
-pub ruleset structs-laws = (structs-skip, structs-found, structs-end)
+pub ruleset structs-laws = (structs-none, structs-found)
 
 -- variants
-variants-ends : (c : Command) → OneOf (0 ∷ 1 ∷ 2 ∷ 3 ∷ 4 ∷ 5 ∷ 6 ∷ 7 ∷ 8 ∷ 12 ∷ 13 ∷ []) (tagOf the-type c) → aField (byteOf c) ≡ false
-variants-ends (C.Head x) h = refl
-variants-ends (C.Constant x) h = refl
-variants-ends (C.TypeAlias x) h = refl
-variants-ends (C.Enum x) h = refl
-variants-ends (C.Value x) h = refl
-variants-ends (C.Bitfield x) h = refl
-variants-ends (C.Member x) h = refl
-variants-ends (C.Struct x) h = refl
-variants-ends (C.Family x) h = refl
-variants-ends (C.Variant x) h = refl
-variants-ends (C.Field x) h = absurd (not-one-of (0 ∷ 1 ∷ 2 ∷ 3 ∷ 4 ∷ 5 ∷ 6 ∷ 7 ∷ 8 ∷ 12 ∷ 13 ∷ []) 10 tt h)
-variants-ends (C.PluginKey x) h = absurd (not-one-of (0 ∷ 1 ∷ 2 ∷ 3 ∷ 4 ∷ 5 ∷ 6 ∷ 7 ∷ 8 ∷ 12 ∷ 13 ∷ []) 11 tt h)
-variants-ends (C.UnstoredKey x) h = refl
-variants-ends (C.Version x) h = refl
-
-variant-is : (x : List ℕ) (e : D.Variant.Variant) → commandOf 10 x ≡ C.Variant e → variantAt x ≡ e
-unfolding commandOf
-variant-is x e h = cc
-
-module _ (s : Str) (at : ℕ) (r : Step) (i : r ≡ stepAt s at) where
-  variants-none : (p : Str) → r ≡ Stop → variantsAt s p at ≡ []
+module _ (s : Str) (at : ℕ) (r : Sought) (i : SoughtFrom s Fields 10 at r) where
+  pub variants-none : r ≡ Nowhere → VariantsFrom s at NoVariant
   unfolding variantsAt variants
-  variants-none p m = listed-stop s aField 10 _ at (sym i ∙ m)
+  variants-none m = record { list = λ p. listed-none s Fields 10 _ at r i m; left = omega arith }
 
-  module _ (c : Command) (k : Cursor) (m : r ≡ Next c k) where
-    variants-here : (p : Str) (e : D.Variant.Variant) → c ≡ C.Variant e → variantsAt s p at ≡ variantOf p e (fieldsAt s p (k .at)) ∷ variantsAt s p (k .at)
+  module _ (a k : ℕ) (m : r ≡ At a k) (y : Str) (e : D.Variant.Variant) (c : Cursor) (d : y ≡ drop a s) (f : e ≡ variantAt y) (g : c ≡ place k) where
+    variants-here : (p : Str) → variantsAt s p at ≡ variantsOf s p (AVariant e c)
     unfolding variantsAt variants fieldsAt
-    variants-here p e g =
-        listed-here s aField 10 _ at c k (sym i ∙ m) (ap byteOf g)
-        ∙ ap (λ (y : D.Variant.Variant). variantOf p y (fieldsAt s p (k .at)) ∷ variants s p (commandsAt s (k .at))) (variant-is (drop at s) e (operands-are s at c k (sym i ∙ m) 10 (ap byteOf g) ∙ g))
+    variants-here p =
+        listed-some s Fields 10 _ at r i a k m
+        ∙ ap₂ (λ (x : D.Variant.Variant) (j : ℕ). variantOf p x (fieldsAt s p j) ∷ variantsAt s p j) (sym (f ∙ ap variantAt d)) (sym (ap (λ (x : Cursor). x .at) g))
 
-    pub variants-skip-field : (a : ℕ) (x : D.Field.Field) → Onward variantsAt s a at → c ≡ C.Field x → Onward variantsAt s a (k .at)
-    unfolding variantsAt variants
-    variants-skip-field a x o h =
-        let g = step-found s at c k (sym i ∙ m) in
-        let near = o .on in
-        let on = g .on in
-        record { same = λ p. o .same p ∙ listed-over s aField 10 _ at c k (sym i ∙ m) (λ z. let y = ap byteOf h in omega arith) (ap (λ z. aField (byteOf z)) h); on = omega arith; later = onward-later variantsAt s a at o c k (sym i ∙ m) }
+    pub variants-found : VariantsFrom s at (AVariant e c)
+    variants-found =
+        let h = sought-nearer s Fields 10 at r i a k m in
+        let q : c .at ≡ k = ap (λ (x : Cursor). x .at) g in
+        record { list = variants-here; left = omega arith }
 
-    pub variants-skip-key : (a : ℕ) (x : D.PluginKey.PluginKey) → Onward variantsAt s a at → c ≡ C.PluginKey x → Onward variantsAt s a (k .at)
-    unfolding variantsAt variants
-    variants-skip-key a x o h =
-        let g = step-found s at c k (sym i ∙ m) in
-        let near = o .on in
-        let on = g .on in
-        record { same = λ p. o .same p ∙ listed-over s aField 10 _ at c k (sym i ∙ m) (λ z. let y = ap byteOf h in omega arith) (ap (λ z. aField (byteOf z)) h); on = omega arith; later = onward-later variantsAt s a at o c k (sym i ∙ m) }
-
-    pub variants-over : (a : ℕ) → Onward variantsAt s a at → OneOf (0 ∷ 1 ∷ 2 ∷ 3 ∷ 4 ∷ 5 ∷ 6 ∷ 7 ∷ 8 ∷ 12 ∷ 13 ∷ []) (tagOf the-type c) → VariantsFrom s a NoVariant
-    unfolding variantsAt variants
-    variants-over a o h = record { list = λ p. o .same p ∙ listed-end s aField 10 _ at c k (sym i ∙ m) (other (0 ∷ 1 ∷ 2 ∷ 3 ∷ 4 ∷ 5 ∷ 6 ∷ 7 ∷ 8 ∷ 12 ∷ 13 ∷ []) 9 c tt h) (variants-ends c h); left = omega arith }
-
-    pub variants-found : (a : ℕ) (e : D.Variant.Variant) → Onward variantsAt s a at → c ≡ C.Variant e → VariantsFrom s a (AVariant e k)
-    variants-found a e o h =
-        let g = step-found s at c k (sym i ∙ m) in
-        let on = g .on in
-        let within = g .within in
-        let near = o .on in record { list = λ p. o .same p ∙ variants-here p e h; left = omega arith }
-
-  pub variants-end : (a : ℕ) → Onward variantsAt s a at → r ≡ Stop → VariantsFrom s a NoVariant
-  variants-end a o m = record { list = λ p. o .same p ∙ variants-none p m; left = omega arith }
-
-pub ruleset variants-laws = (variants-skip-field, variants-skip-key, variants-over, variants-found, variants-end)
+pub ruleset variants-laws = (variants-none, variants-found)
 
 -- families
-family-is : (x : List ℕ) (e : D.Family.Family) → commandOf 9 x ≡ C.Family e → familyAt x ≡ e
-unfolding commandOf
-family-is x e h = cc
-
-module _ (s : Str) (at : ℕ) (r : Step) (i : r ≡ stepAt s at) where
-  families-none : (p : Str) → r ≡ Stop → familiesAt s p at ≡ []
+module _ (s : Str) (at : ℕ) (r : Sought) (i : SoughtFrom s Anything 9 at r) where
+  pub families-none : r ≡ Nowhere → FamiliesFrom s at NoFamily
   unfolding familiesAt families
-  families-none p m = listed-stop s anything 9 _ at (sym i ∙ m)
+  families-none m = record { list = λ p. listed-none s Anything 9 _ at r i m; left = omega arith }
 
-  module _ (c : Command) (k : Cursor) (m : r ≡ Next c k) where
-    families-here : (p : Str) (e : D.Family.Family) → c ≡ C.Family e → familiesAt s p at ≡ familyOf p e (fieldsAt s p (k .at)) (variantsAt s p (k .at)) ∷ familiesAt s p (k .at)
+  module _ (a k : ℕ) (m : r ≡ At a k) (y : Str) (e : D.Family.Family) (c : Cursor) (d : y ≡ drop a s) (f : e ≡ familyAt y) (g : c ≡ place k) where
+    families-here : (p : Str) → familiesAt s p at ≡ familiesOf s p (AFamily e c)
     unfolding familiesAt families fieldsAt variantsAt
-    families-here p e g =
-        listed-here s anything 9 _ at c k (sym i ∙ m) (ap byteOf g)
-        ∙ ap (λ (y : D.Family.Family). familyOf p y (fieldsAt s p (k .at)) (variantsAt s p (k .at)) ∷ families s p (commandsAt s (k .at))) (family-is (drop at s) e (operands-are s at c k (sym i ∙ m) 9 (ap byteOf g) ∙ g))
+    families-here p =
+        listed-some s Anything 9 _ at r i a k m
+        ∙ ap₂ (λ (x : D.Family.Family) (j : ℕ). familyOf p x (fieldsAt s p j) (variantsAt s p j) ∷ familiesAt s p j) (sym (f ∙ ap familyAt d)) (sym (ap (λ (x : Cursor). x .at) g))
 
-    pub families-skip : (a : ℕ) → Onward familiesAt s a at → OneOf (0 ∷ 1 ∷ 2 ∷ 3 ∷ 4 ∷ 5 ∷ 6 ∷ 7 ∷ 9 ∷ 10 ∷ 11 ∷ 12 ∷ 13 ∷ []) (tagOf the-type c) → Onward familiesAt s a (k .at)
-    unfolding familiesAt families
-    families-skip a o h =
-        let g = step-found s at c k (sym i ∙ m) in
-        let near = o .on in
-        let on = g .on in
-        record { same = λ p. o .same p ∙ listed-over s anything 9 _ at c k (sym i ∙ m) (other (0 ∷ 1 ∷ 2 ∷ 3 ∷ 4 ∷ 5 ∷ 6 ∷ 7 ∷ 9 ∷ 10 ∷ 11 ∷ 12 ∷ 13 ∷ []) 8 c tt h) refl; on = omega arith; later = onward-later familiesAt s a at o c k (sym i ∙ m) }
+    pub families-found : FamiliesFrom s at (AFamily e c)
+    families-found =
+        let h = sought-nearer s Anything 9 at r i a k m in
+        let q : c .at ≡ k = ap (λ (x : Cursor). x .at) g in
+        record { list = families-here; left = omega arith }
 
-    pub families-found : (a : ℕ) (e : D.Family.Family) → Onward familiesAt s a at → c ≡ C.Family e → FamiliesFrom s a (AFamily e k)
-    families-found a e o h =
-        let g = step-found s at c k (sym i ∙ m) in
-        let on = g .on in
-        let within = g .within in
-        let near = o .on in record { list = λ p. o .same p ∙ families-here p e h; left = omega arith }
-
-  pub families-end : (a : ℕ) → Onward familiesAt s a at → r ≡ Stop → FamiliesFrom s a NoFamily
-  families-end a o m = record { list = λ p. o .same p ∙ families-none p m; left = omega arith }
-
-pub ruleset families-laws = (families-skip, families-found, families-end)
+pub ruleset families-laws = (families-none, families-found)
 
 -- unstored
-unstored-is : (x : List ℕ) (e : D.PluginKey.PluginKey) → commandOf 13 x ≡ C.UnstoredKey e → keyAt x ≡ e
-unfolding commandOf
-unstored-is x e h = cc
-
-module _ (s : Str) (at : ℕ) (r : Step) (i : r ≡ stepAt s at) where
-  unstored-none : (p : Str) → r ≡ Stop → unstoredAt s p at ≡ []
+module _ (s : Str) (at : ℕ) (r : Sought) (i : SoughtFrom s Anything 13 at r) where
+  pub unstored-none : r ≡ Nowhere → UnstoredFrom s at NoUnstored
   unfolding unstoredAt unstored
-  unstored-none p m = listed-stop s anything 13 _ at (sym i ∙ m)
+  unstored-none m = record { list = λ p. listed-none s Anything 13 _ at r i m; left = omega arith }
 
-  module _ (c : Command) (k : Cursor) (m : r ≡ Next c k) where
-    unstored-here : (p : Str) (e : D.PluginKey.PluginKey) → c ≡ C.UnstoredKey e → unstoredAt s p at ≡ keyOf p e ∷ unstoredAt s p (k .at)
+  module _ (a k : ℕ) (m : r ≡ At a k) (y : Str) (e : D.PluginKey.PluginKey) (c : Cursor) (d : y ≡ drop a s) (f : e ≡ keyAt y) (g : c ≡ place k) where
+    unstored-here : (p : Str) → unstoredAt s p at ≡ unstoredOf s p (AnUnstored e c)
     unfolding unstoredAt unstored
-    unstored-here p e g =
-        listed-here s anything 13 _ at c k (sym i ∙ m) (ap byteOf g)
-        ∙ ap (λ (y : D.PluginKey.PluginKey). keyOf p y ∷ unstored s p (commandsAt s (k .at))) (unstored-is (drop at s) e (operands-are s at c k (sym i ∙ m) 13 (ap byteOf g) ∙ g))
+    unstored-here p =
+        listed-some s Anything 13 _ at r i a k m
+        ∙ ap₂ (λ (x : D.PluginKey.PluginKey) (j : ℕ). keyOf p x ∷ unstoredAt s p j) (sym (f ∙ ap keyAt d)) (sym (ap (λ (x : Cursor). x .at) g))
 
-    pub unstored-skip : (a : ℕ) → Onward unstoredAt s a at → OneOf (0 ∷ 1 ∷ 2 ∷ 3 ∷ 4 ∷ 5 ∷ 6 ∷ 7 ∷ 8 ∷ 9 ∷ 10 ∷ 11 ∷ 13 ∷ []) (tagOf the-type c) → Onward unstoredAt s a (k .at)
-    unfolding unstoredAt unstored
-    unstored-skip a o h =
-        let g = step-found s at c k (sym i ∙ m) in
-        let near = o .on in
-        let on = g .on in
-        record { same = λ p. o .same p ∙ listed-over s anything 13 _ at c k (sym i ∙ m) (other (0 ∷ 1 ∷ 2 ∷ 3 ∷ 4 ∷ 5 ∷ 6 ∷ 7 ∷ 8 ∷ 9 ∷ 10 ∷ 11 ∷ 13 ∷ []) 12 c tt h) refl; on = omega arith; later = onward-later unstoredAt s a at o c k (sym i ∙ m) }
+    pub unstored-found : UnstoredFrom s at (AnUnstored e c)
+    unstored-found =
+        let h = sought-nearer s Anything 13 at r i a k m in
+        let q : c .at ≡ k = ap (λ (x : Cursor). x .at) g in
+        record { list = unstored-here; left = omega arith }
 
-    pub unstored-found : (a : ℕ) (e : D.PluginKey.PluginKey) → Onward unstoredAt s a at → c ≡ C.UnstoredKey e → UnstoredFrom s a (AnUnstored e k)
-    unstored-found a e o h =
-        let g = step-found s at c k (sym i ∙ m) in
-        let on = g .on in
-        let within = g .within in
-        let near = o .on in record { list = λ p. o .same p ∙ unstored-here p e h; left = omega arith }
-
-  pub unstored-end : (a : ℕ) → Onward unstoredAt s a at → r ≡ Stop → UnstoredFrom s a NoUnstored
-  unstored-end a o m = record { list = λ p. o .same p ∙ unstored-none p m; left = omega arith }
-
-pub ruleset unstored-laws = (unstored-skip, unstored-found, unstored-end)
+pub ruleset unstored-laws = (unstored-none, unstored-found)
 
 -- versions
-version-is : (x : List ℕ) (e : D.Version.Version) → commandOf 14 x ≡ C.Version e → versionAt x ≡ e
-unfolding commandOf
-version-is x e h = cc
-
-module _ (s : Str) (at : ℕ) (r : Step) (i : r ≡ stepAt s at) where
-  versions-none : (p : Str) → r ≡ Stop → versionsAt s p at ≡ []
+module _ (s : Str) (at : ℕ) (r : Sought) (i : SoughtFrom s Anything 14 at r) where
+  pub versions-none : r ≡ Nowhere → VersionsFrom s at NoVersion
   unfolding versionsAt versions
-  versions-none p m = listed-stop s anything 14 _ at (sym i ∙ m)
+  versions-none m = record { list = λ p. listed-none s Anything 14 _ at r i m; left = omega arith }
 
-  module _ (c : Command) (k : Cursor) (m : r ≡ Next c k) where
-    versions-here : (p : Str) (e : D.Version.Version) → c ≡ C.Version e → versionsAt s p at ≡ versionOf p e ∷ versionsAt s p (k .at)
+  module _ (a k : ℕ) (m : r ≡ At a k) (y : Str) (e : D.Version.Version) (c : Cursor) (d : y ≡ drop a s) (f : e ≡ versionAt y) (g : c ≡ place k) where
+    versions-here : (p : Str) → versionsAt s p at ≡ versionsOf s p (AVersion e c)
     unfolding versionsAt versions
-    versions-here p e g =
-        listed-here s anything 14 _ at c k (sym i ∙ m) (ap byteOf g)
-        ∙ ap (λ (y : D.Version.Version). versionOf p y ∷ versions s p (commandsAt s (k .at))) (version-is (drop at s) e (operands-are s at c k (sym i ∙ m) 14 (ap byteOf g) ∙ g))
+    versions-here p =
+        listed-some s Anything 14 _ at r i a k m
+        ∙ ap₂ (λ (x : D.Version.Version) (j : ℕ). versionOf p x ∷ versionsAt s p j) (sym (f ∙ ap versionAt d)) (sym (ap (λ (x : Cursor). x .at) g))
 
-    pub versions-skip : (a : ℕ) → Onward versionsAt s a at → OneOf (0 ∷ 1 ∷ 2 ∷ 3 ∷ 4 ∷ 5 ∷ 6 ∷ 7 ∷ 8 ∷ 9 ∷ 10 ∷ 11 ∷ 12 ∷ []) (tagOf the-type c) → Onward versionsAt s a (k .at)
-    unfolding versionsAt versions
-    versions-skip a o h =
-        let g = step-found s at c k (sym i ∙ m) in
-        let near = o .on in
-        let on = g .on in
-        record { same = λ p. o .same p ∙ listed-over s anything 14 _ at c k (sym i ∙ m) (other (0 ∷ 1 ∷ 2 ∷ 3 ∷ 4 ∷ 5 ∷ 6 ∷ 7 ∷ 8 ∷ 9 ∷ 10 ∷ 11 ∷ 12 ∷ []) 13 c tt h) refl; on = omega arith; later = onward-later versionsAt s a at o c k (sym i ∙ m) }
+    pub versions-found : VersionsFrom s at (AVersion e c)
+    versions-found =
+        let h = sought-nearer s Anything 14 at r i a k m in
+        let q : c .at ≡ k = ap (λ (x : Cursor). x .at) g in
+        record { list = versions-here; left = omega arith }
 
-    pub versions-found : (a : ℕ) (e : D.Version.Version) → Onward versionsAt s a at → c ≡ C.Version e → VersionsFrom s a (AVersion e k)
-    versions-found a e o h =
-        let g = step-found s at c k (sym i ∙ m) in
-        let on = g .on in
-        let within = g .within in
-        let near = o .on in record { list = λ p. o .same p ∙ versions-here p e h; left = omega arith }
-
-  pub versions-end : (a : ℕ) → Onward versionsAt s a at → r ≡ Stop → VersionsFrom s a NoVersion
-  versions-end a o m = record { list = λ p. o .same p ∙ versions-none p m; left = omega arith }
-
-pub ruleset versions-laws = (versions-skip, versions-found, versions-end)
+pub ruleset versions-laws = (versions-none, versions-found)
 
 module _ (s : Str) (at : ℕ) (r : HeadStep) (f : HeadsFrom s at r) where
   -- the list itself, at the step

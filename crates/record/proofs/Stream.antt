@@ -51,14 +51,6 @@ module _ (s : List ℕ) (at : ℕ) (c : Command) (k : Cursor) (e : stepAt s at �
       let z : widthOf b ≡ 0 → ⊥ = eqb-false (widthOf b) 0 (t .known) in
       record { on = omega arith; wide = sym n; within = omega arith; is-command = t .that; known = z; going = eqb-false b 15 (t .going) }
 
--- the cursor moves on
-pub nearer : (s : List ℕ) (at : ℕ) (r : Step) (c : Command) (k : Cursor) → r ≡ stepAt s at → r ≡ Next c k → length s - k .at < length s - at
-nearer s at r c k e n =
-    let g = step-found s at c k (sym e ∙ n) in
-    let a = g .on in
-    let b = g .within in
-    omega arith
-
 -- more commands than bytes change nothing
 enough : (s : List ℕ) (n m at : ℕ) → length s ≤ n + at → length s ≤ m + at → commandsFrom n s at ≡ commandsFrom m s at
 unfolding commandsFrom
@@ -100,3 +92,17 @@ module _ (s : List ℕ) (at : ℕ) where
 
     pub commands-later : (v : ℕ) → List·Memᴰ v (commandsAt s (k .at)) → List·Memᴰ v (commandsAt s at)
     commands-later v m = subst (λ (l : List ℕ). List·Memᴰ v l) (sym (commands-next c k e)) (List·Memᴰ·tail m)
+
+-- along the commands
+module _ (s : List ℕ) (P : ℕ → Type 0) (stop : (at : ℕ) → stepAt s at ≡ Stop → P at) (next : (at : ℕ) (c : Command) (k : Cursor) → stepAt s at ≡ Next c k → P (k .at) → P at) where
+  along-from : (n at : ℕ) → length s ≤ n + at → P at
+  along-from zero at h = stop at (sym (step-end s at (omega arith)))
+  along-from (suc n) at h = go (along-from n) (stepAt s at) refl
+    where
+      go : ((to : ℕ) → length s ≤ n + to → P to) → (t : Step) → stepAt s at ≡ t → P at
+      go ih (Next c k) e = next at c k e (ih (k .at) (let f = step-found s at c k e in let a = f .on in omega arith))
+      go ih Stop e = stop at e
+
+  -- what holds where the stream stops, and at a command if it holds after it, holds at every place
+  pub along : (at : ℕ) → P at
+  along at = along-from (length s) at (omega arith)

@@ -1,19 +1,18 @@
 -- The laws of the types in the order of the stream, and of the ends of their fields. Assumes nothing.
-use mathlib.Core.Path.{_≡_, refl, sym, ap, subst, _∙_}
+use mathlib.Core.Path.{_≡_, refl, sym, ap, ap₂, subst, _∙_}
 use mathlib.Core.List.{List, [], _∷_, _++_}
 use mathlib.Core.Option.{none}
 use mathlib.Core.Bool.{Bool, true, false, _||_}
 use Prim.Native.Nat.{ℕ, suc, _+_, _-_, _≤_, _<_}
 use native.Mathlib.Omega.{arith}
-use types.Run.{OneOf}
-use denote.Enum.Declared.{tagOf}
-use lib.ListN.{length, drop}
-use lib.Dec.{ltb, leb}
+use lib.ListN.{length, getD, drop}
+use lib.Dec.{eqb, ltb, leb}
 use borrow.Author.Tests.{lt-ltb, le-ltb, ne-eqb, leb-true, leb-false}
 use Rattle.record.specs.Base.{Str, bytes, eqs, any, orElse}
 use Rattle.record.specs.Scalars.{Scalar, primSize}
 use Rattle.record.specs.Schema.{Schema, Field, Family}
-use Rattle.record.specs.Commands.{commandOf, familyAt, stepAt, commandsAt}
+use Rattle.record.specs.Commands.{familyAt, place, commandsAt}
+use Rattle.record.specs.Seek.{afterAt}
 use Rattle.record.specs.Lists.{optOf, fieldOf, familyOf, fields}
 use Rattle.record.specs.Steps.{enumsAt, fieldsAt, fieldKeyAt, FieldsFrom}
 use Rattle.record.specs.Kind.{kindOf, meaning, words}
@@ -24,85 +23,83 @@ use Rattle.record.specs.declared.operands.OptText.{OptText}
 use Rattle.record.specs.declared.operands.OptText.the-variants.{Given}
 use Rattle.record.specs.declared.command as D
 use Rattle.record.specs.declared.command.Cursor.{Cursor}
-use Rattle.record.specs.declared.command.Command.{Command}
-use Rattle.record.specs.declared.command.Command.the-variants as C
-use Rattle.record.specs.declared.command.Step.{Step}
-use Rattle.record.specs.declared.command.Step.the-variants.{Next, Stop}
 use Rattle.record.specs.declared.lists.FieldStep.{FieldStep}
 use Rattle.record.specs.declared.lists.FieldStep.the-variants.{NoField, AField}
 use Rattle.record.specs.declared.vast.TypeStep.{TypeStep}
 use Rattle.record.specs.declared.vast.TypeStep.the-variants.{NoType, Plain, Fronted}
 use Rattle.record.specs.declared.vast.Vast.the-variants.{NoneVast, VastAt}
-use Rattle.record.proofs.command.Command.{the-type}
-use Rattle.record.proofs.Stream.{step-found, commands-stop, commands-next}
-use Rattle.record.proofs.ListLaws.{byteOf, other, byte-is, operands-are, Onward, onward-later, find-none, find-hit, find-miss}
+use Rattle.record.proofs.Stream.{commands-stop, commands-next}
+use Rattle.record.proofs.ListLaws.{find-none, find-hit, find-miss}
+use Rattle.record.proofs.SeekLaws.{Stepped, stepped, ended-there, after-nearer}
 use Rattle.record.proofs.StepLaws.{fields-over-now, fields-now, fields-nearer}
 use Rattle.record.proofs.SizeLaws.{cap-low, cap-high, keyless}
 
 -- one step along the types ------------------------------------------------------------------------------------------------
 
-module _ (s : Str) (at : ℕ) (r : Step) (i : r ≡ stepAt s at) (a : ℕ) (o : Onward openedFrom s a at) where
-  pub types-end : r ≡ Stop → OpenedFrom s a NoType
+module _ (b : ℕ) where
+  pub opens-struct : b ≡ 8 → true ≡ (eqb b 8 || eqb b 10)
+  opens-struct h = rw h
+
+  pub opens-variant : (b ≡ 8 → ⊥) → eqb b 10 ≡ (eqb b 8 || eqb b 10)
+  opens-variant h = rw (ne-eqb b 8 h)
+
+pub ruleset opens-laws = (opens-struct, opens-variant)
+
+-- the types from a place on are those from a later one
+pub record Onward (s : Str) (a at : ℕ) : Type 0 where
+  pub same : (p : Str) → openedFrom s p a ≡ openedFrom s p at
+  pub on : length s - at ≤ length s - a
+
+pub onward-here : (s : Str) (a : ℕ) → Onward s a a
+onward-here s a = record { same = λ p. refl; on = omega arith }
+
+module _ (s : Str) (a at n : ℕ) (o : Onward s a at) (e : n ≡ afterAt s at) where
+  pub types-end : n ≡ 0 → OpenedFrom s a NoType
   unfolding openedFrom opened
-  types-end m = record { list = λ p. o .same p ∙ rw (commands-stop s at (sym i ∙ m)); left = omega arith }
+  types-end z = record { list = λ p. o .same p ∙ rw (commands-stop s at (ended-there s at n e z)); left = omega arith }
 
-  module _ (c : Command) (k : Cursor) (m : r ≡ Next c k) where
+  module _ (z : n ≡ 0 → ⊥) (b : ℕ) (i : b ≡ getD s at 0) where
+    t : Stepped s at n
+    t = stepped s at n e z
+
     -- the list from here, by the command's number
-    types-at : (p : Str) (b : ℕ) → byteOf c ≡ b → openedFrom s p at ≡ openedAt s p at (commandsAt s (k .at)) (openedFrom s p (k .at))
+    types-at : (p : Str) → openedFrom s p at ≡ openedAt s p at (commandsAt s n) (openedFrom s p n)
     unfolding openedFrom opened
-    types-at p b e = rw (commands-next s at c k (sym i ∙ m))
+    types-at p = rw (commands-next s at (t .command) (t .cursor) (t .step), t .to)
 
-    pub types-struct : (x : D.Struct.Struct) → c ≡ C.Struct x → OpenedFrom s a (Plain at k)
+    near : suc (length s - n) ≤ length s - a
+    near = let h = after-nearer s at n e z in let g = o .on in omega arith
+
+    pub types-family : (c : Cursor) (y : Str) (x : D.Family.Family) → b ≡ 9 → y ≡ drop at s → x ≡ familyAt y → c ≡ place n → OpenedFrom s a (Fronted at x c)
     unfolding openedAt fieldsAt
-    types-struct x h =
-        let g = step-found s at c k (sym i ∙ m) in
-        let near = o .on in
-        let on = g .on in
-        let within = g .within in
-        record { list = λ p. o .same p ∙ types-at p 8 (ap byteOf h) ∙ rw (byte-is s at c k (sym i ∙ m) ∙ ap byteOf h); left = omega arith }
-
-    pub types-variant : (x : D.Variant.Variant) → c ≡ C.Variant x → OpenedFrom s a (Plain at k)
-    unfolding openedAt fieldsAt
-    types-variant x h =
-        let g = step-found s at c k (sym i ∙ m) in
-        let near = o .on in
-        let on = g .on in
-        let within = g .within in
-        record { list = λ p. o .same p ∙ types-at p 10 (ap byteOf h) ∙ rw (byte-is s at c k (sym i ∙ m) ∙ ap byteOf h); left = omega arith }
-
-    family-is : (x : D.Family.Family) → c ≡ C.Family x → familyAt (drop at s) ≡ x
-    unfolding commandOf
-    family-is x h = let q = operands-are s at c k (sym i ∙ m) 9 (ap byteOf h) ∙ h in cc
-
-    pub types-family : (x : D.Family.Family) → c ≡ C.Family x → OpenedFrom s a (Fronted at x k)
-    unfolding openedAt fieldsAt
-    types-family x h =
-        let g = step-found s at c k (sym i ∙ m) in
-        let near = o .on in
-        let on = g .on in
-        let within = g .within in
+    types-family c y x h d f g =
+        let l = near in
+        let q : c .at ≡ n = ap (λ (k : Cursor). k .at) g in
         record {
           list = λ p.
-              o .same p ∙ types-at p 9 (ap byteOf h) ∙ (rw (byte-is s at c k (sym i ∙ m) ∙ ap byteOf h) refl)
-              ∙ ap (λ (y : D.Family.Family). record { place = at; fields = prefix (familyOf p y [] []) ++ fields s p (commandsAt s (k .at)) } ∷ openedFrom s p (k .at)) (family-is x h);
+              o .same p ∙ types-at p ∙ (rw (sym i ∙ h) refl)
+              ∙ ap₂ (λ (v : D.Family.Family) (j : ℕ). record { place = at; fields = prefix (familyOf p v [] []) ++ fields s p (commandsAt s j) } ∷ openedFrom s p j) (sym (f ∙ ap familyAt d)) (sym q);
           left = omega arith;
         }
 
-    pub types-skip : OneOf (0 ∷ 1 ∷ 2 ∷ 3 ∷ 4 ∷ 5 ∷ 6 ∷ 10 ∷ 11 ∷ 12 ∷ 13 ∷ []) (tagOf the-type c) → Onward openedFrom s a (k .at)
-    unfolding openedAt
-    types-skip h =
-        let g = step-found s at c k (sym i ∙ m) in
-        let near = o .on in
-        let on = g .on in
-        let ks : List ℕ = 0 ∷ 1 ∷ 2 ∷ 3 ∷ 4 ∷ 5 ∷ 6 ∷ 10 ∷ 11 ∷ 12 ∷ 13 ∷ [] in
-        record {
-          same = λ p. o .same p ∙ types-at p (byteOf c) refl
-              ∙ rw (byte-is s at c k (sym i ∙ m), ne-eqb (byteOf c) 9 (other ks 8 c tt h), ne-eqb (byteOf c) 8 (other ks 7 c tt h), ne-eqb (byteOf c) 10 (other ks 9 c tt h));
-          on = omega arith;
-          later = onward-later openedFrom s a at o c k (sym i ∙ m);
-        }
+    module _ (w : b ≡ 9 → ⊥) (q : Bool) (v : q ≡ (eqb b 8 || eqb b 10)) where
+      pub types-plain : (c : Cursor) → q ≡ true → c ≡ place n → OpenedFrom s a (Plain at c)
+      unfolding openedAt fieldsAt
+      types-plain c h g =
+          let l = near in
+          let k : c .at ≡ n = ap (λ (x : Cursor). x .at) g in
+          record {
+            list = λ p.
+                o .same p ∙ types-at p ∙ (rw (← i, ne-eqb b 9 w, ← v, h) refl)
+                ∙ ap (λ (j : ℕ). record { place = at; fields = fields s p (commandsAt s j) } ∷ openedFrom s p j) (sym k);
+            left = omega arith;
+          }
 
-pub ruleset type-laws = (types-end, types-struct, types-variant, types-family, types-skip)
+      pub types-skip : q ≡ false → Onward s a n
+      unfolding openedAt
+      types-skip h = let l = near in record { same = λ p. o .same p ∙ types-at p ∙ rw (← i, ne-eqb b 9 w, ← v, h); on = omega arith }
+
+pub ruleset type-laws = (types-end, types-family, types-plain, types-skip)
 
 -- the ends of fields ------------------------------------------------------------------------------------------------------
 

@@ -206,9 +206,6 @@ puts-near {out} {xs} {after} {at} p = let e = p .end in let b = sat-below (at + 
 pub puts-exact : {out xs after : Str} {at r : ℕ} → Puts out at xs after r → r < largest → r ≡ at + length xs
 puts-exact {out} {xs} {after} {at} p h = let e = p .end in p .end ∙ sat-exact (at + length xs) (omega arith)
 
-pub puts-whole : {out xs after : Str} {at r : ℕ} → Puts out at xs after r → at + length xs ≤ largest → r ≡ at + length xs
-puts-whole {out} {xs} {after} {at} p h = p .end ∙ sym (sat-low (at + length xs) h)
-
 -- the answer is a number of the machine
 pub puts-small : {out xs after : Str} {at r : ℕ} → Puts out at xs after r → r ≤ largest
 puts-small {out} {xs} {after} {at} p = let e = p .end in ⊎-elim (λ w. omega arith) (λ w. omega arith) (sat-cases (at + length xs))

@@ -1,4 +1,4 @@
--- The commands of 01: the table of their operands, the command at a place, and the places of all commands. Assumes nothing.
+-- The commands of 01, Record commands: the table of their operands, the command at a place, and the places of all commands. Assumes nothing.
 use Prim.Native.Nat.{ℕ, zero, suc, _+_, _-_}
 use mathlib.Core.List.{List, [], _∷_}
 use mathlib.Core.Option.{Option, none, some}
@@ -28,7 +28,7 @@ use Rattle.record.specs.declared.command.Command.the-variants as C
 use Rattle.record.specs.declared.command.Step.{Step}
 use Rattle.record.specs.declared.command.Step.the-variants.{Next, Stop}
 
--- The operands of each command, in 01's letters: T a text; O a text that may be absent; ! an O that a current record requires; ? an O that is
+-- 01's table. The operands of each command, in 01's letters: T a text; O a text that may be absent; ! an O that a current record requires; ? an O that is
 -- required where is-text is 1; F a flag; N a number that may be absent; W four bytes; V eight.
 unfoldable pub operands : ℕ → Option Str
 operands b =
@@ -48,7 +48,7 @@ operands b =
     (cond (eqb b 14) (some (bytes "TW"))
     (cond (eqb b 15) (some (bytes "")) none))))))))))))))
 
--- the bytes of an operand
+-- 01: the bytes of an operand, F 1, W 4, V 8, N 5, a text 3
 unfoldable pub wide : ℕ → ℕ
 wide o =
     cond (eqb o 70) 1

@@ -1,4 +1,4 @@
--- Texts cut at a byte.
+-- Texts cut at a byte. This project's own words, for releases and for the table of scalar words. Assumes nothing.
 use Prim.Native.Nat.{ℕ, suc}
 use mathlib.Core.List.{[], _∷_}
 use mathlib.Core.Bool.{cond}

@@ -1,4 +1,4 @@
--- The texts that the descriptions of fields stand for. Assumes nothing.
+-- The texts that the code's descriptions of fields stand for; what a field's description is, shape_type of schema.rs, stands in Shapes. Assumes nothing.
 use mathlib.Core.List.{_∷_, _++_}
 use Prim.Native.Nat.{ℕ}
 use Rattle.record.specs.Base.{Str, bytes, decimal, orElse}

@@ -1,4 +1,5 @@
--- One command judged: refusals 2, 1, 3, 4, 5, 6 of 01, each at the command's place. Assumes nothing.
+-- One command judged: refusals 2, 1, 3, 4, 5, 6 in this order, each at the command's place, after the order in 01, What a check returns, and the operands
+-- and places in 01, Record commands. Assumes nothing.
 use Prim.Native.Nat.{ℕ, _+_, _-_}
 use mathlib.Core.List.{[], _∷_}
 use mathlib.Core.Option.{Option, none, some}
@@ -21,7 +22,7 @@ use Rattle.record.specs.declared.judge.Fault.the-variants.{Fine, Outside
 use Rattle.record.specs.declared.judge.Judged.{Judged}
 use Rattle.record.specs.declared.judge.Judged.the-variants.{Next, Done, Refused}
 
--- operands: any 4 goes before any 5, and that before any 6 ------------------------------------------------------------------
+-- operands. 01: 4, 5, 6, so any 4 goes before any 5, and that before any 6 ------------------------------------------------------------------
 
 abbrev pub worseOf : Fault → Fault → Fault
 worseOf Fine b = b
@@ -39,18 +40,20 @@ abbrev pub missingIn : Side → Fault
 missingIn Current = Missing
 missingIn Released = Fine
 
--- what an absent text comes to, by the operand's letter (T, O, ! or ?); is-text is the flag at 4
+-- 01: what an absent text comes to, by the operand's letter: 4 in a plain T, nothing in an O, 5 at "!" in a current record and at "?" where is-text, the flag
+-- at 4, is 1
 unfoldable pub ifAbsent : Side → Str → ℕ → Fault
 ifAbsent side x o =
     cond (eqb o 79) Fine
     (cond (eqb o 33) (missingIn side)
     (cond (eqb o 63) (cond (flagAt x 4) Missing Fine) Outside))
 
--- a text that is there lies in the pool, which has n bytes
+-- 01: a text that is there lies in the pool, which has n bytes, or it is 4
 abbrev pub textFault : ℕ → Fault → OptText → Fault
 textFault n absent Absent = absent
 textFault n absent (Given t) = cond (leb (t .start + t .len) n) Fine Outside
 
+-- 01: a flag byte above 1 is 6
 unfoldable pub flagFault : ℕ → Fault
 flagFault b = cond (ltb b 2) Fine Flag
 
@@ -81,7 +84,7 @@ inFamily InFamily = true
 unfoldable pub follows : Cursor → ℕ → ℕ → Bool
 follows c a b = eqb (c .last) a || eqb (c .last) b
 
--- 01 first and once; 05 after 04 or 05; 07 after 06 or 07; 0A while a family is open; 0B while a type is; 0C right after 0B; all others
+-- 01's rules of place: 01 first and once; 05 after 04 or 05; 07 after 06 or 07; 0A while a family is open; 0B while a type is; 0C right after 0B; all others
 -- anywhere after the head
 unfoldable pub mayStand : Cursor → ℕ → Bool
 mayStand c b =
@@ -92,7 +95,7 @@ mayStand c b =
     (cond (eqb b 11) (isOpen (c .parent))
     (cond (eqb b 12) (follows c 11 11) (not (eqb (c .last) 0)))))))
 
--- only 0A, 0B and 0C leave a structure or a family open
+-- 01: only 0A, 0B and 0C leave a structure or a family open
 unfoldable pub parentAfter : Parent → ℕ → Parent
 parentAfter p b =
     cond (eqb b 8) InStruct
@@ -106,7 +109,7 @@ parentAfter p b =
 abbrev pub moved : Cursor → ℕ → ℕ → Cursor
 moved c b w = record { at = c .at + w; last = b; parent = parentAfter (c .parent) b }
 
--- a command without fault; nothing stands after the end
+-- a command without fault. 01: any byte after 0F is 3, at its own place
 unfoldable pub ready : Str → Cursor → ℕ → ℕ → Judged
 ready s c b w =
     cond (eqb b 15) (cond (eqb (c .at + w) (length s)) Done (Refused R.Misplaced (c .at + w)))
@@ -128,7 +131,7 @@ abbrev pub judgedAs : Side → Str → ℕ → Cursor → ℕ → Option Str →
 judgedAs side s n c b none = Refused R.Unknown (c .at)
 judgedAs side s n c b (some os) = judgedWith side s n c os (1 + widths os) (mayStand c b)
 
--- the command at a cursor, of a stream beside a pool of n bytes
+-- the command at a cursor, of a stream beside a pool of n bytes. 01: with 0F lacking, 1 at the stream's length
 unfoldable pub judgedAt : Side → Str → ℕ → Cursor → Judged
 judgedAt side s n c =
     cond (ltb (c .at) (length s)) (judgedAs side s n c (getD s (c .at) 0) (operands (getD s (c .at) 0))) (Refused R.Cut (c .at))

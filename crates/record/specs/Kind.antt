@@ -1,4 +1,4 @@
--- The kinds of a field, each by its word.
+-- The kinds of a field, each by its whole word: 01, Flattening. Assumes nothing.
 use mathlib.Core.List.{List, [], _∷_, map}
 use mathlib.Core.Bool.{Bool, true, false, cond}
 use Rattle.record.specs.Base.{Str, bytes, eqs}
@@ -9,6 +9,7 @@ pub record Word : Type 0 where
   pub spelt : Str
   pub means : Kind
 
+-- 01's sixteen words
 unfoldable pub words : List Word
 words =
     record { spelt = bytes "scalar"; means = Scalar } ∷
@@ -37,6 +38,7 @@ unfoldable pub meaning : List Word → Str → Kind
 meaning [] w = Other
 meaning (x ∷ xs) w = cond (eqs w (x .spelt)) (x .means) (meaning xs w)
 
+-- 01: a kind is recognised by its whole word
 unfoldable pub kindOf : Str → Kind
 kindOf w = meaning words w
 

@@ -1,4 +1,4 @@
--- The letters of a pool.
+-- The letters of a pool: number 7 of 01, What a check returns. Assumes nothing.
 use Prim.Native.Nat.{ℕ, _+_}
 use mathlib.Core.List.{[], _∷_}
 use mathlib.Core.Bool.{Bool, _&&_, cond}
@@ -7,7 +7,7 @@ use Rattle.record.specs.Base.{Str}
 use Rattle.record.specs.declared.letters.Letters.{Letters}
 use Rattle.record.specs.declared.letters.Letters.the-variants.{Good, Odd}
 
--- the letter rule
+-- 01: a letter is a byte of 20 to 7E hex
 unfoldable pub isLetter : ℕ → Bool
 isLetter b = leb 0x20 b && leb b 0x7e
 

@@ -1,4 +1,4 @@
--- The lists of a record, read off the places of its commands; what the operands mean over the pool. Assumes nothing.
+-- The lists of a record (01, Record commands), read off the places of its commands; what the operands mean over the pool. Assumes nothing.
 use mathlib.Core.List.{List, [], _∷_}
 use mathlib.Core.Option.{Option, none, some}
 use mathlib.Core.Bool.{Bool, true, false, _||_, cond}
@@ -105,7 +105,7 @@ listed s over b f (at ∷ ps) =
     cond (eqb (getD s at 0) b) (f at ps ∷ listed s over b f ps)
     (cond (over (getD s at 0)) (listed s over b f ps) [])
 
--- what may stand between the elements of a list: all commands, none, plugin keys, fields with their keys
+-- what may stand between the elements of a list: all commands, none, plugin keys, fields with their keys, variants and keys
 abbrev pub anything : ℕ → Bool
 anything b = true
 
@@ -117,6 +117,9 @@ aKey b = eqb b 12
 
 abbrev pub aField : ℕ → Bool
 aField b = eqb b 11 || eqb b 12
+
+abbrev pub aVariant : ℕ → Bool
+aVariant b = eqb b 10 || eqb b 12
 
 module _ (s p : Str) where
   unfoldable pub heads : List ℕ → List Heading

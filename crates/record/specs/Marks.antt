@@ -1,4 +1,5 @@
--- Marks on the fields of a stream, one for each byte at which a field's command may begin, and what a walk does to them. Assumes nothing.
+-- Marks on the fields of a stream, one for each byte at which a field's command may begin, and what a walk does to them: the code's way to 01, Ownership,
+-- which is defined in Owner. Assumes nothing.
 use mathlib.Core.Path.{_≡_}
 use mathlib.Core.List.{List, [], _∷_}
 use mathlib.Core.Option.{Option, none, some}
@@ -10,8 +11,11 @@ use lib.Dec.{eqb}
 use Rattle.record.specs.Base.{Str, first}
 use Rattle.record.specs.Schema.{Field}
 use Rattle.record.specs.Commands.{fieldAt, commandsAt}
-use Rattle.record.specs.Lists.{listed, fieldOf, keys, aKey}
+use Rattle.record.specs.Lists.{listed, fieldOf, keys}
 use Rattle.record.specs.Steps.{fieldKeyAt}
+use Rattle.record.specs.Seek.{overOf}
+use Rattle.record.specs.declared.seek.Between.{Between}
+use Rattle.record.specs.declared.seek.Between.the-variants.{Keys, Variants}
 use Rattle.record.specs.Owner.{Types, referenced, hasSlot, Edge, Leads}
 use Rattle.record.specs.References.{typesAt}
 use Rattle.record.specs.declared.marks.PlaceStep.{PlaceStep}
@@ -20,16 +24,13 @@ use Rattle.record.specs.declared.marks.PlaceStep.the-variants.{NoPlace, 
 -- places -----------------------------------------------------------------------------------------------------------------
 
 -- what may stand between the fields of a type: plugin keys, and in a family its variants
-abbrev pub aVariant : ℕ → Bool
-aVariant b = eqb b 10 || eqb b 12
-
-abbrev pub between : Bool → ℕ → Bool
-between true = aVariant
-between false = aKey
+abbrev pub between : Bool → Between
+between true = Variants
+between false = Keys
 
 -- the fields of a type that begin at a place
 unfoldable pub bodyAt : Bool → Str → Str → ℕ → List Field
-bodyAt family s p at = listed s (between family) 11 (λ at rest. fieldOf p (fieldAt (drop at s)) (first (keys s p rest))) (commandsAt s at)
+bodyAt family s p at = listed s (overOf (between family)) 11 (λ at rest. fieldOf p (fieldAt (drop at s)) (first (keys s p rest))) (commandsAt s at)
 
 abbrev pub bodyOf : Bool → Str → Str → PlaceStep → List Field
 bodyOf family s p NoPlace = []

@@ -118,7 +118,7 @@ unfoldable pub rootsIn : List Struct → List Str → List Str
 rootsIn ss [] = []
 rootsIn ss (x ∷ xs) = withName (structInSlot x ss) (rootsIn ss xs)
 
--- the order in which ownership resolves
+-- the order in which ownership resolves: OWNERSHIP_SLOT_ORDER of schema.rs. 01: in slot order metadata, runtime, info
 unfoldable pub ownershipOrder : List Str
 ownershipOrder = bytes "metadata" ∷ bytes "runtime" ∷ bytes "info" ∷ []
 

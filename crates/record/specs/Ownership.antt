@@ -1,4 +1,4 @@
--- The marks of a record's three roots, and the owner that the calls answer. Assumes nothing.
+-- The marks of a record's three roots, the code's way to Owner, and the owner that the calls answer as a stretch (01, What a check returns). Assumes nothing.
 use mathlib.Core.Path.{_≡_}
 use mathlib.Core.List.{List, [], _∷_}
 use mathlib.Core.Option.{Option, none, some}

@@ -1,4 +1,4 @@
--- What the reading call answers. Assumes nothing.
+-- What the code's reading of a record answers: the outcome of Reading, and that an accepted record's sizes are exact. Assumes nothing.
 use mathlib.Core.Path.{_≡_}
 use mathlib.Core.List.{List·Memᴰ}
 use Prim.Native.Nat.{ℕ, _+_, _-_, _≤_}

@@ -1,4 +1,5 @@
--- The reading of a record: a stream of commands and a pool of texts to a schema, or a refusal with its place. Assumes nothing.
+-- The reading of a record: a stream of commands and a pool of texts to a schema, or a refusal with its place, in the order of 01, What a check returns.
+-- Assumes nothing.
 use mathlib.Core.List.{List, [], _∷_, _++_}
 use mathlib.Core.Option.{Option, none, some}
 use mathlib.Core.Bool.{Bool, true, false, _&&_, _||_, cond}
@@ -79,7 +80,7 @@ unfoldable pub opened : Str → Str → List ℕ → List Opened
 opened s p [] = []
 opened s p (at ∷ ps) = openedAt s p at ps (opened s p ps)
 
--- a field that ends past the limit; its size is past it only if its end is
+-- 01: a field's size or end above the limit; its size is above it only if its end is
 unfoldable pub large : Place → Bool
 large f = ltb limit (f .offset + f .size)
 
@@ -114,7 +115,7 @@ parse (suc k) side s n c = continued (c .at) (parse k side s n) (judgedAt side s
 unfoldable pub parsed : Side → Rec → Parsed
 parsed side r = parse (length (r .stream) + 1) side (r .stream) (length (r .pool)) start
 
--- the longest stream and the longest pool
+-- 01: the longest stream and the longest pool
 unfoldable pub streamLimit : ℕ
 streamLimit = 32768
 
@@ -128,7 +129,7 @@ vastOr s (some t) = refuse R.Vast (t .place)
 unfoldable pub sizesOf : Rec → List ℕ → Reading
 sizesOf r ps = vastOr (schemaFrom r ps) (find (vast (schemaFrom r ps)) (opened (r .stream) (r .pool) ps))
 
--- 8, then 7, then the commands, then 9
+-- 01: 8 (place 0), 7 (pool offset), the commands from the front, then 9 (place of the command opening the first such type)
 unfoldable pub concluded : Rec → Bool → Letters → Parsed → Reading
 concluded r false l c = refuse R.Long 0
 concluded r true (Odd i) c = refuse R.Letter i

@@ -1,4 +1,5 @@
--- What a field refers to and what fills a slot, as the look-ups answer them. Assumes nothing.
+-- What a field refers to and what fills a slot, as the code's look-ups answer them: referenced_type, slot_of and struct_in_slot of schema.rs, defined in
+-- Owner. Assumes nothing.
 use mathlib.Core.Path.{_≡_}
 use mathlib.Core.List.{List}
 use mathlib.Core.Option.{Option, none, some}

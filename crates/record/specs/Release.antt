@@ -1,4 +1,4 @@
--- Releases as three numbers.
+-- Releases as three numbers: is_release and release_parts of schema.rs, FIRST_RELEASE_NAMING_ITSELF of layout.rs. Assumes nothing.
 use Prim.Native.Nat.{ℕ, _+_, _-_, _*_, _^_}
 use mathlib.Core.List.{List, [], _∷_}
 use mathlib.Core.Bool.{Bool, true, _&&_, _||_, not, cond}

@@ -1,4 +1,4 @@
--- Scalar words and their sizes, from a table of bytes.
+-- Scalar words and their sizes: prim_size of schema.rs, over a table of rows that is lent. Assumes nothing.
 use Prim.Native.Nat.{ℕ, zero, suc, _+_, _-_}
 use mathlib.Core.List.{List, [], _∷_}
 use mathlib.Core.Option.{Option, none, some}

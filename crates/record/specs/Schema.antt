@@ -1,4 +1,4 @@
--- A record's model: what 01's record commands give. Assumes nothing.
+-- A record's model: what the commands of 01, Record commands, give of Schema in schema.rs and Released in released.rs. Assumes nothing.
 use mathlib.Core.List.{List, []}
 use mathlib.Core.Option.{Option}
 use mathlib.Core.Bool.{Bool}

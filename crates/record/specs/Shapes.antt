@@ -106,7 +106,7 @@ placeOf s at f = record {
   padding = isPadding (kindOf (f .kind));
 }
 
--- fields follow each other without alignment
+-- 01: fields follow each other without alignment
 unfoldable pub places : Schema → ℕ → List Field → List Place
 places s at [] = []
 places s at (f ∷ fs) = placeOf s at f ∷ places s (at + shapeSize s f) fs
@@ -124,7 +124,7 @@ plain n k t = record {
   key = none;
 }
 
--- a family begins with its discriminant and its length field
+-- 01: family layouts begin with discriminant and length field
 unfoldable pub prefix : Family → List Field
 prefix m =
     plain (m .discField) (bytes "enum") (m .discType)
@@ -132,7 +132,7 @@ prefix m =
 
 -- the limit --------------------------------------------------------------------------------------------------------------
 
--- the largest end of a field that number 9 lets pass
+-- 01: the largest end of a field that number 9 lets pass
 abbrev pub limit : ℕ
 limit = 4294967295
 

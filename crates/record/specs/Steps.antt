@@ -1,4 +1,5 @@
--- The lists of a record from a place on, and what a step along each answers. Written by tools/lists.py. Assumes nothing.
+-- The lists of a record (01, Record commands) from a place on, the first of a name in each, and what a step along each answers. Written by tools/lists.py.
+-- Assumes nothing.
 use mathlib.Core.Path.{_≡_}
 use mathlib.Core.List.{List, [], _∷_, List·Memᴰ}
 use mathlib.Core.Option.{Option, none, some}

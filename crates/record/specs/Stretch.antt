@@ -1,4 +1,4 @@
--- Texts: the bytes of a stretch of a pool.
+-- Texts: the bytes of a stretch of a pool, a T of 01, Record commands. Assumes nothing.
 use Prim.Native.Nat.{ℕ}
 use mathlib.Core.List.{List}
 use lib.ListN.{take, drop}

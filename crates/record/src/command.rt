@@ -8,7 +8,7 @@ use crate::operands::opt_text_at;
 use crate::operands::text_at;
 use crate::text::Text;
 ghost use mathlib.Core.Path.{_≡_};
-ghost use Rattle.record.specs.Commands.{headAt, constantAt, aliasAt, enumAt, valueAt, bitfieldAt, memberAt, structAt, familyAt, variantAt, fieldAt, keyAt, versionAt, widthOf, commandOf, start, stepAt};
+ghost use Rattle.record.specs.Commands.{headAt, constantAt, aliasAt, enumAt, valueAt, bitfieldAt, memberAt, structAt, familyAt, variantAt, fieldAt, keyAt, versionAt, widthOf, commandOf, start, place, stepAt};
 
 // The head of a record.
 pub struct Head {
@@ -125,7 +125,7 @@ pub enum Command {
     Version(Version),
 }
 
-fn head_at(s: &[u8]) -> Head
+pub(crate) fn head_at(s: &[u8]) -> Head
     ensures { λ r. ⌜ r ≡ headAt (now (s .entry)) ⌝ }
 {
     Head {
@@ -147,7 +147,7 @@ pub fn constant_at(s: &[u8]) -> Constant
     }
 }
 
-fn alias_at(s: &[u8]) -> TypeAlias
+pub(crate) fn alias_at(s: &[u8]) -> TypeAlias
     ensures { λ r. ⌜ r ≡ aliasAt (now (s .entry)) ⌝ }
 {
     TypeAlias {
@@ -156,7 +156,7 @@ fn alias_at(s: &[u8]) -> TypeAlias
     }
 }
 
-fn enum_at(s: &[u8]) -> Enum
+pub(crate) fn enum_at(s: &[u8]) -> Enum
     ensures { λ r. ⌜ r ≡ enumAt (now (s .entry)) ⌝ }
 {
     Enum {
@@ -167,7 +167,7 @@ fn enum_at(s: &[u8]) -> Enum
     }
 }
 
-fn value_at(s: &[u8]) -> Value
+pub(crate) fn value_at(s: &[u8]) -> Value
     ensures { λ r. ⌜ r ≡ valueAt (now (s .entry)) ⌝ }
 {
     Value {
@@ -177,7 +177,7 @@ fn value_at(s: &[u8]) -> Value
     }
 }
 
-fn bitfield_at(s: &[u8]) -> Bitfield
+pub(crate) fn bitfield_at(s: &[u8]) -> Bitfield
     ensures { λ r. ⌜ r ≡ bitfieldAt (now (s .entry)) ⌝ }
 {
     Bitfield {
@@ -187,7 +187,7 @@ fn bitfield_at(s: &[u8]) -> Bitfield
     }
 }
 
-fn member_at(s: &[u8]) -> Member
+pub(crate) fn member_at(s: &[u8]) -> Member
     ensures { λ r. ⌜ r ≡ memberAt (now (s .entry)) ⌝ }
 {
     Member {
@@ -198,7 +198,7 @@ fn member_at(s: &[u8]) -> Member
     }
 }
 
-fn struct_at(s: &[u8]) -> Struct
+pub(crate) fn struct_at(s: &[u8]) -> Struct
     ensures { λ r. ⌜ r ≡ structAt (now (s .entry)) ⌝ }
 {
     Struct {
@@ -208,7 +208,7 @@ fn struct_at(s: &[u8]) -> Struct
     }
 }
 
-fn family_at(s: &[u8]) -> Family
+pub fn family_at(s: &[u8]) -> Family
     ensures { λ r. ⌜ r ≡ familyAt (now (s .entry)) ⌝ }
 {
     Family {
@@ -221,7 +221,7 @@ fn family_at(s: &[u8]) -> Family
     }
 }
 
-fn variant_at(s: &[u8]) -> Variant
+pub(crate) fn variant_at(s: &[u8]) -> Variant
     ensures { λ r. ⌜ r ≡ variantAt (now (s .entry)) ⌝ }
 {
     Variant {
@@ -244,7 +244,7 @@ pub fn field_at(s: &[u8]) -> Field
     }
 }
 
-fn key_at(s: &[u8]) -> PluginKey
+pub(crate) fn key_at(s: &[u8]) -> PluginKey
     ensures { λ r. ⌜ r ≡ keyAt (now (s .entry)) ⌝ }
 {
     PluginKey {
@@ -253,7 +253,7 @@ fn key_at(s: &[u8]) -> PluginKey
     }
 }
 
-fn version_at(s: &[u8]) -> Version
+pub(crate) fn version_at(s: &[u8]) -> Version
     ensures { λ r. ⌜ r ≡ versionAt (now (s .entry)) ⌝ }
 {
     Version {
@@ -263,7 +263,7 @@ fn version_at(s: &[u8]) -> Version
 }
 
 // The bytes that a command takes, its number among them; 0 where no command has that number.
-fn width_of(byte: u8) -> usize
+pub(crate) fn width_of(byte: u8) -> usize
     ensures { λ r. ⌜ r ≡ widthOf byte ⌝ }
 {
     match byte {
@@ -287,7 +287,7 @@ fn width_of(byte: u8) -> usize
 }
 
 // The command of a number, from the bytes that begin with it.
-pub fn command_of(byte: u8, s: &[u8]) -> Command
+pub(crate) fn command_of(byte: u8, s: &[u8]) -> Command
     ensures { λ r. ⌜ r ≡ commandOf byte (now (s .entry)) ⌝ }
 {
     match byte {
@@ -334,6 +334,17 @@ impl Cursor {
     {
         Cursor {
             at: 0,
+            last: 0,
+            parent: Parent::NoParent,
+        }
+    }
+
+    // A place of the stream, with nothing known of what stands before it.
+    pub fn place(at: usize) -> Self
+        ensures { λ r. ⌜ r ≡ place at ⌝ }
+    {
+        Cursor {
+            at,
             last: 0,
             parent: Parent::NoParent,
         }

@@ -1,12 +1,36 @@
 // Little-endian numbers in a slice of bytes. A byte past the end counts as 0, so no reader asks anything of its caller.
+ghost use Prim.Native.Nat.{_+_, _≤_, _<_};
 ghost use mathlib.Core.Path.{_≡_};
-ghost use lib.ListN.{getD};
+ghost use lib.ListN.{length, getD};
 ghost use Rattle.record.specs.Le.{u16At, u32At, u64At};
 
 pub fn byte_at(s: &[u8], at: usize) -> u8
     ensures { λ r. ⌜ r ≡ getD (now (s .entry)) at 0 ⌝ }
 {
     if at < s.len() { s[at] } else { 0 }
+}
+
+// A byte as a larger number.
+pub(crate) fn wide(x: u8) -> u64
+    ensures { λ r. ⌜ (r ≡ x) × (r < 256) ⌝ }
+{
+    x as u64
+}
+
+// Four bytes that are there as a number, the first the lowest: one read of the machine.
+pub(crate) fn half(s: &[u8], i: usize) -> u64
+    requires { ⌜ i + 4 ≤ length (now s) ⌝ }
+    ensures { λ r. ⌜ (r ≡ u32At (now (s .entry)) i) × (r < 4294967296) ⌝ }
+{
+    wide(s[i]) + 256 * wide(s[i + 1]) + 65536 * wide(s[i + 2]) + 16777216 * wide(s[i + 3])
+}
+
+// Eight bytes that are there.
+pub(crate) fn word(s: &[u8], i: usize) -> u64
+    requires { ⌜ i + 8 ≤ length (now s) ⌝ }
+    ensures { λ r. ⌜ r ≡ u64At (now (s .entry)) i ⌝ }
+{
+    half(s, i) + 4294967296 * half(s, i + 4)
 }
 
 pub fn u16_at(s: &[u8], at: usize) -> u16
@@ -25,6 +49,9 @@ pub fn u32_at(s: &[u8], at: usize) -> u32
     ensures { λ r. ⌜ r ≡ u32At (now (s .entry)) at ⌝ }
 {
     if at < s.len() {
+        if 4 <= s.len() - at {
+            return half(s, at) as u32;
+        }
         let low = u16_at(s, at) as u32;
         let high = u16_at(s, at + 2) as u32;
         low + 65536 * high
@@ -37,6 +64,9 @@ pub fn u64_at(s: &[u8], at: usize) -> u64
     ensures { λ r. ⌜ r ≡ u64At (now (s .entry)) at ⌝ }
 {
     if at < s.len() {
+        if 8 <= s.len() - at {
+            return word(s, at);
+        }
         let low = u32_at(s, at) as u64;
         let high = u32_at(s, at + 4) as u64;
         low + 4294967296 * high

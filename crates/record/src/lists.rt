@@ -1,7 +1,6 @@
 // The lists of a record, an element at a time: each function hands out the next element from a cursor on, with the cursor after it.
 // Written by tools/lists.py.
 use crate::command::Bitfield;
-use crate::command::Command;
 use crate::command::Constant;
 use crate::command::Cursor;
 use crate::command::Enum;
@@ -10,12 +9,28 @@ use crate::command::Field;
 use crate::command::Head;
 use crate::command::Member;
 use crate::command::PluginKey;
-use crate::command::Step;
 use crate::command::Struct;
 use crate::command::TypeAlias;
 use crate::command::Value;
 use crate::command::Variant;
 use crate::command::Version;
+use crate::command::alias_at;
+use crate::command::bitfield_at;
+use crate::command::constant_at;
+use crate::command::enum_at;
+use crate::command::family_at;
+use crate::command::field_at;
+use crate::command::head_at;
+use crate::command::key_at;
+use crate::command::member_at;
+use crate::command::struct_at;
+use crate::command::value_at;
+use crate::command::variant_at;
+use crate::command::version_at;
+use crate::cut;
+use crate::seek::Between;
+use crate::seek::Sought;
+use crate::seek::seek;
 use crate::text::bytes_of;
 use crate::text::same;
 ghost use mathlib.Core.Path.{_≡_};
@@ -30,16 +45,10 @@ pub enum HeadStep {
 pub fn next_head(stream: &[u8], from: Cursor) -> HeadStep
     ensures { λ r. ⌜ HeadsFrom (now (stream .entry)) (from .at) r ⌝ }
 {
-    let mut cursor = from;
-    loop {
-        let Step::Next(command, after) = cursor.next(stream) else {
-            return HeadStep::NoHead;
-        };
-        if let Command::Head(e) = command {
-            return HeadStep::AHead(e, after);
-        }
-        cursor = after;
-    }
+    let Sought::At(at, after) = seek(stream, from.at, 1, Between::Anything) else {
+        return HeadStep::NoHead;
+    };
+    HeadStep::AHead(head_at(cut::from(stream, at)), Cursor::place(after))
 }
 
 pub enum ConstantStep {
@@ -51,16 +60,10 @@ pub enum ConstantStep {
 pub fn next_constant(stream: &[u8], from: Cursor) -> ConstantStep
     ensures { λ r. ⌜ ConstantsFrom (now (stream .entry)) (from .at) r ⌝ }
 {
-    let mut cursor = from;
-    loop {
-        let Step::Next(command, after) = cursor.next(stream) else {
-            return ConstantStep::NoConstant;
-        };
-        if let Command::Constant(e) = command {
-            return ConstantStep::AConstant(e, after);
-        }
-        cursor = after;
-    }
+    let Sought::At(at, after) = seek(stream, from.at, 2, Between::Anything) else {
+        return ConstantStep::NoConstant;
+    };
+    ConstantStep::AConstant(constant_at(cut::from(stream, at)), Cursor::place(after))
 }
 
 pub enum AliasStep {
@@ -72,16 +75,10 @@ pub enum AliasStep {
 pub fn next_alias(stream: &[u8], from: Cursor) -> AliasStep
     ensures { λ r. ⌜ AliasesFrom (now (stream .entry)) (from .at) r ⌝ }
 {
-    let mut cursor = from;
-    loop {
-        let Step::Next(command, after) = cursor.next(stream) else {
-            return AliasStep::NoAlias;
-        };
-        if let Command::TypeAlias(e) = command {
-            return AliasStep::AnAlias(e, after);
-        }
-        cursor = after;
-    }
+    let Sought::At(at, after) = seek(stream, from.at, 3, Between::Anything) else {
+        return AliasStep::NoAlias;
+    };
+    AliasStep::AnAlias(alias_at(cut::from(stream, at)), Cursor::place(after))
 }
 
 pub enum ValueStep {
@@ -93,13 +90,10 @@ pub enum ValueStep {
 pub fn next_value(stream: &[u8], from: Cursor) -> ValueStep
     ensures { λ r. ⌜ ValuesFrom (now (stream .entry)) (from .at) r ⌝ }
 {
-    let Step::Next(command, after) = from.next(stream) else {
+    let Sought::At(at, after) = seek(stream, from.at, 5, Between::Nothing) else {
         return ValueStep::NoValue;
     };
-    let Command::Value(e) = command else {
-        return ValueStep::NoValue;
-    };
-    ValueStep::AValue(e, after)
+    ValueStep::AValue(value_at(cut::from(stream, at)), Cursor::place(after))
 }
 
 pub enum EnumStep {
@@ -111,16 +105,10 @@ pub enum EnumStep {
 pub fn next_enum(stream: &[u8], from: Cursor) -> EnumStep
     ensures { λ r. ⌜ EnumsFrom (now (stream .entry)) (from .at) r ⌝ }
 {
-    let mut cursor = from;
-    loop {
-        let Step::Next(command, after) = cursor.next(stream) else {
-            return EnumStep::NoEnum;
-        };
-        if let Command::Enum(e) = command {
-            return EnumStep::AnEnum(e, after);
-        }
-        cursor = after;
-    }
+    let Sought::At(at, after) = seek(stream, from.at, 4, Between::Anything) else {
+        return EnumStep::NoEnum;
+    };
+    EnumStep::AnEnum(enum_at(cut::from(stream, at)), Cursor::place(after))
 }
 
 pub enum MemberStep {
@@ -132,13 +120,10 @@ pub enum MemberStep {
 pub fn next_member(stream: &[u8], from: Cursor) -> MemberStep
     ensures { λ r. ⌜ MembersFrom (now (stream .entry)) (from .at) r ⌝ }
 {
-    let Step::Next(command, after) = from.next(stream) else {
+    let Sought::At(at, after) = seek(stream, from.at, 7, Between::Nothing) else {
         return MemberStep::NoMember;
     };
-    let Command::Member(e) = command else {
-        return MemberStep::NoMember;
-    };
-    MemberStep::AMember(e, after)
+    MemberStep::AMember(member_at(cut::from(stream, at)), Cursor::place(after))
 }
 
 pub enum BitfieldStep {
@@ -150,16 +135,10 @@ pub enum BitfieldStep {
 pub fn next_bitfield(stream: &[u8], from: Cursor) -> BitfieldStep
     ensures { λ r. ⌜ BitfieldsFrom (now (stream .entry)) (from .at) r ⌝ }
 {
-    let mut cursor = from;
-    loop {
-        let Step::Next(command, after) = cursor.next(stream) else {
-            return BitfieldStep::NoBitfield;
-        };
-        if let Command::Bitfield(e) = command {
-            return BitfieldStep::ABitfield(e, after);
-        }
-        cursor = after;
-    }
+    let Sought::At(at, after) = seek(stream, from.at, 6, Between::Anything) else {
+        return BitfieldStep::NoBitfield;
+    };
+    BitfieldStep::ABitfield(bitfield_at(cut::from(stream, at)), Cursor::place(after))
 }
 
 pub enum KeyStep {
@@ -171,13 +150,10 @@ pub enum KeyStep {
 pub fn next_key(stream: &[u8], from: Cursor) -> KeyStep
     ensures { λ r. ⌜ KeysFrom (now (stream .entry)) (from .at) r ⌝ }
 {
-    let Step::Next(command, after) = from.next(stream) else {
+    let Sought::At(at, after) = seek(stream, from.at, 12, Between::Nothing) else {
         return KeyStep::NoKey;
     };
-    let Command::PluginKey(e) = command else {
-        return KeyStep::NoKey;
-    };
-    KeyStep::AKey(e, after)
+    KeyStep::AKey(key_at(cut::from(stream, at)), Cursor::place(after))
 }
 
 pub enum FieldStep {
@@ -189,23 +165,10 @@ pub enum FieldStep {
 pub fn next_field(stream: &[u8], from: Cursor) -> FieldStep
     ensures { λ r. ⌜ FieldsFrom (now (stream .entry)) (from .at) r ⌝ }
 {
-    let mut cursor = from;
-    loop {
-        let Step::Next(command, after) = cursor.next(stream) else {
-            return FieldStep::NoField;
-        };
-        match command {
-            Command::Field(e) => {
-                return FieldStep::AField(e, after);
-            }
-            Command::PluginKey(_) => {
-                cursor = after;
-            }
-            _ => {
-                return FieldStep::NoField;
-            }
-        }
-    }
+    let Sought::At(at, after) = seek(stream, from.at, 11, Between::Keys) else {
+        return FieldStep::NoField;
+    };
+    FieldStep::AField(field_at(cut::from(stream, at)), Cursor::place(after))
 }
 
 pub enum StructStep {
@@ -217,16 +180,10 @@ pub enum StructStep {
 pub fn next_struct(stream: &[u8], from: Cursor) -> StructStep
     ensures { λ r. ⌜ StructsFrom (now (stream .entry)) (from .at) r ⌝ }
 {
-    let mut cursor = from;
-    loop {
-        let Step::Next(command, after) = cursor.next(stream) else {
-            return StructStep::NoStruct;
-        };
-        if let Command::Struct(e) = command {
-            return StructStep::AStruct(e, after);
-        }
-        cursor = after;
-    }
+    let Sought::At(at, after) = seek(stream, from.at, 8, Between::Anything) else {
+        return StructStep::NoStruct;
+    };
+    StructStep::AStruct(struct_at(cut::from(stream, at)), Cursor::place(after))
 }
 
 pub enum VariantStep {
@@ -238,26 +195,10 @@ pub enum VariantStep {
 pub fn next_variant(stream: &[u8], from: Cursor) -> VariantStep
     ensures { λ r. ⌜ VariantsFrom (now (stream .entry)) (from .at) r ⌝ }
 {
-    let mut cursor = from;
-    loop {
-        let Step::Next(command, after) = cursor.next(stream) else {
-            return VariantStep::NoVariant;
-        };
-        match command {
-            Command::Variant(e) => {
-                return VariantStep::AVariant(e, after);
-            }
-            Command::Field(_) => {
-                cursor = after;
-            }
-            Command::PluginKey(_) => {
-                cursor = after;
-            }
-            _ => {
-                return VariantStep::NoVariant;
-            }
-        }
-    }
+    let Sought::At(at, after) = seek(stream, from.at, 10, Between::Fields) else {
+        return VariantStep::NoVariant;
+    };
+    VariantStep::AVariant(variant_at(cut::from(stream, at)), Cursor::place(after))
 }
 
 pub enum FamilyStep {
@@ -269,16 +210,10 @@ pub enum FamilyStep {
 pub fn next_family(stream: &[u8], from: Cursor) -> FamilyStep
     ensures { λ r. ⌜ FamiliesFrom (now (stream .entry)) (from .at) r ⌝ }
 {
-    let mut cursor = from;
-    loop {
-        let Step::Next(command, after) = cursor.next(stream) else {
-            return FamilyStep::NoFamily;
-        };
-        if let Command::Family(e) = command {
-            return FamilyStep::AFamily(e, after);
-        }
-        cursor = after;
-    }
+    let Sought::At(at, after) = seek(stream, from.at, 9, Between::Anything) else {
+        return FamilyStep::NoFamily;
+    };
+    FamilyStep::AFamily(family_at(cut::from(stream, at)), Cursor::place(after))
 }
 
 pub enum UnstoredStep {
@@ -290,16 +225,10 @@ pub enum UnstoredStep {
 pub fn next_unstored(stream: &[u8], from: Cursor) -> UnstoredStep
     ensures { λ r. ⌜ UnstoredFrom (now (stream .entry)) (from .at) r ⌝ }
 {
-    let mut cursor = from;
-    loop {
-        let Step::Next(command, after) = cursor.next(stream) else {
-            return UnstoredStep::NoUnstored;
-        };
-        if let Command::UnstoredKey(e) = command {
-            return UnstoredStep::AnUnstored(e, after);
-        }
-        cursor = after;
-    }
+    let Sought::At(at, after) = seek(stream, from.at, 13, Between::Anything) else {
+        return UnstoredStep::NoUnstored;
+    };
+    UnstoredStep::AnUnstored(key_at(cut::from(stream, at)), Cursor::place(after))
 }
 
 pub enum VersionStep {
@@ -311,16 +240,10 @@ pub enum VersionStep {
 pub fn next_version(stream: &[u8], from: Cursor) -> VersionStep
     ensures { λ r. ⌜ VersionsFrom (now (stream .entry)) (from .at) r ⌝ }
 {
-    let mut cursor = from;
-    loop {
-        let Step::Next(command, after) = cursor.next(stream) else {
-            return VersionStep::NoVersion;
-        };
-        if let Command::Version(e) = command {
-            return VersionStep::AVersion(e, after);
-        }
-        cursor = after;
-    }
+    let Sought::At(at, after) = seek(stream, from.at, 14, Between::Anything) else {
+        return VersionStep::NoVersion;
+    };
+    VersionStep::AVersion(version_at(cut::from(stream, at)), Cursor::place(after))
 }
 
 // The first constant of that name from a cursor on.

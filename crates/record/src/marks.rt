@@ -1,9 +1,6 @@
 // The walks of ownership: a type's walk visits its fields, and a field's walk visits the type it names. Marks are lent, one for each byte of the
 // stream: a field is marked where its command begins, by the number of the root that led to it.
-use crate::command::Command;
 use crate::command::Cursor;
-use crate::command::Parent;
-use crate::command::Step;
 use crate::command::field_at;
 use crate::cut;
 use crate::lists::FamilyStep;
@@ -14,6 +11,9 @@ use crate::operands::OptText;
 use crate::references::has_slot;
 use crate::references::referenced_type;
 use crate::references::struct_in_slot;
+use crate::seek::Between;
+use crate::seek::Sought;
+use crate::seek::seek;
 use crate::text::bytes_of;
 ghost use mathlib.Core.Path.{_≡_};
 ghost use Prim.Native.Nat.{_<_};
@@ -21,7 +21,7 @@ ghost use lib.ListN.{length};
 ghost use Rattle.record.specs.Lists.{optOf};
 ghost use Rattle.record.specs.Owner.{typeFields};
 ghost use Rattle.record.specs.References.{typesAt};
-ghost use Rattle.record.specs.Marks.{bodyAt, PlacesFrom, referenceAt, targetAt, Clear, Ready, TypeWalked, FieldWalked};
+ghost use Rattle.record.specs.Marks.{between, bodyAt, PlacesFrom, referenceAt, targetAt, Clear, Ready, TypeWalked, FieldWalked};
 ghost use Rattle.record.specs.Ownership.{Claimed, OwnersMarked};
 
 // Where the fields of a type begin, and whether variants stand between them.
@@ -48,11 +48,7 @@ fn type_fields(stream: &[u8], pool: &[u8], name: &[u8]) -> Body
         };
     }
     Body {
-        from: Cursor {
-            at: stream.len(),
-            last: 0,
-            parent: Parent::NoParent,
-        },
+        from: Cursor::place(stream.len()),
         family: false,
     }
 }
@@ -63,35 +59,25 @@ enum PlaceStep {
     APlace(usize, Cursor),
 }
 
+// What may stand between the fields of a type.
+fn between(family: bool) -> Between
+    ensures { λ r. ⌜ r ≡ between family ⌝ }
+{
+    if family {
+        Between::Variants
+    } else {
+        Between::Keys
+    }
+}
+
 // The place of the next field of a type. Plugin keys are passed over, and in a family its variants.
 fn next_place(stream: &[u8], from: Cursor, family: bool) -> PlaceStep
     ensures { λ r. ⌜ PlacesFrom family (now (stream .entry)) (from .at) r ⌝ }
 {
-    let mut cursor = from;
-    loop {
-        let at = cursor.at;
-        let Step::Next(command, after) = cursor.next(stream) else {
-            return PlaceStep::NoPlace;
-        };
-        match command {
-            Command::Field(_) => {
-                return PlaceStep::APlace(at, after);
-            }
-            Command::PluginKey(_) => {
-                cursor = after;
-            }
-            Command::Variant(_) => {
-                if family {
-                    cursor = after;
-                } else {
-                    return PlaceStep::NoPlace;
-                }
-            }
-            _ => {
-                return PlaceStep::NoPlace;
-            }
-        }
-    }
+    let Sought::At(place, after) = seek(stream, from.at, 11, between(family)) else {
+        return PlaceStep::NoPlace;
+    };
+    PlaceStep::APlace(place, Cursor::place(after))
 }
 
 // The name that the field at a place refers to.

@@ -1,6 +1,7 @@
 // The operands of a command, at a place of the bytes from the command on. A byte past the end counts as 0.
 use crate::le;
 use crate::text::Text;
+ghost use Prim.Native.Nat.{_+_, _*_};
 ghost use mathlib.Core.Path.{_≡_};
 ghost use Rattle.record.specs.Operands.{textAt, optTextAt, optNumberAt, flagAt};
 
@@ -14,10 +15,23 @@ pub enum OptNumber {
     Number(u32),
 }
 
+// Two bytes as a number, the first the lower.
+fn pair(low: u8, high: u8) -> u16
+    ensures { λ r. ⌜ r ≡ low + 256 * high ⌝ }
+{
+    low as u16 + 256 * (high as u16)
+}
+
 pub fn text_at(s: &[u8], at: usize) -> Text
     ensures { λ r. ⌜ r ≡ textAt (now (s .entry)) at ⌝ }
 {
     if at < s.len() {
+        if 3 <= s.len() - at {
+            return Text {
+                start: pair(s[at], s[at + 1]),
+                len: s[at + 2],
+            };
+        }
         Text {
             start: le::u16_at(s, at),
             len: le::byte_at(s, at + 2),

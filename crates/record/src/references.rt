@@ -1,13 +1,16 @@
 // What a field refers to, and the slots of structures: referenced_type, slot_of and struct_in_slot of the Rust.
-use crate::command::Command;
 use crate::command::Cursor;
 use crate::command::Field;
-use crate::command::Step;
+use crate::command::struct_at;
+use crate::cut;
 use crate::kind::Kind;
 use crate::kind::kind_of;
 use crate::lists::StructStep;
 use crate::lists::find_struct;
 use crate::operands::OptText;
+use crate::seek::Between;
+use crate::seek::Sought;
+use crate::seek::seek;
 use crate::text::bytes_of;
 use crate::text::same;
 ghost use mathlib.Core.Path.{_≡_};
@@ -65,19 +68,16 @@ pub fn is_text(pool: &[u8], given: OptText, text: &[u8]) -> bool
 pub fn struct_in_slot(stream: &[u8], pool: &[u8], slot: &[u8]) -> StructStep
     ensures { λ r. ⌜ InSlot (now (stream .entry)) (now (pool .entry)) (now (slot .entry)) r ⌝ }
 {
-    let mut cursor = Cursor::new();
+    let mut at = 0;
     loop {
-        let Step::Next(command, after) = cursor.next(stream) else {
+        let Sought::At(place, after) = seek(stream, at, 8, Between::Anything) else {
             return StructStep::NoStruct;
         };
-        let Command::Struct(e) = command else {
-            cursor = after;
-            continue;
-        };
+        let e = struct_at(cut::from(stream, place));
         let given = e.generation_slot;
         if is_text(pool, given, slot) {
-            return StructStep::AStruct(e, after);
+            return StructStep::AStruct(e, Cursor::place(after));
         }
-        cursor = after;
+        at = after;
     }
 }

@@ -8,7 +8,7 @@ ghost use lib.ListN.{take, drop};
 ghost use Rattle.record.specs.Scalars.{beforeZero, scalarsOf, primSize, builtInRows};
 
 // The word of the row at a place.
-pub fn row_word(rows: &[u8], at: usize) -> &[u8]
+pub(crate) fn row_word(rows: &[u8], at: usize) -> &[u8]
     ensures { λ r. ⌜ now r ≡ beforeZero (take 8 (drop at (now (rows .entry)))) ⌝ }
 {
     before_byte(upto(from(rows, at), 8), 0)

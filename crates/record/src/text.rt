@@ -1,4 +1,5 @@
 // Texts: stretches of a pool of bytes.
+use crate::words::skip;
 ghost use mathlib.Core.Path.{_≡_};
 ghost use Rattle.record.specs.Base.{eqs};
 ghost use Rattle.record.specs.Stretch.{textOf};
@@ -26,21 +27,19 @@ pub fn bytes_of(pool: &[u8], t: Text) -> &[u8]
     &pool[a..e]
 }
 
+// Whether two texts are the same, by their lengths first.
 pub fn same(a: &[u8], b: &[u8]) -> bool
     ensures { λ r. ⌜ r ≡ eqs (now (a .entry)) (now (b .entry)) ⌝ }
 {
-    let mut i = 0;
+    if a.len() != b.len() {
+        return false;
+    }
+    let mut i = skip(a, b);
     while i < a.len() {
-        if b.len() <= i {
-            return false;
-        }
         if a[i] != b[i] {
             return false;
         }
         i += 1;
-    }
-    if i < b.len() {
-        return false;
     }
     true
 }

@@ -1,11 +1,13 @@
 // Number 9: the types of a record in the order of the stream, and the first one with a field that ends past the limit.
-use crate::command::Command;
 use crate::command::Cursor;
 use crate::command::Family;
-use crate::command::Step;
+use crate::command::family_at;
+use crate::cut;
+use crate::le::byte_at;
 use crate::lists::FieldStep;
 use crate::lists::next_field;
 use crate::operands::OptText;
+use crate::seek::after_at;
 use crate::sizes::LIMIT;
 use crate::sizes::enum_bytes;
 use crate::sizes::scalar_bytes;
@@ -14,6 +16,8 @@ use crate::sizes::sum;
 use crate::sizes::wide;
 ghost use mathlib.Core.Path.{_≡_};
 ghost use mathlib.Core.List.{[], _++_};
+ghost use mathlib.Core.Bool.{_||_};
+ghost use lib.Dec.{eqb};
 ghost use Prim.Native.Nat.{_≤_};
 ghost use Rattle.record.specs.Base.{any};
 ghost use Rattle.record.specs.Scalars.{scalarsOf};
@@ -24,41 +28,45 @@ ghost use Rattle.record.specs.Reading.{rec, schemaOf, large};
 ghost use Rattle.record.specs.Vast.{OpenedFrom, frontEnd, firstVast};
 
 // A type as the stream opens it: the place of its command, a family's front, and the cursor at its fields.
-pub enum TypeStep {
+pub(crate) enum TypeStep {
     NoType,
     Plain(usize, Cursor),
     Fronted(usize, Family, Cursor),
 }
 
+// Whether a command of this number opens a structure or a variant.
+fn opens_plain(byte: u8) -> bool
+    ensures { λ r. ⌜ r ≡ (eqb byte 8 || eqb byte 10) ⌝ }
+{
+    if byte == 8 {
+        return true;
+    }
+    byte == 10
+}
+
 // The next structure, family or variant of the record from a cursor on.
-pub fn next_type(stream: &[u8], from: Cursor) -> TypeStep
+pub(crate) fn next_type(stream: &[u8], from: Cursor) -> TypeStep
     ensures { λ r. ⌜ OpenedFrom (now (stream .entry)) (from .at) r ⌝ }
 {
-    let mut cursor = from;
+    let mut at = from.at;
     loop {
-        let at = cursor.at;
-        let Step::Next(command, after) = cursor.next(stream) else {
+        let after = after_at(stream, at);
+        if after == 0 {
             return TypeStep::NoType;
-        };
-        match command {
-            Command::Struct(_) => {
-                return TypeStep::Plain(at, after);
-            }
-            Command::Variant(_) => {
-                return TypeStep::Plain(at, after);
-            }
-            Command::Family(f) => {
-                return TypeStep::Fronted(at, f, after);
-            }
-            _ => {
-                cursor = after;
-            }
         }
+        let byte = byte_at(stream, at);
+        if byte == 9 {
+            return TypeStep::Fronted(at, family_at(cut::from(stream, at)), Cursor::place(after));
+        }
+        if opens_plain(byte) {
+            return TypeStep::Plain(at, Cursor::place(after));
+        }
+        at = after;
     }
 }
 
 // Where the front of a family ends: its discriminant and its length field.
-pub fn front_end(rows: &[u8], stream: &[u8], pool: &[u8], f: Family) -> u64
+pub(crate) fn front_end(rows: &[u8], stream: &[u8], pool: &[u8], f: Family) -> u64
     ensures { λ r. ⌜ r ≡ capped (frontEnd (schemaOf (rec (now (stream .entry)) (now (pool .entry)) (scalarsOf (now (rows .entry))))) (familyOf (now (pool .entry)) f [] [])) ⌝ }
 {
     let discriminant = f.discriminant_type;

@@ -1,4 +1,4 @@
--- What the put-together arguments of messages mean, over a pool. Assumes nothing.
+-- What the put-together arguments of messages mean, over a pool; their texts are those of layout.rs, in Verdicts of definition. Assumes nothing.
 use Rattle.record.specs.Base.{Str}
 use Rattle.record.specs.Schema.{Value, integer, words}
 use Rattle.record.specs.Stretch.{textOf}

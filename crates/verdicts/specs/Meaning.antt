@@ -1,4 +1,5 @@
--- What the code's verdicts mean, over the two pools, and their numbers. Written by tools/verdicts.py. Assumes nothing.
+-- What the code's verdicts mean, over the two pools, in the words of Verdicts of definition, and their numbers. Written by tools/verdicts.py.
+-- Assumes nothing.
 use Prim.Native.Nat.{ℕ}
 use Rattle.record.specs.Base.{Str}
 use Rattle.record.specs.Stretch.{textOf}

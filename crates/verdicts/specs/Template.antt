@@ -1,4 +1,5 @@
--- A template with its arguments put in, and what writing it leaves in the buffer and answers. Assumes nothing.
+-- A template with its arguments put in, and what writing it leaves in the buffer and answers: the code's way to the messages in Verdicts of definition.
+-- Assumes nothing.
 use Prim.Native.Nat.{ℕ}
 use mathlib.Core.Path.{_≡_}
 use mathlib.Core.Bool.{Bool, true, false, cond}

@@ -2,59 +2,72 @@ use Prim.Native.Nat.{_-_}
 use lib.ListN.{length}
 use Rattle.record.specs.Scalars.{scalarsOf}
 use Rattle.record.specs.Reading.{rec}
-use Rattle.record.proofs.Stream.{nearer}
-use Rattle.layout.proofs.FieldSizeLaws.{Sizing, sizing-start, sizing-end, sizing-laws}
+use Rattle.record.proofs.SeekLaws.{sought-nearer}
+use Rattle.layout.proofs.FieldSizeLaws.{Sizing, sizing-start, sizing-end, sizing-field}
 use borrow.Author.Needs.{needs}
 use Rattle.layout.proofs.field_sizes.fill_sizes.Statement.{statement}
 use Rattle.layout.proofs.field_sizes.fill_sizes.Tie as tie
+use Rattle.layout.proofs.field_sizes.fill_sizes.Reads as reads
+use Rattle.layout.proofs.field_sizes.fill_sizes.Lts as lts
+use Rattle.layout.proofs.field_sizes.put_size.Reads as put-size-reads
+use Rattle.record.proofs.command.field_at.Reads as field-at-reads
+use Rattle.record.proofs.cut.from.Reads as from-reads
+use Rattle.record.proofs.seek.seek.Reads as seek-reads
+use Rattle.record.proofs.sizes.shape_size.Reads as shape-size-reads
 
 abbrev Inv-loop : tie.InvT-loop
-Inv-loop rows stream pool sizes₀ cursor₀ sizes cursor = Sizing (rec stream pool (scalarsOf rows)) sizes₀ sizes (cursor .at)
+Inv-loop rows stream pool sizes₀ at₀ sizes at = Sizing (rec stream pool (scalarsOf rows)) sizes₀ sizes at
 
 abbrev μ-loop : tie.MeasureT-loop
-μ-loop rows stream pool sizes₀ cursor₀ sizes cursor = length stream - cursor .at
+μ-loop rows stream pool sizes₀ at₀ sizes at = length stream - at
 
-new-requires : tie.Need-new-requires Inv-loop μ-loop
-new-requires c κs = search needs
-
+-- src/field_sizes.rt:42:5
 loop-holds : tie.Need-loop-holds Inv-loop μ-loop
 loop-holds c = search sizing-start
 
-next-requires : tie.Need-next-requires Inv-loop μ-loop
-next-requires c κs = search needs
+-- src/field_sizes.rt:43:40
+seek-requires : tie.Need-seek-requires Inv-loop μ-loop
+seek-requires c κs = search needs
 
-enum-known-command : tie.Need-enum-known-command Inv-loop μ-loop
-enum-known-command c = search needs
+-- src/field_sizes.rt:43:24
+enum-known-place : tie.Need-enum-known-place Inv-loop μ-loop
+enum-known-place c = search needs
 
+-- src/field_sizes.rt:44:13
 enum-told : tie.Need-enum-told Inv-loop μ-loop
 enum-told c = search needs
 
+-- src/field_sizes.rt:44:13
 same-length : tie.Need-same-length Inv-loop μ-loop
 same-length c = search needs
 
+-- src/field_sizes.rt:44:13
 returns : tie.Need-returns Inv-loop μ-loop
 returns c = λ small room. search sizing-end
 
-enum-known-command-2 : tie.Need-enum-known-command-2 Inv-loop μ-loop
-enum-known-command-2 c = search needs
+-- src/field_sizes.rt:46:26
+from-requires : tie.Need-from-requires Inv-loop μ-loop
+from-requires c κs = search needs
 
+-- src/field_sizes.rt:46:13
+field-at-requires : tie.Need-field-at-requires Inv-loop μ-loop
+field-at-requires c κs = search needs
+
+-- src/field_sizes.rt:47:32
 shape-size-requires : tie.Need-shape-size-requires Inv-loop μ-loop
 shape-size-requires c κs = search needs
 
+-- src/field_sizes.rt:47:9
 put-size-requires : tie.Need-put-size-requires Inv-loop μ-loop
 put-size-requires c κs = search needs
 
+-- src/field_sizes.rt:42:5
 loop-less : tie.Need-loop-less Inv-loop μ-loop
-loop-less c = search nearer
+loop-less c = search sought-nearer
 
+-- src/field_sizes.rt:42:5
 loop-again : tie.Need-loop-again Inv-loop μ-loop
-loop-again c = search sizing-laws
-
-loop-less-2 : tie.Need-loop-less-2 Inv-loop μ-loop
-loop-less-2 c = search nearer
-
-loop-again-2 : tie.Need-loop-again-2 Inv-loop μ-loop
-loop-again-2 c = search sizing-laws
+loop-again c = search sizing-field
 
 pub fill-sizes-spec : {M : Type 1} → statement M
 fill-sizes-spec =
@@ -62,17 +75,15 @@ fill-sizes-spec =
     (tie.spec
     Inv-loop
     μ-loop
-    new-requires
     loop-holds
-    next-requires
-    enum-known-command
+    seek-requires
+    enum-known-place
     enum-told
     same-length
     returns
-    enum-known-command-2
+    from-requires
+    field-at-requires
     shape-size-requires
     put-size-requires
     loop-less
-    loop-again
-    loop-less-2
-    loop-again-2)
+    loop-again)

@@ -1,65 +1,70 @@
 use Prim.Native.Nat.{_-_}
 use lib.ListN.{length}
-use Rattle.record.proofs.Stream.{nearer}
-use Rattle.layout.specs.Handles.{placesFrom}
-use Rattle.layout.proofs.HandleLaws.{Filling, fill-start, fill-count, fill-end, fill-laws, room-laws, place-small, places-stop, place-laws, places-fit, places-few}
+use Rattle.record.specs.Seek.{placesOf}
+use Rattle.record.specs.declared.seek.Between.the-variants.{Anything}
+use Rattle.record.proofs.SeekLaws.{sought-nearer}
+use Rattle.layout.proofs.HandleLaws.{Filling, fill-start, fill-count, fill-end, fill-laws, place-room, sought-small, places-end, places-here, places-fit, places-few}
 use borrow.Author.Needs.{needs}
 use Rattle.layout.proofs.handles.fill_places.Statement.{statement}
 use Rattle.layout.proofs.handles.fill_places.Tie as tie
+use Rattle.layout.proofs.handles.fill_places.Reads as reads
+use Rattle.layout.proofs.handles.fill_places.Lts as lts
+use Rattle.layout.proofs.handles.narrow.Reads as narrow-reads
+use Rattle.record.proofs.seek.seek.Reads as seek-reads
 
 abbrev Inv-loop : tie.InvT-loop
-Inv-loop stream number out₀ cursor₀ n₀ out cursor n = Filling (placesFrom stream number 0) (placesFrom stream number (cursor .at)) out₀ out n
+Inv-loop stream number out₀ at₀ n₀ out at n = Filling (placesOf stream Anything number 0) (placesOf stream Anything number at) out₀ out n
 
 abbrev μ-loop : tie.MeasureT-loop
-μ-loop stream number out₀ cursor₀ n₀ out cursor n = length stream - cursor .at
+μ-loop stream number out₀ at₀ n₀ out at n = length stream - at
 
-new-requires : tie.Need-new-requires Inv-loop μ-loop
-new-requires c κs = search needs
-
+-- src/handles.rt:31:5
 loop-holds : tie.Need-loop-holds Inv-loop μ-loop
-loop-holds c = rw (c .new .ensures) (search (fill-start, places-fit))
+loop-holds c = search (fill-start, places-fit)
 
-next-requires : tie.Need-next-requires Inv-loop μ-loop
-next-requires c κs = search needs
+-- src/handles.rt:32:40
+seek-requires : tie.Need-seek-requires Inv-loop μ-loop
+seek-requires c κs = search needs
 
-enum-known-after : tie.Need-enum-known-after Inv-loop μ-loop
-enum-known-after c = search needs
+-- src/handles.rt:32:24
+enum-known-place : tie.Need-enum-known-place Inv-loop μ-loop
+enum-known-place c = search needs
 
+-- src/handles.rt:33:13
 enum-told : tie.Need-enum-told Inv-loop μ-loop
 enum-told c = search needs
 
+-- src/handles.rt:33:13
 same-length : tie.Need-same-length Inv-loop μ-loop
 same-length c = search needs
 
+-- src/handles.rt:33:13
 returns : tie.Need-returns Inv-loop μ-loop
-returns c = (search (fill-count, places-stop), search (fill-end, places-stop), search (places-few, places-stop))
+returns c = (search (fill-count, places-end), search (fill-end, places-end), search (places-few, places-end))
 
-byte-at-requires : tie.Need-byte-at-requires Inv-loop μ-loop
-byte-at-requires c κs = search needs
-
+-- src/handles.rt:35:18
 narrow-requires : tie.Need-narrow-requires Inv-loop μ-loop
-narrow-requires c κs = search place-small
+narrow-requires c κs = search sought-small
 
+-- src/handles.rt:35:9
 mul-out : tie.Need-mul-out Inv-loop μ-loop
 mul-out c = search needs
 
+-- src/handles.rt:35:9
 slice-write-out : tie.Need-slice-write-out Inv-loop μ-loop
-slice-write-out c = search room-laws
+slice-write-out c = search place-room
 
+-- src/handles.rt:36:9
 add-n : tie.Need-add-n Inv-loop μ-loop
 add-n c = search needs
 
+-- src/handles.rt:31:5
 loop-less : tie.Need-loop-less Inv-loop μ-loop
-loop-less c = search nearer
+loop-less c = search sought-nearer
 
+-- src/handles.rt:31:5
 loop-again : tie.Need-loop-again Inv-loop μ-loop
-loop-again c = search (fill-laws, place-laws)
-
-loop-less-2 : tie.Need-loop-less-2 Inv-loop μ-loop
-loop-less-2 c = search nearer
-
-loop-again-2 : tie.Need-loop-again-2 Inv-loop μ-loop
-loop-again-2 c = search (fill-laws, place-laws)
+loop-again c = search (fill-laws, places-here)
 
 pub fill-places-spec : {M : Type 1} → statement M
 fill-places-spec =
@@ -67,19 +72,15 @@ fill-places-spec =
     (tie.spec
     Inv-loop
     μ-loop
-    new-requires
     loop-holds
-    next-requires
-    enum-known-after
+    seek-requires
+    enum-known-place
     enum-told
     same-length
     returns
-    byte-at-requires
     narrow-requires
     mul-out
     slice-write-out
     add-n
     loop-less
-    loop-again
-    loop-less-2
-    loop-again-2)
+    loop-again)

@@ -7,10 +7,10 @@ use Rattle.layout.proofs.sort.keep_last.Statement.{statement}
 use Rattle.layout.proofs.sort.keep_last.Tie as tie
 
 abbrev Inv-loop : tie.InvT-loop
-Inv-loop stream pool handles₀ i₀ n₀ handles i n = Keeping (typeName stream pool) handles₀ handles i n
+Inv-loop stream pool fronts handles₀ i₀ n₀ handles i n = Keeping (typeName stream pool) handles₀ handles i n
 
 abbrev μ-loop : tie.MeasureT-loop
-μ-loop stream pool handles₀ i₀ n₀ handles i n = length handles₀ - i
+μ-loop stream pool fronts handles₀ i₀ n₀ handles i n = length handles₀ - i
 
 loop-holds : tie.Need-loop-holds Inv-loop μ-loop
 loop-holds c = search keep-start

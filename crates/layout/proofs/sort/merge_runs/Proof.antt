@@ -7,10 +7,10 @@ use Rattle.layout.proofs.sort.merge_runs.Statement.{statement}
 use Rattle.layout.proofs.sort.merge_runs.Tie as tie
 
 abbrev Inv-loop : tie.InvT-loop
-Inv-loop stream pool left right out₀ i₀ j₀ out i j = Merged (typeName stream pool) left right out i j
+Inv-loop stream pool fronts left right out₀ i₀ j₀ out i j = Merged (typeName stream pool) left right out i j
 
 abbrev μ-loop : tie.MeasureT-loop
-μ-loop stream pool left right out₀ i₀ j₀ out i j = length left + length right - (i + j)
+μ-loop stream pool fronts left right out₀ i₀ j₀ out i j = length left + length right - (i + j)
 
 loop-holds : tie.Need-loop-holds Inv-loop μ-loop
 loop-holds c = search merged-start

@@ -8,10 +8,10 @@ use Rattle.layout.proofs.sort.pass.Statement.{statement}
 use Rattle.layout.proofs.sort.pass.Tie as tie
 
 abbrev Inv-loop : tie.InvT-loop
-Inv-loop stream pool src dst₀ w n lo₀ dst lo = Passed (typeName stream pool) w src dst lo × (n ≡ length src) × (0 < w)
+Inv-loop stream pool fronts src dst₀ w n lo₀ dst lo = Passed (typeName stream pool) w src dst lo × (n ≡ length src) × (0 < w)
 
 abbrev μ-loop : tie.MeasureT-loop
-μ-loop stream pool src dst₀ w n lo₀ dst lo = n - lo
+μ-loop stream pool fronts src dst₀ w n lo₀ dst lo = n - lo
 
 loop-holds : tie.Need-loop-holds Inv-loop μ-loop
 loop-holds c = (record { so-far = refl; inside = search needs; long = search needs }, search needs, search needs)

@@ -9,20 +9,20 @@ returns c = search second-laws
 returns-2 : tie.Need-returns-2
 returns-2 c = search second-laws
 
-mul-type-before : tie.Need-mul-type-before
-mul-type-before c = search needs
+mul-fronted-before : tie.Need-mul-fronted-before
+mul-fronted-before c = search needs
 
-shared-slice-read-type-before : tie.Need-shared-slice-read-type-before
-shared-slice-read-type-before c = search needs
+shared-slice-read-fronted-before : tie.Need-shared-slice-read-fronted-before
+shared-slice-read-fronted-before c = search needs
 
-mul-type-before-2 : tie.Need-mul-type-before-2
-mul-type-before-2 c = search needs
+mul-fronted-before-2 : tie.Need-mul-fronted-before-2
+mul-fronted-before-2 c = search needs
 
-shared-slice-read-type-before-2 : tie.Need-shared-slice-read-type-before-2
-shared-slice-read-type-before-2 c = search needs
+shared-slice-read-fronted-before-2 : tie.Need-shared-slice-read-fronted-before-2
+shared-slice-read-fronted-before-2 c = search needs
 
-type-before-requires : tie.Need-type-before-requires
-type-before-requires c κs = search needs
+fronted-before-requires : tie.Need-fronted-before-requires
+fronted-before-requires c κs = search needs
 
 returns-3 : tie.Need-returns-3
 returns-3 c = search second-laws
@@ -33,9 +33,9 @@ second-next-spec =
     (tie.spec
     returns
     returns-2
-    mul-type-before
-    shared-slice-read-type-before
-    mul-type-before-2
-    shared-slice-read-type-before-2
-    type-before-requires
+    mul-fronted-before
+    shared-slice-read-fronted-before
+    mul-fronted-before-2
+    shared-slice-read-fronted-before-2
+    fronted-before-requires
     returns-3)

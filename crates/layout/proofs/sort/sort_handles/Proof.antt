@@ -9,10 +9,10 @@ use Rattle.layout.proofs.sort.sort_handles.Statement.{statement}
 use Rattle.layout.proofs.sort.sort_handles.Tie as tie
 
 abbrev Inv-loop : tie.InvT-loop
-Inv-loop stream pool handles₀ scratch₀ w₀ handles scratch w = (handles ≡ chunks (arranged (typeName stream pool)) w handles₀) × (length handles ≡ length handles₀) × (length scratch ≡ length handles₀) × (0 < w)
+Inv-loop stream pool fronts handles₀ scratch₀ w₀ handles scratch w = (handles ≡ chunks (arranged (typeName stream pool)) w handles₀) × (length handles ≡ length handles₀) × (length scratch ≡ length handles₀) × (0 < w)
 
 abbrev μ-loop : tie.MeasureT-loop
-μ-loop stream pool handles₀ scratch₀ w₀ handles scratch w = length handles₀ - w
+μ-loop stream pool fronts handles₀ scratch₀ w₀ handles scratch w = length handles₀ - w
 
 loop-holds : tie.Need-loop-holds Inv-loop μ-loop
 loop-holds c = (search sort-start, search needs, search needs, search needs)

@@ -6,49 +6,70 @@ use Rattle.record.proofs.le.u32_at.Statement.{statement}
 use Rattle.record.proofs.le.u32_at.Tie as tie
 use Rattle.record.proofs.le.u32_at.Reads as reads
 use Rattle.record.proofs.le.u32_at.Lts as lts
+use Rattle.record.proofs.le.half.Reads as half-reads
 use Rattle.record.proofs.le.u16_at.Reads as u16-at-reads
 
--- src/lib.rt:30:19
+-- src/le.rt:52:17
+sub-if2 : tie.Need-sub-if2
+sub-if2 c = search needs
+
+-- src/le.rt:53:20
+half-requires : tie.Need-half-requires
+half-requires c κs = search needs
+
+-- src/le.rt:53:20
+cast-result : tie.Need-cast-result
+cast-result c = search needs
+
+-- src/le.rt:53:13
+returns : tie.Need-returns
+returns c = search needs
+
+-- src/le.rt:55:19
 u16-at-requires : tie.Need-u16-at-requires
 u16-at-requires c κs = search needs
 
--- src/lib.rt:30:19
+-- src/le.rt:55:19
 cast-low : tie.Need-cast-low
 cast-low c = search needs
 
--- src/lib.rt:31:30
+-- src/le.rt:56:30
 add-u16-at : tie.Need-add-u16-at
 add-u16-at c = search needs
 
--- src/lib.rt:31:20
+-- src/le.rt:56:20
 u16-at-requires-2 : tie.Need-u16-at-requires-2
 u16-at-requires-2 c κs = search needs
 
--- src/lib.rt:31:20
+-- src/le.rt:56:20
 cast-high : tie.Need-cast-high
 cast-high c = search needs
 
--- src/lib.rt:32:15
+-- src/le.rt:57:15
 mul-result : tie.Need-mul-result
 mul-result c = search needs
 
--- src/lib.rt:32:9
+-- src/le.rt:57:9
 add-result : tie.Need-add-result
 add-result c = search needs
 
--- src/lib.rt:26:1
-returns : tie.Need-returns
-unfolding u32At
-returns c = omega arith
-
--- src/lib.rt:26:1
+-- src/le.rt:48:1
 returns-2 : tie.Need-returns-2
-returns-2 c = sym (u32-past _ _ (c .if1 .left))
+unfolding u32At
+returns-2 c = omega arith
+
+-- src/le.rt:48:1
+returns-3 : tie.Need-returns-3
+returns-3 c = sym (u32-past _ _ (c .if1 .left))
 
 pub u32-at-spec : {M : Type 1} → statement M
 u32-at-spec =
     tie.close
     (tie.spec
+    sub-if2
+    half-requires
+    cast-result
+    returns
     u16-at-requires
     cast-low
     add-u16-at
@@ -56,5 +77,5 @@ u32-at-spec =
     cast-high
     mul-result
     add-result
-    returns
-    returns-2)
+    returns-2
+    returns-3)

@@ -1,70 +1,55 @@
-use Prim.Native.Nat.{_-_}
-use lib.ListN.{length}
-use Rattle.record.specs.Steps.{familiesAt}
-use Rattle.record.proofs.Stream.{nearer}
-use Rattle.record.proofs.ListLaws.{Onward, onward-here}
 use Rattle.record.proofs.StepLaws.{families-laws}
 use borrow.Author.Needs.{needs}
 use Rattle.record.proofs.lists.next_family.Statement.{statement}
 use Rattle.record.proofs.lists.next_family.Tie as tie
 use Rattle.record.proofs.lists.next_family.Reads as reads
 use Rattle.record.proofs.lists.next_family.Lts as lts
-use Rattle.record.proofs.command.Cursor.next.Reads as next-reads
+use Rattle.record.proofs.command.Cursor.place.Reads as place-reads
+use Rattle.record.proofs.command.family_at.Reads as family-at-reads
+use Rattle.record.proofs.cut.from.Reads as from-reads
+use Rattle.record.proofs.seek.seek.Reads as seek-reads
 
-abbrev Inv-loop : tie.InvT-loop
-Inv-loop stream cursor₀ cursor = Onward familiesAt stream (cursor₀ .at) (cursor .at)
+-- src/lists.rt:213:33
+seek-requires : tie.Need-seek-requires
+seek-requires c κs = search needs
 
-abbrev μ-loop : tie.MeasureT-loop
-μ-loop stream cursor₀ cursor = length stream - cursor .at
+-- src/lists.rt:213:20
+enum-known-at : tie.Need-enum-known-at
+enum-known-at c = search needs
 
--- src/lists.rt:273:5
-loop-holds : tie.Need-loop-holds Inv-loop μ-loop
-loop-holds c = search onward-here
-
--- src/lists.rt:274:42
-next-requires : tie.Need-next-requires Inv-loop μ-loop
-next-requires c κs = search needs
-
--- src/lists.rt:274:24
-enum-known-command : tie.Need-enum-known-command Inv-loop μ-loop
-enum-known-command c = search needs
-
--- src/lists.rt:275:13
-enum-told : tie.Need-enum-told Inv-loop μ-loop
+-- src/lists.rt:214:9
+enum-told : tie.Need-enum-told
 enum-told c = search needs
 
--- src/lists.rt:275:13
-returns : tie.Need-returns Inv-loop μ-loop
+-- src/lists.rt:214:9
+returns : tie.Need-returns
 returns c = search families-laws
 
--- src/lists.rt:277:32
-enum-known-command-2 : tie.Need-enum-known-command-2 Inv-loop μ-loop
-enum-known-command-2 c = search needs
+-- src/lists.rt:216:35
+from-requires : tie.Need-from-requires
+from-requires c κs = search needs
 
--- src/lists.rt:278:13
-returns-2 : tie.Need-returns-2 Inv-loop μ-loop
+-- src/lists.rt:216:25
+family-at-requires : tie.Need-family-at-requires
+family-at-requires c κs = search needs
+
+-- src/lists.rt:216:59
+place-requires : tie.Need-place-requires
+place-requires c κs = search needs
+
+-- src/lists.rt:210:1
+returns-2 : tie.Need-returns-2
 returns-2 c = search families-laws
-
--- src/lists.rt:273:5
-loop-less : tie.Need-loop-less Inv-loop μ-loop
-loop-less c = search nearer
-
--- src/lists.rt:273:5
-loop-again : tie.Need-loop-again Inv-loop μ-loop
-loop-again c = search families-laws
 
 pub next-family-spec : {M : Type 1} → statement M
 next-family-spec =
     tie.close
     (tie.spec
-    Inv-loop
-    μ-loop
-    loop-holds
-    next-requires
-    enum-known-command
+    seek-requires
+    enum-known-at
     enum-told
     returns
-    enum-known-command-2
-    returns-2
-    loop-less
-    loop-again)
+    from-requires
+    family-at-requires
+    place-requires
+    returns-2)

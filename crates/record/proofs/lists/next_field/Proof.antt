@@ -1,80 +1,55 @@
-use Prim.Native.Nat.{_-_}
-use lib.ListN.{length}
-use Rattle.record.specs.Steps.{fieldsAt}
-use Rattle.record.proofs.Stream.{nearer}
-use Rattle.record.proofs.ListLaws.{Onward, onward-here}
 use Rattle.record.proofs.StepLaws.{fields-laws}
 use borrow.Author.Needs.{needs}
 use Rattle.record.proofs.lists.next_field.Statement.{statement}
 use Rattle.record.proofs.lists.next_field.Tie as tie
 use Rattle.record.proofs.lists.next_field.Reads as reads
 use Rattle.record.proofs.lists.next_field.Lts as lts
-use Rattle.record.proofs.command.Cursor.next.Reads as next-reads
+use Rattle.record.proofs.command.Cursor.place.Reads as place-reads
+use Rattle.record.proofs.command.field_at.Reads as field-at-reads
+use Rattle.record.proofs.cut.from.Reads as from-reads
+use Rattle.record.proofs.seek.seek.Reads as seek-reads
 
-abbrev Inv-loop : tie.InvT-loop
-Inv-loop stream cursor₀ cursor = Onward fieldsAt stream (cursor₀ .at) (cursor .at)
+-- src/lists.rt:168:33
+seek-requires : tie.Need-seek-requires
+seek-requires c κs = search needs
 
-abbrev μ-loop : tie.MeasureT-loop
-μ-loop stream cursor₀ cursor = length stream - cursor .at
+-- src/lists.rt:168:20
+enum-known-at : tie.Need-enum-known-at
+enum-known-at c = search needs
 
--- src/lists.rt:193:5
-loop-holds : tie.Need-loop-holds Inv-loop μ-loop
-loop-holds c = search onward-here
-
--- src/lists.rt:194:42
-next-requires : tie.Need-next-requires Inv-loop μ-loop
-next-requires c κs = search needs
-
--- src/lists.rt:194:24
-enum-known-command : tie.Need-enum-known-command Inv-loop μ-loop
-enum-known-command c = search needs
-
--- src/lists.rt:195:13
-enum-told : tie.Need-enum-told Inv-loop μ-loop
+-- src/lists.rt:169:9
+enum-told : tie.Need-enum-told
 enum-told c = search needs
 
--- src/lists.rt:195:13
-returns : tie.Need-returns Inv-loop μ-loop
+-- src/lists.rt:169:9
+returns : tie.Need-returns
 returns c = search fields-laws
 
--- src/lists.rt:198:28
-enum-known-command-2 : tie.Need-enum-known-command-2 Inv-loop μ-loop
-enum-known-command-2 c = search needs
+-- src/lists.rt:171:32
+from-requires : tie.Need-from-requires
+from-requires c κs = search needs
 
--- src/lists.rt:199:17
-returns-2 : tie.Need-returns-2 Inv-loop μ-loop
+-- src/lists.rt:171:23
+field-at-requires : tie.Need-field-at-requires
+field-at-requires c κs = search needs
+
+-- src/lists.rt:171:56
+place-requires : tie.Need-place-requires
+place-requires c κs = search needs
+
+-- src/lists.rt:165:1
+returns-2 : tie.Need-returns-2
 returns-2 c = search fields-laws
-
--- src/lists.rt:202:17
-enum-told-2 : tie.Need-enum-told-2 Inv-loop μ-loop
-enum-told-2 c = search needs
-
--- src/lists.rt:193:5
-loop-less : tie.Need-loop-less Inv-loop μ-loop
-loop-less c = search nearer
-
--- src/lists.rt:193:5
-loop-again : tie.Need-loop-again Inv-loop μ-loop
-loop-again c = search fields-laws
-
--- src/lists.rt:205:17
-returns-3 : tie.Need-returns-3 Inv-loop μ-loop
-returns-3 c = search fields-laws
 
 pub next-field-spec : {M : Type 1} → statement M
 next-field-spec =
     tie.close
     (tie.spec
-    Inv-loop
-    μ-loop
-    loop-holds
-    next-requires
-    enum-known-command
+    seek-requires
+    enum-known-at
     enum-told
     returns
-    enum-known-command-2
-    returns-2
-    enum-told-2
-    loop-less
-    loop-again
-    returns-3)
+    from-requires
+    field-at-requires
+    place-requires
+    returns-2)

@@ -4,44 +4,52 @@ use Rattle.record.proofs.lists.next_value.Statement.{statement}
 use Rattle.record.proofs.lists.next_value.Tie as tie
 use Rattle.record.proofs.lists.next_value.Reads as reads
 use Rattle.record.proofs.lists.next_value.Lts as lts
-use Rattle.record.proofs.command.Cursor.next.Reads as next-reads
+use Rattle.record.proofs.command.Cursor.place.Reads as place-reads
+use Rattle.record.proofs.command.value_at.Reads as value-at-reads
+use Rattle.record.proofs.cut.from.Reads as from-reads
+use Rattle.record.proofs.seek.seek.Reads as seek-reads
 
--- src/lists.rt:96:38
-next-requires : tie.Need-next-requires
-next-requires c κs = search needs
+-- src/lists.rt:93:33
+seek-requires : tie.Need-seek-requires
+seek-requires c κs = search needs
 
--- src/lists.rt:96:20
-enum-known-command : tie.Need-enum-known-command
-enum-known-command c = search needs
+-- src/lists.rt:93:20
+enum-known-at : tie.Need-enum-known-at
+enum-known-at c = search needs
 
--- src/lists.rt:97:9
+-- src/lists.rt:94:9
 enum-told : tie.Need-enum-told
 enum-told c = search needs
 
--- src/lists.rt:97:9
+-- src/lists.rt:94:9
 returns : tie.Need-returns
 returns c = search values-laws
 
--- src/lists.rt:99:24
-enum-known-command-2 : tie.Need-enum-known-command-2
-enum-known-command-2 c = search needs
+-- src/lists.rt:96:32
+from-requires : tie.Need-from-requires
+from-requires c κs = search needs
 
--- src/lists.rt:100:9
+-- src/lists.rt:96:23
+value-at-requires : tie.Need-value-at-requires
+value-at-requires c κs = search needs
+
+-- src/lists.rt:96:56
+place-requires : tie.Need-place-requires
+place-requires c κs = search needs
+
+-- src/lists.rt:90:1
 returns-2 : tie.Need-returns-2
 returns-2 c = search values-laws
-
--- src/lists.rt:93:1
-returns-3 : tie.Need-returns-3
-returns-3 c = search values-laws
 
 pub next-value-spec : {M : Type 1} → statement M
 next-value-spec =
     tie.close
     (tie.spec
-    next-requires
-    enum-known-command
+    seek-requires
+    enum-known-at
     enum-told
     returns
-    enum-known-command-2
-    returns-2
-    returns-3)
+    from-requires
+    value-at-requires
+    place-requires
+    returns-2)

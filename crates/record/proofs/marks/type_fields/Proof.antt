@@ -5,6 +5,7 @@ use Rattle.record.proofs.marks.type_fields.Tie as tie
 use Rattle.record.proofs.marks.type_fields.Reads as reads
 use Rattle.record.proofs.marks.type_fields.Lts as lts
 use Rattle.record.proofs.command.Cursor.new.Reads as new-reads
+use Rattle.record.proofs.command.Cursor.place.Reads as place-reads
 use Rattle.record.proofs.lists.find_family.Reads as find-family-reads
 use Rattle.record.proofs.lists.find_struct.Reads as find-struct-reads
 
@@ -46,6 +47,10 @@ returns-2 c = search body-laws
 enum-told-2 : tie.Need-enum-told-2
 enum-told-2 c = search needs
 
+-- src/marks.rt:51:15
+place-requires : tie.Need-place-requires
+place-requires c κs = search needs
+
 -- src/marks.rt:35:1
 returns-3 : tie.Need-returns-3
 returns-3 c = search body-laws
@@ -64,4 +69,5 @@ type-fields-spec =
     enum-known-after-2
     returns-2
     enum-told-2
+    place-requires
     returns-3)

@@ -1,73 +1,71 @@
 use Prim.Native.Nat.{_-_}
 use lib.ListN.{length}
-use Rattle.record.proofs.Stream.{nearer}
+use Rattle.record.proofs.SeekLaws.{sought-nearer}
 use Rattle.record.proofs.ReferenceLaws.{Before, before-start, in-slot-laws}
 use borrow.Author.Needs.{needs}
 use Rattle.record.proofs.references.struct_in_slot.Statement.{statement}
 use Rattle.record.proofs.references.struct_in_slot.Tie as tie
 use Rattle.record.proofs.references.struct_in_slot.Reads as reads
 use Rattle.record.proofs.references.struct_in_slot.Lts as lts
-use Rattle.record.proofs.command.Cursor.new.Reads as new-reads
-use Rattle.record.proofs.command.Cursor.next.Reads as next-reads
+use Rattle.record.proofs.command.Cursor.place.Reads as place-reads
+use Rattle.record.proofs.command.struct_at.Reads as struct-at-reads
+use Rattle.record.proofs.cut.from.Reads as from-reads
 use Rattle.record.proofs.references.is_text.Reads as is-text-reads
+use Rattle.record.proofs.seek.seek.Reads as seek-reads
 
 abbrev Inv-loop : tie.InvT-loop
-Inv-loop stream pool slot cursor₀ cursor = Before stream pool slot (cursor .at)
+Inv-loop stream pool slot at₀ at = Before stream pool slot at
 
 abbrev μ-loop : tie.MeasureT-loop
-μ-loop stream pool slot cursor₀ cursor = length stream - cursor .at
+μ-loop stream pool slot at₀ at = length stream - at
 
--- src/references.rt:68:9
-new-requires : tie.Need-new-requires Inv-loop μ-loop
-new-requires c κs = search needs
-
--- src/references.rt:69:5
+-- src/references.rt:72:5
 loop-holds : tie.Need-loop-holds Inv-loop μ-loop
 loop-holds c = search before-start
 
--- src/references.rt:70:42
-next-requires : tie.Need-next-requires Inv-loop μ-loop
-next-requires c κs = search needs
+-- src/references.rt:73:40
+seek-requires : tie.Need-seek-requires Inv-loop μ-loop
+seek-requires c κs = search needs
 
--- src/references.rt:70:24
-enum-known-command : tie.Need-enum-known-command Inv-loop μ-loop
-enum-known-command c = search needs
+-- src/references.rt:73:24
+enum-known-place : tie.Need-enum-known-place Inv-loop μ-loop
+enum-known-place c = search needs
 
--- src/references.rt:71:13
+-- src/references.rt:74:13
 enum-told : tie.Need-enum-told Inv-loop μ-loop
 enum-told c = search needs
 
--- src/references.rt:71:13
+-- src/references.rt:74:13
 returns : tie.Need-returns Inv-loop μ-loop
 returns c = search in-slot-laws
 
--- src/references.rt:73:29
-enum-known-command-2 : tie.Need-enum-known-command-2 Inv-loop μ-loop
-enum-known-command-2 c = search needs
+-- src/references.rt:76:27
+from-requires : tie.Need-from-requires Inv-loop μ-loop
+from-requires c κs = search needs
 
--- src/references.rt:69:5
-loop-less : tie.Need-loop-less Inv-loop μ-loop
-loop-less c = search nearer
-
--- src/references.rt:69:5
-loop-again : tie.Need-loop-again Inv-loop μ-loop
-loop-again c = search in-slot-laws
+-- src/references.rt:76:13
+struct-at-requires : tie.Need-struct-at-requires Inv-loop μ-loop
+struct-at-requires c κs = search needs
 
 -- src/references.rt:78:12
 is-text-requires : tie.Need-is-text-requires Inv-loop μ-loop
 is-text-requires c κs = search needs
 
+-- src/references.rt:79:43
+place-requires : tie.Need-place-requires Inv-loop μ-loop
+place-requires c κs = search needs
+
 -- src/references.rt:79:13
 returns-2 : tie.Need-returns-2 Inv-loop μ-loop
 returns-2 c = search in-slot-laws
 
--- src/references.rt:69:5
-loop-less-2 : tie.Need-loop-less-2 Inv-loop μ-loop
-loop-less-2 c = search nearer
+-- src/references.rt:72:5
+loop-less : tie.Need-loop-less Inv-loop μ-loop
+loop-less c = search sought-nearer
 
--- src/references.rt:69:5
-loop-again-2 : tie.Need-loop-again-2 Inv-loop μ-loop
-loop-again-2 c = search in-slot-laws
+-- src/references.rt:72:5
+loop-again : tie.Need-loop-again Inv-loop μ-loop
+loop-again c = search in-slot-laws
 
 pub struct-in-slot-spec : {M : Type 1} → statement M
 struct-in-slot-spec =
@@ -75,16 +73,15 @@ struct-in-slot-spec =
     (tie.spec
     Inv-loop
     μ-loop
-    new-requires
     loop-holds
-    next-requires
-    enum-known-command
+    seek-requires
+    enum-known-place
     enum-told
     returns
-    enum-known-command-2
-    loop-less
-    loop-again
+    from-requires
+    struct-at-requires
     is-text-requires
+    place-requires
     returns-2
-    loop-less-2
-    loop-again-2)
+    loop-less
+    loop-again)

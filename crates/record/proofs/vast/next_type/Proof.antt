@@ -1,71 +1,74 @@
 use Prim.Native.Nat.{_-_}
 use lib.ListN.{length}
-use Rattle.record.specs.Vast.{openedFrom}
-use Rattle.record.proofs.Stream.{nearer}
-use Rattle.record.proofs.ListLaws.{Onward, onward-here}
-use Rattle.record.proofs.VastLaws.{type-laws}
+use Rattle.record.proofs.SeekLaws.{after-nearer}
+use Rattle.record.proofs.VastLaws.{Onward, onward-here, type-laws}
 use borrow.Author.Needs.{needs}
 use Rattle.record.proofs.vast.next_type.Statement.{statement}
 use Rattle.record.proofs.vast.next_type.Tie as tie
 use Rattle.record.proofs.vast.next_type.Reads as reads
 use Rattle.record.proofs.vast.next_type.Lts as lts
-use Rattle.record.proofs.command.Cursor.next.Reads as next-reads
+use Rattle.record.proofs.command.Cursor.place.Reads as place-reads
+use Rattle.record.proofs.command.family_at.Reads as family-at-reads
+use Rattle.record.proofs.cut.from.Reads as from-reads
+use Rattle.record.proofs.le.byte_at.Reads as byte-at-reads
+use Rattle.record.proofs.seek.after_at.Reads as after-at-reads
+use Rattle.record.proofs.vast.opens_plain.Reads as opens-plain-reads
 
 abbrev Inv-loop : tie.InvT-loop
-Inv-loop stream cursor₀ cursor = Onward openedFrom stream (cursor₀ .at) (cursor .at)
+Inv-loop stream at₀ at = Onward stream at₀ at
 
 abbrev μ-loop : tie.MeasureT-loop
-μ-loop stream cursor₀ cursor = length stream - cursor .at
+μ-loop stream at₀ at = length stream - at
 
--- src/vast.rt:38:5
+-- src/vast.rt:52:5
 loop-holds : tie.Need-loop-holds Inv-loop μ-loop
 loop-holds c = search onward-here
 
--- src/vast.rt:40:42
-next-requires : tie.Need-next-requires Inv-loop μ-loop
-next-requires c κs = search needs
+-- src/vast.rt:53:13
+after-at-requires : tie.Need-after-at-requires Inv-loop μ-loop
+after-at-requires c κs = search needs
 
--- src/vast.rt:40:24
-enum-known-command : tie.Need-enum-known-command Inv-loop μ-loop
-enum-known-command c = search needs
-
--- src/vast.rt:41:13
-enum-told : tie.Need-enum-told Inv-loop μ-loop
-enum-told c = search needs
-
--- src/vast.rt:41:13
+-- src/vast.rt:55:13
 returns : tie.Need-returns Inv-loop μ-loop
 returns c = search type-laws
 
--- src/vast.rt:45:17
-enum-told-2 : tie.Need-enum-told-2 Inv-loop μ-loop
-enum-told-2 c = search needs
+-- src/vast.rt:57:13
+byte-at-requires : tie.Need-byte-at-requires Inv-loop μ-loop
+byte-at-requires c κs = search needs
 
--- src/vast.rt:45:17
+-- src/vast.rt:59:52
+from-requires : tie.Need-from-requires Inv-loop μ-loop
+from-requires c κs = search needs
+
+-- src/vast.rt:59:42
+family-at-requires : tie.Need-family-at-requires Inv-loop μ-loop
+family-at-requires c κs = search needs
+
+-- src/vast.rt:59:76
+place-requires : tie.Need-place-requires Inv-loop μ-loop
+place-requires c κs = search needs
+
+-- src/vast.rt:59:13
 returns-2 : tie.Need-returns-2 Inv-loop μ-loop
 returns-2 c = search type-laws
 
--- src/vast.rt:48:17
-enum-told-3 : tie.Need-enum-told-3 Inv-loop μ-loop
-enum-told-3 c = search needs
+-- src/vast.rt:61:12
+opens-plain-requires : tie.Need-opens-plain-requires Inv-loop μ-loop
+opens-plain-requires c κs = search needs
 
--- src/vast.rt:48:17
+-- src/vast.rt:62:40
+place-requires-2 : tie.Need-place-requires-2 Inv-loop μ-loop
+place-requires-2 c κs = search needs
+
+-- src/vast.rt:62:13
 returns-3 : tie.Need-returns-3 Inv-loop μ-loop
 returns-3 c = search type-laws
 
--- src/vast.rt:50:29
-enum-known-command-2 : tie.Need-enum-known-command-2 Inv-loop μ-loop
-enum-known-command-2 c = search needs
-
--- src/vast.rt:51:17
-returns-4 : tie.Need-returns-4 Inv-loop μ-loop
-returns-4 c = search type-laws
-
--- src/vast.rt:38:5
+-- src/vast.rt:52:5
 loop-less : tie.Need-loop-less Inv-loop μ-loop
-loop-less c = search nearer
+loop-less c = search after-nearer
 
--- src/vast.rt:38:5
+-- src/vast.rt:52:5
 loop-again : tie.Need-loop-again Inv-loop μ-loop
 loop-again c = search type-laws
 
@@ -76,15 +79,15 @@ next-type-spec =
     Inv-loop
     μ-loop
     loop-holds
-    next-requires
-    enum-known-command
-    enum-told
+    after-at-requires
     returns
-    enum-told-2
+    byte-at-requires
+    from-requires
+    family-at-requires
+    place-requires
     returns-2
-    enum-told-3
+    opens-plain-requires
+    place-requires-2
     returns-3
-    enum-known-command-2
-    returns-4
     loop-less
     loop-again)

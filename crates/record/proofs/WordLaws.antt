@@ -1,0 +1,259 @@
+-- Words and bytes: what equal words say of the bytes, and texts from an index on. Assumes nothing.
+use Prim.Native.Nat.{ℕ, zero, suc, _+_, _*_, _-_, _≤_, _<_}
+use mathlib.Core.Bool.{Bool, true, false, _&&_}
+use mathlib.Core.List.{[], _∷_}
+use mathlib.Core.Path.{_≡_, refl, sym, ap, subst, _∙_}
+use native.Mathlib.Omega.{arith}
+use native.Mathlib.Numerals.{add-one}
+use lib.ListN.{length, drop, getD, drop-of-length-le, List·getD-eq-default}
+use lib.Seq.{drop-cons}
+use lib.Dec.{eqb, ltb}
+use borrow.Author.Tests.{ltb-true, ltb-false, lt-ltb, le-ltb, eq-eqb, ne-eqb}
+use mir.Val.{Fits}
+use mir.Syntax.{w8}
+use Rattle.record.specs.Base.{Str, eqs, before}
+use Rattle.record.specs.Le.{u16At, u32At, u64At}
+use Rattle.record.specs.Words.{frontAt, Fronted, Skipped}
+use Rattle.record.proofs.TextLaws.{same-step, same-differ, same-end}
+
+-- every element is a byte
+abbrev Bytes : Str → Type 0
+Bytes l = (k : ℕ) → Fits w8 (getD l k 0)
+
+-- u32At goes by two numbers of two bytes
+fourth : (s : Str) (i : ℕ) → getD s (i + 2 + 1) 0 ≡ getD s (i + 3) 0
+fourth s i = ap (λ (n : ℕ). getD s n 0) (let z : i + 2 + 1 ≡ i + 3 = omega arith in z)
+
+pub half-is : (s : Str) (i a b c d : ℕ) → a ≡ getD s i 0 → b ≡ getD s (i + 1) 0 → c ≡ getD s (i + 2) 0 → d ≡ getD s (i + 3) 0
+    → a + 256 * b + 65536 * c + 16777216 * d ≡ u32At s i
+unfolding u32At u16At
+half-is s i a b c d p q r t = omega (arith, p, q, r, t, fourth s i)
+
+pub word-is : (s : Str) (i a b : ℕ) → a ≡ u32At s i → b ≡ u32At s (i + 4) → a + 4294967296 * b ≡ u64At s i
+unfolding u64At
+word-is s i a b p q = rw (p, q)
+
+one : (a m x n : ℕ) → a < 256 → x < 256 → a + 256 * m ≡ x + 256 * n → (a ≡ x) × (m ≡ n)
+one a m x n p q e = let r : a ≡ x = omega arith in (r, omega arith)
+
+digits : (a b c d x y z w : ℕ) → a < 256 → b < 256 → c < 256 → x < 256 → y < 256 → z < 256
+    → a + 256 * b + 65536 * c + 16777216 * d ≡ x + 256 * y + 65536 * z + 16777216 * w → (a ≡ x) × (b ≡ y) × (c ≡ z) × (d ≡ w)
+digits a b c d x y z w a1 b1 c1 x1 y1 z1 e =
+    let p = one a (b + 256 * (c + 256 * d)) x (y + 256 * (z + 256 * w)) a1 x1 (omega arith) in
+    let q = one b (c + 256 * d) y (z + 256 * w) b1 y1 (p .1) in
+    let r = one c d z w c1 z1 (q .1) in
+    (p .0, q .0, r .0, r .1)
+
+byte : (l : Str) → Bytes l → (k : ℕ) → getD l k 0 < 256
+byte l f k = let g = f k in omega arith
+
+half-small : (l : Str) → Bytes l → (i : ℕ) → u32At l i < 4294967296
+unfolding u32At u16At
+half-small l f i = omega (arith, byte l f i, byte l f (i + 1), byte l f (i + 2), byte l f (i + 3), fourth l i)
+
+four : (P : ℕ → Type 0) → P 0 → P 1 → P 2 → P 3 → (k : ℕ) → k < 4 → P k
+four P a b c d zero h = a
+four P a b c d (suc zero) h = b
+four P a b c d (suc (suc zero)) h = c
+four P a b c d (suc (suc (suc zero))) h = d
+four P a b c d (suc (suc (suc (suc k)))) h = absurd (omega arith)
+
+module _ (a b : Str) (f : Bytes a) (g : Bytes b) where
+  half-agree : (i : ℕ) → u32At a i ≡ u32At b i → (k : ℕ) → k < 4 → getD a (i + k) 0 ≡ getD b (i + k) 0
+  unfolding u32At u16At
+  half-agree i e =
+      let d =
+      digits (getD a i 0) (getD a (i + 1) 0) (getD a (i + 2) 0) (getD a (i + 3) 0) (getD b i 0) (getD b (i + 1) 0) (getD b (i + 2) 0) (getD b (i + 3) 0)
+      (byte a f i) (byte a f (i + 1)) (byte a f (i + 2)) (byte b g i) (byte b g (i + 1)) (byte b g (i + 2)) (omega (arith, e, fourth a i, fourth b i)) in
+      four (λ (k : ℕ). getD a (i + k) 0 ≡ getD b (i + k) 0) (subst (λ (n : ℕ). getD a n 0 ≡ getD b n 0) (let z : i ≡ i + 0 = omega arith in z) (d .0)) (d .1) (d .2) (d .3)
+
+  word-agree : (i : ℕ) → u64At a i ≡ u64At b i → (u32At a i ≡ u32At b i) × (u32At a (i + 4) ≡ u32At b (i + 4))
+  unfolding u64At
+  word-agree i e = let p = half-small a f i in let q = half-small b g i in let r : u32At a i ≡ u32At b i = omega arith in (r, omega arith)
+
+  pub skip-more : (i n x y : ℕ) → Skipped a b i → x ≡ u64At a i → y ≡ u64At b i → x ≡ y → n ≤ length a → n ≤ length b → i ≤ n → 8 ≤ n - i → Skipped a b (i + 8)
+  skip-more i n x y s p q e l m z h =
+      record { agree = λ k t. go k t (ltb k i) refl; in-first = omega arith; in-second = omega arith }
+    where
+      w : (u32At a i ≡ u32At b i) × (u32At a (i + 4) ≡ u32At b (i + 4))
+      w = word-agree i (sym p ∙ e ∙ q)
+
+      go : (k : ℕ) → k < i + 8 → (c : Bool) → ltb k i ≡ c → getD a k 0 ≡ getD b k 0
+      go k t true u = s .agree k (ltb-true k i u)
+      go k t false u = more (ltb-false k i u) (ltb k (i + 4)) refl
+        where
+          more : i ≤ k → (c : Bool) → ltb k (i + 4) ≡ c → getD a k 0 ≡ getD b k 0
+          more v true o =
+              let r = ltb-true k (i + 4) o in
+              let j : i + (k - i) ≡ k = omega arith in
+              subst (λ (m′ : ℕ). getD a m′ 0 ≡ getD b m′ 0) j (half-agree i (w .0) (k - i) (omega arith))
+          more v false o =
+              let r = ltb-false k (i + 4) o in
+              let j : i + 4 + (k - (i + 4)) ≡ k = omega arith in
+              subst (λ (m′ : ℕ). getD a m′ 0 ≡ getD b m′ 0) j (half-agree (i + 4) (w .1) (k - (i + 4)) (omega arith))
+
+-- two texts compared from an index on
+module _ (a b : Str) (i : ℕ) where
+  pub before-next : i < length a → i < length b → getD b i 0 ≤ getD a i 0 → getD a i 0 ≤ getD b i 0 → before (drop i a) (drop i b) ≡ before (drop (i + 1) a) (drop (i + 1) b)
+  unfolding before
+  before-next p q h k =
+      rw (add-one, drop-cons a i 0, drop-cons b i 0, le-ltb (getD a i 0) (getD b i 0) h, eq-eqb (getD a i 0) (getD b i 0) (let e : getD a i 0 ≡ getD b i 0 = omega arith in e))
+
+  pub before-below : i < length a → i < length b → getD a i 0 < getD b i 0 → before (drop i a) (drop i b) ≡ true
+  unfolding before
+  before-below p q h = rw (drop-cons a i 0, drop-cons b i 0, lt-ltb (getD a i 0) (getD b i 0) h)
+
+  pub before-above : i < length a → i < length b → getD b i 0 < getD a i 0 → before (drop i a) (drop i b) ≡ false
+  unfolding before
+  before-above p q h =
+      let m : getD a i 0 ≡ getD b i 0 → ⊥ = λ e. omega arith in
+      rw (drop-cons a i 0, drop-cons b i 0, le-ltb (getD a i 0) (getD b i 0) (omega arith), ne-eqb (getD a i 0) (getD b i 0) m)
+
+  pub before-longer : i < length a → length b ≤ i → before (drop i a) (drop i b) ≡ false
+  unfolding before
+  before-longer p q = rw (drop-cons a i 0, drop-of-length-le b)
+
+  pub before-shorter : length a ≤ i → i < length b → before (drop i a) (drop i b) ≡ true
+  unfolding before
+  before-shorter p q = rw (drop-of-length-le a, drop-cons b i 0)
+
+  pub before-end : length a ≤ i → length b ≤ i → before (drop i a) (drop i b) ≡ false
+  unfolding before
+  before-end p q = rw (drop-of-length-le a, drop-of-length-le b)
+
+pub ruleset before-laws = (before-next, before-below, before-above, before-longer, before-shorter, before-end)
+
+lengths : (a b : Str) → (length a ≡ length b → ⊥) → false ≡ eqs a b
+unfolding eqs
+lengths [] [] h = absurd (h refl)
+lengths [] (y ∷ b) h = refl
+lengths (x ∷ a) [] h = refl
+lengths (x ∷ a) (y ∷ b) h = go (eqb x y) (lengths a b (λ e. h (ap suc e)))
+  where
+    go : (t : Bool) → false ≡ eqs a b → false ≡ (t && eqs a b)
+    go true i = i
+    go false i = refl
+
+module _ (a b : Str) where
+  pub skip-none : Skipped a b 0
+  skip-none = record { agree = λ k t. absurd (omega arith); in-first = omega arith; in-second = omega arith }
+
+  pub before-skip : (i : ℕ) → Skipped a b i → before a b ≡ before (drop i a) (drop i b)
+  before-skip zero s = refl
+  before-skip (suc i) s =
+      let p = s .in-first in
+      let q = s .in-second in
+      let e = s .agree i (omega arith) in
+      let r : Skipped a b i = record { agree = λ k t. s .agree k (omega arith); in-first = omega arith; in-second = omega arith } in
+      before-skip i r ∙ before-next a b i (omega arith) (omega arith) (omega arith) (omega arith) ∙ ap (λ (n : ℕ). before (drop n a) (drop n b)) (add-one i)
+
+  pub same-skip : (i : ℕ) → Skipped a b i → eqs a b ≡ eqs (drop i a) (drop i b)
+  same-skip zero s = refl
+  same-skip (suc i) s =
+      let p = s .in-first in
+      let q = s .in-second in
+      let r : Skipped a b i = record { agree = λ k t. s .agree k (omega arith); in-first = omega arith; in-second = omega arith } in
+      same-skip i r ∙ same-step a b i (omega arith) (omega arith) (s .agree i (omega arith)) ∙ ap (λ (n : ℕ). eqs (drop n a) (drop n b)) (add-one i)
+
+  -- texts of different lengths are not the same
+  pub same-length : (length a ≡ length b → ⊥) → false ≡ eqs a b
+  same-length h = lengths a b h
+
+-- texts of one length, from an index on
+module _ (a b : Str) (l : length a ≡ length b) (i : ℕ) where
+  pub even-step : i < length a → getD a i 0 ≡ getD b i 0 → eqs (drop i a) (drop i b) ≡ eqs (drop (i + 1) a) (drop (i + 1) b)
+  even-step p e = same-step a b i p (omega arith) e
+
+  pub even-differ : i < length a → (getD a i 0 ≡ getD b i 0 → ⊥) → eqs (drop i a) (drop i b) ≡ false
+  even-differ p e = same-differ a b i p (omega arith) e
+
+  pub even-end : length a ≤ i → eqs (drop i a) (drop i b) ≡ true
+  even-end p = same-end a b i p (omega arith)
+
+pub ruleset even-laws = (even-step, even-differ, even-end)
+
+-- the first four bytes ------------------------------------------------------------------------------------------------------
+
+pub front-is : (s : Str) (r a b c d : ℕ) → a ≡ getD s 0 0 → b ≡ getD s 1 0 → c ≡ getD s 2 0 → d ≡ getD s 3 0 → r ≡ 16777216 * a + 65536 * b + 256 * c + d → a < 256 → b < 256 → c < 256 → d < 256
+    → Fronted s r
+unfolding frontAt
+front-is s x a b c d p q r t z e f g h = record { number = z ∙ rw (p, q, r, t); first = rw (← p) e; second = rw (← q) f; third = rw (← r) g; fourth = rw (← t) h }
+
+past : (s : Str) (i : ℕ) → length s ≤ i → getD s i 0 ≡ 0
+past s i h = List·getD-eq-default s 0 {n = i} h
+
+-- a text of which something is left has the byte there
+has : (s : Str) (i : ℕ) → (length s ≤ i → ⊥) → i < length s
+has s i h = go (ltb i (length s)) refl
+  where
+    go : (t : Bool) → ltb i (length s) ≡ t → i < length s
+    go true e = ltb-true i (length s) e
+    go false e = absurd (h (ltb-false i (length s) e))
+
+module _ (a b : Str) where
+  lead-below : (i : ℕ) → i < length b → (getD b i 0 ≤ getD a i 0 → (getD a i 0 ≤ getD b i 0) × (before (drop (i + 1) a) (drop (i + 1) b) ≡ true))
+      → before (drop i a) (drop i b) ≡ true
+  lead-below i m h = go (ltb i (length a)) (ltb (getD a i 0) (getD b i 0)) refl refl
+    where
+      go : (u t : Bool) → ltb i (length a) ≡ u → ltb (getD a i 0) (getD b i 0) ≡ t → before (drop i a) (drop i b) ≡ true
+      go false t f e = before-shorter a b i (ltb-false i (length a) f) m
+      go true true f e = before-below a b i (ltb-true i (length a) f) m (ltb-true (getD a i 0) (getD b i 0) e)
+      go true false f e = let n = ltb-false (getD a i 0) (getD b i 0) e in before-next a b i (ltb-true i (length a) f) m n (h n .0) ∙ h n .1
+
+  lead-above : (i : ℕ) → i < length a → (getD a i 0 ≤ getD b i 0 → (getD b i 0 ≤ getD a i 0) × (before (drop (i + 1) a) (drop (i + 1) b) ≡ false))
+      → before (drop i a) (drop i b) ≡ false
+  lead-above i l h = go (ltb i (length b)) (ltb (getD b i 0) (getD a i 0)) refl refl
+    where
+      go : (u t : Bool) → ltb i (length b) ≡ u → ltb (getD b i 0) (getD a i 0) ≡ t → before (drop i a) (drop i b) ≡ false
+      go false t f e = before-longer a b i l (ltb-false i (length b) f)
+      go true true f e = before-above a b i l (ltb-true i (length b) f) (ltb-true (getD b i 0) (getD a i 0) e)
+      go true false f e = let n = ltb-false (getD b i 0) (getD a i 0) e in before-next a b i l (ltb-true i (length b) f) (h n .0) n ∙ h n .1
+
+  module _ (x y : ℕ) (f : Fronted a x) (g : Fronted b y) where
+    pub front-below : x < y → true ≡ before a b
+    unfolding frontAt
+    front-below h =
+        let u = f .number in
+        let v = g .number in
+        let a1 = f .second in
+        let a2 = f .third in
+        let a3 = f .fourth in
+        let b1 = g .second in
+        let b2 = g .third in
+        let b3 = g .fourth in
+        sym
+        (lead-below 0 (has b 0 (λ q. let p0 = past b 0 q in let p1 = past b 1 (omega arith) in let p2 = past b 2 (omega arith) in let p3 = past b 3 (omega arith) in omega arith))
+        (λ h0. (
+          omega arith,
+          lead-below 1 (has b 1 (λ q. let p1 = past b 1 q in let p2 = past b 2 (omega arith) in let p3 = past b 3 (omega arith) in omega arith))
+              (λ h1. (
+                omega arith,
+                lead-below 2 (has b 2 (λ q. let p2 = past b 2 q in let p3 = past b 3 (omega arith) in omega arith))
+                    (λ h2. (omega arith, lead-below 3 (has b 3 (λ q. let p3 = past b 3 q in omega arith)) (λ h3. absurd (omega arith)))),
+              )),
+        )))
+
+    pub front-above : y < x → false ≡ before a b
+    unfolding frontAt
+    front-above h =
+        let u = f .number in
+        let v = g .number in
+        let a1 = f .second in
+        let a2 = f .third in
+        let a3 = f .fourth in
+        let b1 = g .second in
+        let b2 = g .third in
+        let b3 = g .fourth in
+        sym
+        (lead-above 0 (has a 0 (λ q. let p0 = past a 0 q in let p1 = past a 1 (omega arith) in let p2 = past a 2 (omega arith) in let p3 = past a 3 (omega arith) in omega arith))
+        (λ h0. (
+          omega arith,
+          lead-above 1 (has a 1 (λ q. let p1 = past a 1 q in let p2 = past a 2 (omega arith) in let p3 = past a 3 (omega arith) in omega arith))
+              (λ h1. (
+                omega arith,
+                lead-above 2 (has a 2 (λ q. let p2 = past a 2 q in let p3 = past a 3 (omega arith) in omega arith))
+                    (λ h2. (omega arith, lead-above 3 (has a 3 (λ q. let p3 = past a 3 q in omega arith)) (λ h3. absurd (omega arith)))),
+              )),
+        )))
+
+pub ruleset front-laws = (front-below, front-above)
