@@ -1,5 +1,6 @@
-/* The calls of the release check. A slice is a pointer and a length; a length of 0 may come with any pointer that is not null.
-   No call changes a byte of a record; text is written at the front of the lent buffer and nothing after it. */
+/* The calls of the release check. A slice is a pointer and a length: the pointer is good for that many bytes, and a length of 0 may come with any
+   pointer that is not null. The buffer shares no byte with a record. No call changes a byte of a record; text is written at the front of the lent
+   buffer and nothing after it. */
 #ifndef MENQACHU_H
 #define MENQACHU_H
 
