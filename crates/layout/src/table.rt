@@ -50,6 +50,15 @@ fn arrange_lent(
     arrange_by(stream, pool, fronts, handles, scratch)
 }
 
+// The same without fronts: a table of one entry has hardly one.
+pub(crate) fn arrange(stream: &[u8], pool: &[u8], handles: &mut [u32], scratch: &mut [u32]) -> usize
+    requires { ⌜ (length (now scratch) ≡ length (now handles)) × (length (now handles) ≤ 65536) ⌝ }
+    ensures { λ r. ⌜ (take r (now (handles .exit)) ≡ lasts (typeName (now (stream .entry)) (now (pool .entry))) (arranged (typeName (now (stream .entry)) (now (pool .entry))) (now (handles .entry)))) × (r ≤ length (now (handles .entry))) ⌝ }
+{
+    let mut fronts = [0u64; 1];
+    arrange_lent(stream, pool, &mut fronts, handles, scratch)
+}
+
 // The same, with a table that stands in this call.
 fn arrange_many(stream: &[u8], pool: &[u8], handles: &mut [u32], scratch: &mut [u32]) -> usize
     requires { ⌜ (length (now scratch) ≡ length (now handles)) × (length (now handles) ≤ 65536) ⌝ }
@@ -59,16 +68,15 @@ fn arrange_many(stream: &[u8], pool: &[u8], handles: &mut [u32], scratch: &mut [
     arrange_lent(stream, pool, &mut fronts, handles, scratch)
 }
 
-// The same; for a few names a table costs more than it saves.
-pub(crate) fn arrange(stream: &[u8], pool: &[u8], handles: &mut [u32], scratch: &mut [u32]) -> usize
-    requires { ⌜ (length (now scratch) ≡ length (now handles)) × (length (now handles) ≤ 65536) ⌝ }
-    ensures { λ r. ⌜ (take r (now (handles .exit)) ≡ lasts (typeName (now (stream .entry)) (now (pool .entry))) (arranged (typeName (now (stream .entry)) (now (pool .entry))) (now (handles .entry)))) × (r ≤ length (now (handles .entry))) ⌝ }
+// The same for types, of which there may be thousands; for a few a table costs more than it saves.
+fn arrange_types(stream: &[u8], pool: &[u8], types: &mut [u32], scratch: &mut [u32]) -> usize
+    requires { ⌜ (length (now scratch) ≡ length (now types)) × (length (now types) ≤ 65536) ⌝ }
+    ensures { λ r. ⌜ (take r (now (types .exit)) ≡ lasts (typeName (now (stream .entry)) (now (pool .entry))) (arranged (typeName (now (stream .entry)) (now (pool .entry))) (now (types .entry)))) × (r ≤ length (now (types .entry))) ⌝ }
 {
-    if 64 <= handles.len() {
-        return arrange_many(stream, pool, handles, scratch);
+    if 64 <= types.len() {
+        return arrange_many(stream, pool, types, scratch);
     }
-    let mut fronts = [0u64; 1];
-    arrange_lent(stream, pool, &mut fronts, handles, scratch)
+    arrange(stream, pool, types, scratch)
 }
 
 // The table of a record's types at the front of `types`; and how many they are.
@@ -82,7 +90,7 @@ pub(crate) fn type_table(
     ensures { λ r. ⌜ TypesTable (now (stream .entry)) (now (pool .entry)) (take r (now (types .exit))) × (r ≤ 8192) ⌝ }
 {
     let n = fill_handles(stream, types);
-    arrange(stream, pool, &mut types[..n], &mut scratch[..n])
+    arrange_types(stream, pool, &mut types[..n], &mut scratch[..n])
 }
 
 // A type of the table, by its index.

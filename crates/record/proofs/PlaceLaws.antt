@@ -16,7 +16,7 @@ use Rattle.record.specs.Lists.{aVariant, optOf, fieldOf, variantOf, list
 use Rattle.record.specs.Steps.{keysAt, fieldKeyAt, fieldsAt, structsAt, variantsAt, familiesAt, structIn, structFound, familyIn, familyFound}
 use Rattle.record.specs.Seek.{SoughtFrom}
 use Rattle.record.specs.Owner.{Types, referenced, hasSlot, variantFields, fieldsIn, typeFields}
-use Rattle.record.specs.References.{typesAt, Refers}
+use Rattle.record.specs.References.{typesAt, Refers, structPlaced, familyPlaced, PlaceNamed}
 use Rattle.record.specs.Marks.{between, bodyAt, bodyLeft, PlacesFrom, referenceAt, entered, targetAt}
 use Rattle.record.specs.declared.text.Text.{Text}
 use Rattle.record.specs.declared.operands.OptText.{OptText}
@@ -34,7 +34,6 @@ use Rattle.record.specs.declared.marks.PlaceStep.{PlaceStep}
 use Rattle.record.specs.declared.marks.PlaceStep.the-variants.{NoPlace, APlace}
 use Rattle.record.proofs.CommandLaws.{step-end}
 use Rattle.record.proofs.Stream.{commands-stop}
-use Rattle.record.proofs.ReferenceLaws.{struct-at-front}
 use Rattle.record.proofs.SeekLaws.{sought-stands, sought-nearer, listed-none, listed-some}
 
 -- where the fields begin -------------------------------------------------------------------------------------------------
@@ -67,25 +66,19 @@ module _ (s p : Str) where
       go false false true a c h = h
       go false false false a c h = refl
 
-module _ (s p n : Str) (o : Cursor) (front : o ≡ start) (r : StructStep) (found : structIn n (structsAt s p (o .at)) ≡ structFound s p r) where
-  struct-at : structIn n (structsAt s p 0) ≡ structFound s p r
-  struct-at = struct-at-front s p n o r front found
-
-  pub body-struct : (e : D.Struct.Struct) (k : Cursor) → r ≡ AStruct e k → typeFields (typesAt s p) n ≡ bodyAt false s p (k .at)
+module _ (s p n : Str) (r : Sought) (found : PlaceNamed s p n 8 r) where
+  pub body-struct : (a k : ℕ) (c : Cursor) → r ≡ At a k → c ≡ place k → typeFields (typesAt s p) n ≡ bodyAt false s p (c .at)
   unfolding typeFields fieldsIn bodyAt fieldsAt fields
-  body-struct e k m = rw (struct-at, m)
+  body-struct a k c m h = rw (h, found .struct refl, m)
 
-  module _ (i : Cursor) (front' : i ≡ start) (q : FamilyStep) (found' : familyIn n (familiesAt s p (i .at)) ≡ familyFound s p q) (m : r ≡ NoStruct) where
-    family-at : familyIn n (familiesAt s p 0) ≡ familyFound s p q
-    family-at = ap (λ (k : Cursor). familyIn n (familiesAt s p (k .at))) (sym front') ∙ found'
-
-    pub body-family : (e : D.Family.Family) (k : Cursor) → q ≡ AFamily e k → typeFields (typesAt s p) n ≡ bodyAt true s p (k .at)
+  module _ (q : Sought) (found' : PlaceNamed s p n 9 q) (m : r ≡ Nowhere) where
+    pub body-family : (a k : ℕ) (c : Cursor) → q ≡ At a k → c ≡ place k → typeFields (typesAt s p) n ≡ bodyAt true s p (c .at)
     unfolding typeFields fieldsIn bodyAt fieldsAt variantsAt one
-    body-family e k g = rw (struct-at, m, family-at, g) (family-fields s p (commandsAt s (k .at)))
+    body-family a k c g h = rw (h, found .struct refl, m, found' .family refl, g) (family-fields s p (commandsAt s k))
 
-    pub body-none : (c : Cursor) → c ≡ place (length s) → q ≡ NoFamily → typeFields (typesAt s p) n ≡ bodyAt false s p (c .at)
+    pub body-none : (c : Cursor) → c ≡ place (length s) → q ≡ Nowhere → typeFields (typesAt s p) n ≡ bodyAt false s p (c .at)
     unfolding typeFields fieldsIn bodyAt listed
-    body-none c h g = rw (h, struct-at, m, family-at, g, commands-stop s (length s) (sym (step-end s (length s) (omega arith))))
+    body-none c h g = rw (h, found .struct refl, m, found' .family refl, g, commands-stop s (length s) (sym (step-end s (length s) (omega arith))))
 
 pub ruleset body-laws = (body-struct, body-family, body-none)
 

@@ -14,7 +14,8 @@ use mir.Syntax.{w8}
 use Rattle.record.specs.Base.{Str, eqs, before}
 use Rattle.record.specs.Le.{u16At, u32At, u64At}
 use Rattle.record.specs.Words.{frontAt, Fronted, Skipped}
-use Rattle.record.proofs.TextLaws.{same-step, same-differ, same-end}
+use Rattle.record.proofs.TextLaws.{same-step}
+use Rattle.record.proofs.Basics.{eqs→eq}
 
 -- every element is a byte
 abbrev Bytes : Str → Type 0
@@ -159,18 +160,16 @@ module _ (a b : Str) where
   pub same-length : (length a ≡ length b → ⊥) → false ≡ eqs a b
   same-length h = lengths a b h
 
--- texts of one length, from an index on
-module _ (a b : Str) (l : length a ≡ length b) (i : ℕ) where
-  pub even-step : i < length a → getD a i 0 ≡ getD b i 0 → eqs (drop i a) (drop i b) ≡ eqs (drop (i + 1) a) (drop (i + 1) b)
-  even-step p e = same-step a b i p (omega arith) e
+-- texts with different words are not the same
+pub word-differs : (a b : Str) (i x y : ℕ) → x ≡ u64At a i → y ≡ u64At b i → (x ≡ y → ⊥) → false ≡ eqs a b
+word-differs a b i x y p q h = go (eqs a b) refl
+  where
+    go : (t : Bool) → eqs a b ≡ t → false ≡ t
+    go true e = absurd (h (p ∙ ap (λ (s : Str). u64At s i) (eqs→eq a b e) ∙ sym q))
+    go false e = refl
 
-  pub even-differ : i < length a → (getD a i 0 ≡ getD b i 0 → ⊥) → eqs (drop i a) (drop i b) ≡ false
-  even-differ p e = same-differ a b i p (omega arith) e
-
-  pub even-end : length a ≤ i → eqs (drop i a) (drop i b) ≡ true
-  even-end p = same-end a b i p (omega arith)
-
-pub ruleset even-laws = (even-step, even-differ, even-end)
+pub same-rest : (a b : Str) (i : ℕ) (r : Bool) → Skipped a b i → r ≡ eqs (drop i a) (drop i b) → r ≡ eqs a b
+same-rest a b i r s e = e ∙ sym (same-skip a b i s)
 
 -- the first four bytes ------------------------------------------------------------------------------------------------------
 

@@ -3,11 +3,9 @@
 use crate::command::Cursor;
 use crate::command::field_at;
 use crate::cut;
-use crate::lists::FamilyStep;
 use crate::lists::StructStep;
-use crate::lists::find_family;
-use crate::lists::find_struct;
 use crate::operands::OptText;
+use crate::references::find_place;
 use crate::references::has_slot;
 use crate::references::referenced_type;
 use crate::references::struct_in_slot;
@@ -35,15 +33,15 @@ struct Body {
 fn type_fields(stream: &[u8], pool: &[u8], name: &[u8]) -> Body
     ensures { λ r. ⌜ typeFields (typesAt (now (stream .entry)) (now (pool .entry))) (now (name .entry)) ≡ bodyAt (r .family) (now (stream .entry)) (now (pool .entry)) (r .from .at) ⌝ }
 {
-    if let StructStep::AStruct(_, after) = find_struct(stream, pool, Cursor::new(), name) {
+    if let Sought::At(_, after) = find_place(stream, pool, 8, name) {
         return Body {
-            from: after,
+            from: Cursor::place(after),
             family: false,
         };
     }
-    if let FamilyStep::AFamily(_, after) = find_family(stream, pool, Cursor::new(), name) {
+    if let Sought::At(_, after) = find_place(stream, pool, 9, name) {
         return Body {
-            from: after,
+            from: Cursor::place(after),
             family: true,
         };
     }

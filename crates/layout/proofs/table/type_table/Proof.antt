@@ -6,20 +6,20 @@ use Rattle.layout.proofs.table.type_table.Tie as tie
 fill-handles-requires : tie.Need-fill-handles-requires
 fill-handles-requires c κs = search needs
 
-slice-relend-prefix-arrange : tie.Need-slice-relend-prefix-arrange
-slice-relend-prefix-arrange c = search needs
+slice-relend-prefix-arrange-types : tie.Need-slice-relend-prefix-arrange-types
+slice-relend-prefix-arrange-types c = search needs
 
-slice-aggregate-arrange : tie.Need-slice-aggregate-arrange
-slice-aggregate-arrange c = cut-long _ _ (search needs)
+slice-aggregate-arrange-types : tie.Need-slice-aggregate-arrange-types
+slice-aggregate-arrange-types c = cut-long _ _ (search needs)
 
-slice-relend-prefix-arrange-2 : tie.Need-slice-relend-prefix-arrange-2
-slice-relend-prefix-arrange-2 c = search needs
+slice-relend-prefix-arrange-types-2 : tie.Need-slice-relend-prefix-arrange-types-2
+slice-relend-prefix-arrange-types-2 c = search needs
 
-slice-aggregate-arrange-2 : tie.Need-slice-aggregate-arrange-2
-slice-aggregate-arrange-2 c = cut-long _ _ (search needs)
+slice-aggregate-arrange-types-2 : tie.Need-slice-aggregate-arrange-types-2
+slice-aggregate-arrange-types-2 c = cut-long _ _ (search needs)
 
-arrange-requires : tie.Need-arrange-requires
-arrange-requires c κs = (
+arrange-types-requires : tie.Need-arrange-types-requires
+arrange-types-requires c κs = (
   cuts-agree (c .before .before .before .before .before .before .before .before .before .before .args .scratch .now) (c .before .before .before .before .fill-handles .last .1 .0) (c .before .before .before .before .fill-handles .result) (search needs) (search needs),
   cut-small (c .before .before .before .before .fill-handles .last .1 .0) (c .before .before .before .before .fill-handles .result) (search needs) (search needs),
 )
@@ -32,8 +32,8 @@ same-length-2 c = search needs
 
 returns : tie.Need-returns
 returns c = (
-  table-is _ _ (search needs) _ _ (c .before .before .before .before .arrange .last .1 .1 .0) _ (c .before .before .before .before .arrange .result) (c .before .before .before .before .before .before .before .before .before .fill-handles .ensures .0) (c .before .before .before .before .before .before .before .before .before .fill-handles .ensures .1) (c .before .before .before .before .arrange .ensures .0) (search needs),
-  cut-few (c .before .before .before .before .before .before .before .before .before .fill-handles .last .1 .0) (c .before .before .before .before .before .before .before .before .before .fill-handles .result) _ (c .before .before .before .before .arrange .ensures .1) (search needs),
+  table-is _ _ (search needs) _ _ (c .before .before .before .before .arrange-types .last .1 .1 .0) _ (c .before .before .before .before .arrange-types .result) (c .before .before .before .before .before .before .before .before .before .fill-handles .ensures .0) (c .before .before .before .before .before .before .before .before .before .fill-handles .ensures .1) (c .before .before .before .before .arrange-types .ensures .0) (search needs),
+  cut-few (c .before .before .before .before .before .before .before .before .before .fill-handles .last .1 .0) (c .before .before .before .before .before .before .before .before .before .fill-handles .result) _ (c .before .before .before .before .arrange-types .ensures .1) (search needs),
 )
 
 pub type-table-spec : {M : Type 1} → statement M
@@ -41,11 +41,11 @@ type-table-spec =
     tie.close
     (tie.spec
     fill-handles-requires
-    slice-relend-prefix-arrange
-    slice-aggregate-arrange
-    slice-relend-prefix-arrange-2
-    slice-aggregate-arrange-2
-    arrange-requires
+    slice-relend-prefix-arrange-types
+    slice-aggregate-arrange-types
+    slice-relend-prefix-arrange-types-2
+    slice-aggregate-arrange-types-2
+    arrange-types-requires
     same-length
     same-length-2
     returns)

@@ -1,61 +1,67 @@
-use Prim.Native.Nat.{_-_}
-use mathlib.Core.Path.{_≡_}
-use lib.ListN.{length, drop}
-use Rattle.record.specs.Base.{eqs}
-use Rattle.record.proofs.TextLaws.{kept, ended}
-use Rattle.record.proofs.WordLaws.{same-length, same-skip, even-laws}
+use Prim.Native.Nat.{_-_, _≤_}
+use Rattle.record.specs.Words.{Skipped}
+use Rattle.record.proofs.WordLaws.{skip-none, skip-more, same-length, word-differs, same-rest}
 use borrow.Author.Needs.{needs}
 use Rattle.record.proofs.text.same.Statement.{statement}
 use Rattle.record.proofs.text.same.Tie as tie
 use Rattle.record.proofs.text.same.Reads as reads
 use Rattle.record.proofs.text.same.Lts as lts
-use Rattle.record.proofs.words.skip.Reads as skip-reads
+use Rattle.record.proofs.le.word.Reads as word-reads
+use Rattle.record.proofs.text.same_from.Reads as same-from-reads
 
 abbrev Inv-loop : tie.InvT-loop
-Inv-loop a b i₀ i = eqs a b ≡ eqs (drop i a) (drop i b)
+Inv-loop a b n i₀ i = Skipped a b i × (i ≤ n)
 
 abbrev μ-loop : tie.MeasureT-loop
-μ-loop a b i₀ i = length a - i
+μ-loop a b n i₀ i = n - i
 
--- src/words.rt:57:9
+-- src/text.rt:37:9
 returns : tie.Need-returns Inv-loop μ-loop
 returns c = search same-length
 
--- src/words.rt:59:9
-skip-requires : tie.Need-skip-requires Inv-loop μ-loop
-skip-requires c κs = search needs
-
--- src/words.rt:60:5
+-- src/text.rt:40:5
 loop-holds : tie.Need-loop-holds Inv-loop μ-loop
-loop-holds c = search same-skip
+loop-holds c = (skip-none _ _, search needs)
 
--- src/words.rt:61:12
-shared-slice-read-if2 : tie.Need-shared-slice-read-if2 Inv-loop μ-loop
-shared-slice-read-if2 c = search needs
+-- src/text.rt:40:16
+sub-loop : tie.Need-sub-loop Inv-loop μ-loop
+sub-loop c = search needs
 
--- src/words.rt:61:20
-shared-slice-read-if2-2 : tie.Need-shared-slice-read-if2-2 Inv-loop μ-loop
-shared-slice-read-if2-2 c = search needs
+-- src/text.rt:41:12
+word-requires : tie.Need-word-requires Inv-loop μ-loop
+word-requires c κs = search needs
 
--- src/words.rt:62:13
+-- src/text.rt:41:26
+word-requires-2 : tie.Need-word-requires-2 Inv-loop μ-loop
+word-requires-2 c κs = search needs
+
+-- src/text.rt:42:13
 returns-2 : tie.Need-returns-2 Inv-loop μ-loop
-returns-2 c = search (ended, even-laws)
+returns-2 c = search word-differs
 
--- src/words.rt:64:9
+-- src/text.rt:44:9
 add-i : tie.Need-add-i Inv-loop μ-loop
 add-i c = search needs
 
--- src/words.rt:60:5
+-- src/text.rt:40:5
 loop-less : tie.Need-loop-less Inv-loop μ-loop
 loop-less c = search needs
 
--- src/words.rt:60:5
+-- src/text.rt:40:5
 loop-again : tie.Need-loop-again Inv-loop μ-loop
-loop-again c = search (kept, even-laws)
+loop-again c = (
+  skip-more _ _ (c .before .before .before .before .before .before .before .shared-slice-known .given) (c .before .before .before .before .before .before .shared-slice-known2 .given) _ _ _ _ (c .before .before .before .before .loop .inv .0) (c .before .before .word .ensures) (c .before .word2 .ensures) (c .if2 .left)
+      (search needs) (search needs) (c .before .before .before .before .loop .inv .1) (search needs),
+  search needs,
+)
 
--- src/words.rt:53:1
+-- src/text.rt:46:5
+same-from-requires : tie.Need-same-from-requires Inv-loop μ-loop
+same-from-requires c κs = search needs
+
+-- src/text.rt:32:1
 returns-3 : tie.Need-returns-3 Inv-loop μ-loop
-returns-3 c = search (ended, even-laws)
+returns-3 c = search same-rest
 
 pub same-spec : {M : Type 1} → statement M
 same-spec =
@@ -64,12 +70,13 @@ same-spec =
     Inv-loop
     μ-loop
     returns
-    skip-requires
     loop-holds
-    shared-slice-read-if2
-    shared-slice-read-if2-2
+    sub-loop
+    word-requires
+    word-requires-2
     returns-2
     add-i
     loop-less
     loop-again
+    same-from-requires
     returns-3)
