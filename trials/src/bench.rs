@@ -140,3 +140,26 @@ pub fn run() {
     println!("{}", check(&inputs::deepest(), 41));
     println!("{}", owner(&inputs::deepest()));
 }
+
+/// One call on one input so many times and nothing else, for a tool that counts what the code does; none where the words name
+/// no call or no input.
+pub fn repeat(call: &str, name: &str, turns: u64) -> Option<bool> {
+    let full = 32 * 1_024;
+    let hard =
+        [inputs::fronted_variants, inputs::enums_last, inputs::owned_chain, inputs::owned_fan].map(|input| input(full));
+    let mut all = inputs::named().into_iter().chain(hard).chain([inputs::deepest()]);
+    let input = all.find(|input| input.name == name)?;
+    let pair = input.records();
+    let (now, was) = (record(&pair.current), record(&pair.released));
+    let mut out = room();
+    for _ in 0..turns {
+        let number = match call {
+            "check" => menqachu::check(now, was, &mut out).number,
+            "list" => menqachu::list(now, menqachu::Side::Current, &mut out).number,
+            "owner" => u32::from(matches!(menqachu::owner(now, input.asked.as_bytes()), menqachu::Owner::Named { .. })),
+            _ => return None,
+        };
+        std::hint::black_box(number);
+    }
+    Some(true)
+}

@@ -8,6 +8,7 @@
 //!     trials stack                       the smallest thread that suffices for the largest records
 //!     trials fuzz SECONDS SEED [FOLDER]  a search for pairs that differ; they are written to the folder
 //!     trials bench                       the time of each call beside the Rust's
+//!     trials repeat CALL INPUT TURNS     one call on one of the measured inputs, for a tool that counts instructions
 
 mod bench;
 mod chains;
@@ -28,7 +29,7 @@ use std::path::Path;
 use std::process::ExitCode;
 
 const USAGE: &str = "usage: trials checks SEED COUNT [LEAST] | trials lists|owners|chains|memcheck SEED COUNT
-       trials fuzz SECONDS SEED [FOLDER] | trials stack | trials bench";
+       trials fuzz SECONDS SEED [FOLDER] | trials stack | trials bench | trials repeat check|list|owner INPUT TURNS";
 
 fn main() -> ExitCode {
     let words: Vec<String> = std::env::args().skip(1).collect();
@@ -51,6 +52,7 @@ fn run(words: &[&str]) -> Option<bool> {
             bench::run();
             Some(true)
         }
+        ("repeat", 4) => bench::repeat(words[1], words[2], number(3)?),
         ("checks", 3 | 4) => {
             let least = if words.len() == 4 { number(3)? } else { 0 };
             let pairs = differ::checks(number(1)?, number(2)?);
