@@ -145,8 +145,8 @@ pub fn run() {
 /// no call or no input.
 pub fn repeat(call: &str, name: &str, turns: u64) -> Option<bool> {
     let full = 32 * 1_024;
-    let hard =
-        [inputs::fronted_variants, inputs::enums_last, inputs::owned_chain, inputs::owned_fan].map(|input| input(full));
+    let hard = [inputs::fronted_variants, inputs::enums_last, inputs::owned_chain, inputs::owned_fan]
+        .map(|input| input(full));
     let mut all = inputs::named().into_iter().chain(hard).chain([inputs::deepest()]);
     let input = all.find(|input| input.name == name)?;
     let pair = input.records();
@@ -156,7 +156,10 @@ pub fn repeat(call: &str, name: &str, turns: u64) -> Option<bool> {
         let number = match call {
             "check" => menqachu::check(now, was, &mut out).number,
             "list" => menqachu::list(now, menqachu::Side::Current, &mut out).number,
-            "owner" => u32::from(matches!(menqachu::owner(now, input.asked.as_bytes()), menqachu::Owner::Named { .. })),
+            "owner" => u32::from(matches!(
+                menqachu::owner(now, input.asked.as_bytes()),
+                menqachu::Owner::Named { .. }
+            )),
             _ => return None,
         };
         std::hint::black_box(number);
