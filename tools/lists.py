@@ -220,7 +220,8 @@ module _ (s : Str) (at : ℕ) (r : Sought) (i : SoughtFrom s %(between)s %(b)d a
 
 pub ruleset %(n)s-laws = (%(n)s-none, %(n)s-found)
 ''' % d
-    for d in LISTS:
+    # of heads only the first is looked at, so that no law goes on along them
+    for d in LISTS[1:]:
         o += '''
 module _ (s : Str) (at : ℕ) (r : %(step)s) (f : %(C)sFrom s at r) where
   -- the list itself, at the step
@@ -229,7 +230,10 @@ module _ (s : Str) (at : ℕ) (r : %(step)s) (f : %(C)sFrom s at r) where
 
   pub %(n)s-now : (p : Str) (e : D.%(struct)s.%(struct)s) (k : Cursor) → r ≡ %(some)s e k → %(n)sAt s p at ≡ %(of)s p e%(kid)s ∷ %(n)sAt s p (k .at)
   %(n)s-now p e k m = f .list p ∙ ap (%(n)sOf s p) m
-
+''' % d
+        # plugin keys and unstored keys are gone along by the walk over all keys, which has its own measure
+        if d['n'] not in ('keys', 'unstored'):
+            o += '''
   pub %(n)s-nearer : (e : D.%(struct)s.%(struct)s) (k : Cursor) → r ≡ %(some)s e k → length s - k .at < length s - at
   %(n)s-nearer e k m = let h : suc (length s - k .at) ≤ length s - at = subst (λ x. %(n)sLeft s x ≤ length s - at) m (f .left) in omega arith
 ''' % d

@@ -14,7 +14,7 @@ use Rattle.record.specs.Stretch.{textOf}
 use Rattle.record.specs.Fill.{fronted}
 use Rattle.record.specs.Write.{Puts}
 use Rattle.record.specs.Commands.{constantAt, start}
-use Rattle.record.specs.Lists.{optOf, wordsOf, constantOf}
+use Rattle.record.specs.Lists.{optOf, constantOf}
 use Rattle.record.specs.Steps.{structsAt, structFound, constantsAt, constantFound, ConstantsFrom}
 use Rattle.record.specs.Owner.{withName}
 use Rattle.record.specs.Versioned.{InSlots}
@@ -84,12 +84,8 @@ module _ (p : Str) (v : ConstantValue) where
   -- the words of a constant
   module _ (o : OptText) (t : Text) (z : Str) (m : v ≡ Words o) (r : RequiredText o t) (y : z ≡ textOf p t) where
     words-text : valueText (valueMeant p v) ≡ z
-    unfolding valueText required orElse
-    words-text = rw m (go o (r .this p)) ∙ sym y
-      where
-        go : (a : OptText) → textOf p t ≡ required (optOf p a) → wordsOf p a ≡ textOf p t
-        go Absent e = sym e
-        go (Given u) e = sym e
+    unfolding valueText required
+    words-text = rw m (sym (r .this p)) ∙ sym y
 
     pub words-same : (x : Str) (b : Bool) → b ≡ eqs x z → b ≡ eqs x (valueText (valueMeant p v))
     words-same x b h = h ∙ ap (eqs x) (sym words-text)

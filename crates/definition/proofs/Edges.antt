@@ -6,7 +6,7 @@ use mathlib.Core.Bool.{Bool, true, false, _&&_, cond}
 use Prim.Native.Nat.{ℕ}
 use Prim.Native.String.{String}
 use lib.Dec.{eqb}
-use Rattle.record.specs.Base.{Str, bytes, eqs, isText, isSome, before, decimal, signed, orElse, orOption, mapOption, find, lastOr, findLast, any, filterB}
+use Rattle.record.specs.Base.{Str, bytes, eqs, isText, isSome, before, decimal, signed, orElse, orOption, mapOption, find, lastOr, findLast, any, filterB, withSome}
 use Rattle.record.specs.Scalars.{scalarIn, primSize, builtIn}
 use Rattle.record.specs.Schema.{Schema, integer, Field, Version}
 use Rattle.record.specs.Steps.{constantIn, aliasIn, enumIn, valueIn, bitfieldIn, memberIn, structIn, familyIn}
@@ -123,7 +123,7 @@ unfolding shape unread sch base more entry isText isSome before signed lastOr fi
     Verdicts.wordNumber Verdicts.verdictNumber Verdicts.notLater Verdicts.beforeNaming Verdicts.unraised Verdicts.unlisted Verdicts.leapt Verdicts.fell
     _then_ ensure required each onFound empty
     ReleaseOrder.checkEarlier ReleaseOrder.checkCopy ReleaseOrder.checkReleaseOrder
-    FirstReleases.checkConstantArrival FirstReleases.checkConstantArrivals FirstReleases.checkEnumArrival FirstReleases.checkEnumArrivals Keys.withKey Keys.fieldKeys Keys.pluginKeys FirstReleases.checkKeyArrivals FirstReleases.checkFirstReleases
+    FirstReleases.checkConstantArrival FirstReleases.checkConstantArrivals FirstReleases.checkEnumArrival FirstReleases.checkEnumArrivals withSome Keys.fieldKeys Keys.pluginKeys FirstReleases.checkKeyArrivals FirstReleases.checkFirstReleases
     Versioned.slotOrder Versioned.versioned Generation.asGeneration Generation.ofConstant Generation.ofVersion Generation.ofStruct Generation.generationOf
     Constants.valueText Constants.lastConstant Constants.holdsIn Constants.heldByAny Constants.isGeneration Constants.checkConstant Constants.checkConstantsIn Constants.checkConstants
     Enums.numberIn Enums.checkValue Enums.checkValues Enums.checkEnum Enums.checkEnums Bitfields.widthOf Bitfields.checkMember Bitfields.checkMembers Bitfields.checkBitfield Bitfields.checkBitfields

@@ -5,7 +5,7 @@ use mathlib.Core.Bool.{Bool, true, false, cond}
 use Prim.Native.Nat.{ℕ, _-_, _^_}
 use Prim.Native.String.{String}
 use lib.Dec.{eqb}
-use Rattle.record.specs.Base.{Str, bytes}
+use Rattle.record.specs.Base.{Str, bytes, withSome}
 use Rattle.record.specs.Schema.{Schema}
 use Rattle.record.specs.Kind.{kindWords}
 use Rattle.record.specs.Shapes.{Place}
@@ -13,7 +13,7 @@ use Rattle.record.specs.Reading.{Rec, read, reading, schemaOf}
 use Rattle.record.specs.declared.refusal.Side.the-variants.{Released}
 use Rattle.layout.specs.Layout.{types}
 use Rattle.definition.specs.Answer.{check}
-use Rattle.definition.specs.Chain.{HasValue, HasMember, HasField, Holds, Laid, Kinds, slotsOf, withSlot, Names, Governed}
+use Rattle.definition.specs.Chain.{HasValue, HasMember, HasField, Holds, Laid, Kinds, slotsOf, Names, Governed}
 use Rattle.definition.specs.Offers.{Offer, chain, lastOf, lastAccepted, Sound, All, KeptIn, SameIn}
 use Rattle.definition.proofs.Described.{allB}
 use Rattle.definition.proofs.Bytes.{nothing-lost, nothing-moved}
@@ -89,7 +89,7 @@ unfolding kinded kindWords allB records first raised later schemaOf says
 kinds = all-sound Kinds kinded kinded-is records refl
 
 names : All (Sound Names) records
-unfolding named slotsOf withSlot allB records first raised later schemaOf says
+unfolding named slotsOf withSome allB records first raised later schemaOf says
 names = all-sound Names named named-is records refl
 
 under : All (Sound (Governed root constant type)) records

@@ -7,13 +7,13 @@ use Prim.Native.Nat.{ℕ}
 use native.Mathlib.Omega.{arith}
 use lib.Dec.{eqb}
 use borrow.Author.Tests.{eqb-true, ne-eqb}
-use Rattle.record.specs.Base.{Str, eqs}
+use Rattle.record.specs.Base.{Str, eqs, withSome}
 use Rattle.record.specs.Schema.{Struct}
 use Rattle.record.specs.Shapes.{Place}
 use Rattle.layout.specs.Layout.{variantName}
 use Rattle.definition.specs.Fields.{eqPlace, eqPlaces}
 use Rattle.definition.specs.Coverage.{owning}
-use Rattle.definition.specs.Chain.{NoDup, NoColon, slotsOf, withSlot}
+use Rattle.definition.specs.Chain.{NoDup, NoColon, slotsOf}
 use Rattle.record.proofs.Basics.{both, eqs→eq}
 
 pub beq→eq : (a b : Bool) → Bool·beq a b ≡ true → a ≡ b
@@ -54,22 +54,22 @@ key-only key (z ∷ zs) d (List·Memᴰ·tail m) (List·Memᴰ·head q) e = absu
 key-only key (z ∷ zs) d (List·Memᴰ·tail m) (List·Memᴰ·tail n) e = key-only key zs (d .1) m n e
 
 slot-mem : (l : List Struct) {x : Struct} {a : Str} → List·Memᴰ x l → x .slot ≡ some a → List·Memᴰ a (slotsOf l)
-unfolding slotsOf withSlot
+unfolding slotsOf withSome
 slot-mem [] m e = absurd (List·Memᴰ·not-nil m)
 slot-mem (z ∷ zs) (List·Memᴰ·head p) e = rw (sym (ap (λ (t : Struct). t .slot) p) ∙ e) (List·Memᴰ·head refl)
 slot-mem (z ∷ zs) {x} {a} (List·Memᴰ·tail m) e = go (z .slot) (slot-mem zs m e)
   where
-    go : (o : Option Str) → List·Memᴰ a (slotsOf zs) → List·Memᴰ a (withSlot o (slotsOf zs))
+    go : (o : Option Str) → List·Memᴰ a (slotsOf zs) → List·Memᴰ a (withSome o (slotsOf zs))
     go none r = r
     go (some b) r = List·Memᴰ·tail r
 
-no-dup-tail : (o : Option Str) (l : List Str) → NoDup (withSlot o l) → NoDup l
-unfolding withSlot
+no-dup-tail : (o : Option Str) (l : List Str) → NoDup (withSome o l) → NoDup l
+unfolding withSome
 no-dup-tail none l d = d
 no-dup-tail (some b) l d = d .1
 
-no-dup-head : (o : Option Str) (l : List Str) {a : Str} → o ≡ some a → NoDup (withSlot o l) → List·Memᴰ a l → ⊥
-unfolding withSlot
+no-dup-head : (o : Option Str) (l : List Str) {a : Str} → o ≡ some a → NoDup (withSome o l) → List·Memᴰ a l → ⊥
+unfolding withSome
 no-dup-head none l e d m = let z : _≡_ {A = ℕ} 0 1 = cc in omega arith
 no-dup-head (some b) l {a} e d m = let q : b ≡ a = cc in d .0 (Memᴰ·cast q m)
 

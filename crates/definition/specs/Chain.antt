@@ -4,7 +4,7 @@ use mathlib.Core.List.{List, [], _∷_, map, List·Memᴰ}
 use mathlib.Core.Option.{Option, none, some}
 use mathlib.Core.Bool.{false}
 use Prim.Native.Nat.{ℕ}
-use Rattle.record.specs.Base.{Str}
+use Rattle.record.specs.Base.{Str, withSome}
 use Rattle.record.specs.Schema.{Schema, integer, Const, Enum, EnumValue, BitField, Member, Field, Struct, Family, Variant}
 use Rattle.record.specs.Steps.{constantIn}
 use Rattle.record.specs.Kind.{kindWords}
@@ -80,13 +80,9 @@ abbrev pub NoDup : List Str → Type 0
 NoDup [] = Unit {0}
 NoDup (x ∷ xs) = (List·Memᴰ x xs → ⊥) × NoDup xs
 
-unfoldable pub withSlot : Option Str → List Str → List Str
-withSlot none l = l
-withSlot (some x) l = x ∷ l
-
 unfoldable pub slotsOf : List Struct → List Str
 slotsOf [] = []
-slotsOf (t ∷ ts) = withSlot (t .slot) (slotsOf ts)
+slotsOf (t ∷ ts) = withSome (t .slot) (slotsOf ts)
 
 abbrev pub NoColon : Str → Type 0
 NoColon n = List·Memᴰ 58 n → ⊥

@@ -12,6 +12,8 @@ use Rattle.record.specs.Base.{Str}
 use Rattle.record.specs.Scalars.{Scalar}
 use Rattle.record.specs.Schema.{Schema, Field, Family, Variant}
 use Rattle.record.specs.Commands.{structAt, familyAt, variantAt, stepAt, commandsAt}
+use Rattle.record.specs.Seek.{placesOf}
+use Rattle.record.specs.declared.seek.Between.the-variants.{Anything}
 use Rattle.record.specs.Lists.{listed, anything, aField, structOf, familyOf, variantOf, fields, structs, variants, families}
 use Rattle.record.specs.Steps.{fieldsAt}
 use Rattle.record.specs.Shapes.{places, prefix}
@@ -22,7 +24,7 @@ use Rattle.record.specs.declared.command.Step.the-variants.{Next}
 use Rattle.record.proofs.Stream.{step-found, along}
 use Rattle.record.proofs.ListLaws.{byteOf, byte-is, listed-stop, listed-here, listed-over, listed-same}
 use Rattle.layout.specs.Layout.{TypeLayout, variantName, layStruct, layFamily, layVariant, layFamilies, flattened}
-use Rattle.layout.specs.Handles.{nameAt, familyPart, placePart, typeName, structHandles, variantHandles, joinedHandles, familyHandles, handlesOf, handleFields, layoutOf}
+use Rattle.layout.specs.Handles.{nameAt, familyPart, placePart, typeName, variantHandles, joinedHandles, familyHandles, handlesOf, handleFields, layoutOf}
 use Rattle.layout.specs.Table.{Typed, plain, variant}
 use Rattle.layout.proofs.Along.{place-stands, listed-element}
 
@@ -104,8 +106,8 @@ module _ (s p : Str) (w : List Scalar) (small : length s ≤ 32768) where
         layout-is (65536 * (f + 1) + at) (variantName (m .name) (nameAt s p at)) own (variant-name f at inside ∙ ap (λ (x : Str). variantName x (nameAt s p at)) (sym n))
         (rw (variant-place at inside f) (own-fields s p at c k e (λ q. omega arith)))
 
-  laid-structs : (at : ℕ) → map (layoutOf R) (structHandles s (commandsAt s at)) ≡ map (layStruct S) (structs s p (commandsAt s at))
-  unfolding structHandles structs
+  laid-structs : (at : ℕ) → map (layoutOf R) (placesOf s Anything 8 at) ≡ map (layStruct S) (structs s p (commandsAt s at))
+  unfolding placesOf structs
   laid-structs = listed-same s anything 8 (λ a rest. a) (λ a rest. structOf p (structAt (drop a s)) (fields s p rest)) (layoutOf R) (layStruct S) laid-struct
 
   laid-variants : (f : ℕ) (m : Family) → m .name ≡ nameAt s p f → (at : ℕ) → map (layoutOf R) (variantHandles s f (commandsAt s at)) ≡ map (layVariant S m) (variants s p (commandsAt s at))
@@ -144,7 +146,7 @@ module _ (s p : Str) (w : List Scalar) (small : length s ≤ 32768) where
   pub handles-laid : map (layoutOf R) (handlesOf s) ≡ flattened S
   unfolding handlesOf flattened schemaOf schemaFrom
   handles-laid =
-      map-append (layoutOf R) (structHandles s (commandsAt s 0)) (familyHandles s (commandsAt s 0))
+      map-append (layoutOf R) (placesOf s Anything 8 0) (familyHandles s (commandsAt s 0))
       ∙ ap₂ (λ (l : List TypeLayout) (n : List TypeLayout). l ++ n) (laid-structs 0) (laid-families 0)
 
 -- where handles come from -------------------------------------------------------------------------------------------------
@@ -179,8 +181,8 @@ module _ (s : Str) (small : length s ≤ 32768) where
       variant f (variant-family at (below at m) f) n g (rw q m) (rw q b)
 
   pub handles-typed : (h : ℕ) → List·Memᴰ h (handlesOf s) → Typed s h
-  unfolding handlesOf structHandles familyHandles variantHandles
-  handles-typed h m = go (List·Memᴰ·append-cases (structHandles s (commandsAt s 0)) m)
+  unfolding handlesOf placesOf familyHandles variantHandles
+  handles-typed h m = go (List·Memᴰ·append-cases (placesOf s Anything 8 0) m)
     where
       of-family : (f after : ℕ) → List·Memᴰ f (commandsAt s 0) → getD s f 0 ≡ 9 → ((v : ℕ) → List·Memᴰ v (commandsAt s after) → List·Memᴰ v (commandsAt s 0))
           → List·Memᴰ h (f ∷ variantHandles s f (commandsAt s after)) → Typed s h
@@ -189,7 +191,7 @@ module _ (s : Str) (small : length s ≤ 32768) where
           let x = listed-element s aField 10 (λ a rest. 65536 * (f + 1) + a) h after l in
           subst (λ (y : ℕ). Typed s y) (sym (x .is)) (typed-variant f (x .where-from) n g (later (x .where-from) (x .in-stream)) (x .number))
 
-      go : List·Memᴰ h (structHandles s (commandsAt s 0)) ⊎ List·Memᴰ h (familyHandles s (commandsAt s 0)) → Typed s h
+      go : List·Memᴰ h (placesOf s Anything 8 0) ⊎ List·Memᴰ h (familyHandles s (commandsAt s 0)) → Typed s h
       go (inl n) =
           let x = listed-element s anything 8 (λ a rest. a) h 0 n in
           subst (λ (y : ℕ). Typed s y) (sym (x .is)) (typed-plain (x .where-from) (x .in-stream) (inl (x .number)))

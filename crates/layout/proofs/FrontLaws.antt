@@ -46,15 +46,6 @@ module _ (t : List ℕ) (at front : ℕ) where
 
 pub ruleset put-laws = (put-none, put-entry)
 
-module _ (t : List ℕ) (at : ℕ) where
-  pub read-unknown : FrontRead t at 4294967296
-  read-unknown = record { says = λ z. absurd (z refl); front = λ z. absurd (z refl) }
-
-  pub read-entry : (e : ℕ) → e ≡ getD t (at / 4) 0 → e % 131072 ≡ at + 1 → FrontRead t at (e / 131072)
-  read-entry e i q = record { says = λ z. ap (λ (y : ℕ). y % 131072) (sym i) ∙ q; front = λ z. ap (λ (y : ℕ). y / 131072) i }
-
-pub ruleset read-laws = (read-unknown, read-entry)
-
 -- the whole table ------------------------------------------------------------------------------------------------------------
 
 pub fronts-clear : (s p : Str) (t : List ℕ) → Clear t → Fronts s p t

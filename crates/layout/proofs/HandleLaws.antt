@@ -25,7 +25,7 @@ use Rattle.record.proofs.Stream.{step-found, along}
 use Rattle.record.proofs.ListLaws.{byteOf, listed-stop, listed-here, listed-over, listed-end}
 use Rattle.layout.proofs.Along.{four-wide, step-four}
 use Rattle.record.specs.Fill.{fronted}
-use Rattle.layout.specs.Handles.{structHandles, variantHandles, joinedHandles, familyHandles, handlesOf, familiesFrom}
+use Rattle.layout.specs.Handles.{variantHandles, joinedHandles, familyHandles, handlesOf, familiesFrom}
 
 -- a step along the stream -------------------------------------------------------------------------------------------------
 
@@ -311,7 +311,7 @@ module _ (s : Str) where
       omega arith)
 
   all-are : placesOf s Anything 8 0 ++ familiesFrom s 0 0 ≡ handlesOf s
-  unfolding placesOf familiesFrom handlesOf structHandles
+  unfolding placesOf familiesFrom handlesOf
   all-are = refl
 
   -- a record has at most 8,192 types

@@ -11,6 +11,8 @@ use Rattle.record.specs.Schema.{Field}
 use Rattle.record.specs.Commands.{widthOf, familyAt, commandsAt}
 use Rattle.record.specs.Lists.{listed, anything, aField, familyOf}
 use Rattle.record.specs.Steps.{fieldsAt}
+use Rattle.record.specs.Seek.{placesOf}
+use Rattle.record.specs.declared.seek.Between.the-variants.{Anything}
 use Rattle.record.specs.Shapes.{places, prefix}
 use Rattle.record.specs.Reading.{Rec, schemaOf}
 use Rattle.layout.specs.Layout.{TypeLayout, variantName}
@@ -32,9 +34,6 @@ typeName s p h =
     (variantName (nameAt s p (familyPart h - 1)) (nameAt s p (placePart h)))
 
 -- the handles of the commands at these places, in flattening order
-unfoldable pub structHandles : Str → List ℕ → List ℕ
-structHandles s ps = listed s anything 8 (λ at rest. at) ps
-
 unfoldable pub variantHandles : Str → ℕ → List ℕ → List ℕ
 variantHandles s family ps = listed s aField 10 (λ at rest. 65536 * (family + 1) + at) ps
 
@@ -47,7 +46,7 @@ unfoldable pub familyHandles : Str → List ℕ → List ℕ
 familyHandles s ps = joinedHandles (listed s anything 9 (λ at rest. at ∷ variantHandles s at rest) ps)
 
 unfoldable pub handlesOf : Str → List ℕ
-handlesOf s = structHandles s (commandsAt s 0) ++ familyHandles s (commandsAt s 0)
+handlesOf s = placesOf s Anything 8 0 ++ familyHandles s (commandsAt s 0)
 
 -- the fields of a type, those in front of a family with them
 unfoldable pub handleFields : Str → Str → ℕ → List Field

@@ -2,7 +2,7 @@
 use mathlib.Core.Path.{_≡_, refl, ap, _∙_}
 use mathlib.Core.List.{List}
 use Prim.Native.Nat.{ℕ}
-use Rattle.record.specs.Base.{Str, first}
+use Rattle.record.specs.Base.{Str, first, withSome}
 use Rattle.record.specs.Schema.{Key}
 use Rattle.record.specs.Commands.{start}
 use Rattle.record.specs.Steps.{keysAt, KeysFrom, fieldsAt, FieldsFrom, StructsFrom, UnstoredFrom}
@@ -21,7 +21,7 @@ use Rattle.record.specs.declared.keys.KeysAt.{KeysAt}
 use Rattle.record.specs.declared.keys.KeysAt.the-variants.{Structs, Fields, Unstored}
 use Rattle.record.specs.declared.keys.PluginKeyStep.{PluginKeyStep}
 use Rattle.record.specs.declared.keys.PluginKeyStep.the-variants.{NoPluginKey, APluginKey}
-use Rattle.record.specs.Keys.{withKey, fieldKeys, pluginKeys, keysFrom, AllKeys, PluginKeysFrom, InFields}
+use Rattle.record.specs.Keys.{fieldKeys, pluginKeys, keysFrom, AllKeys, PluginKeysFrom, InFields}
 
 -- fields ------------------------------------------------------------------------------------------------------------------
 
@@ -39,16 +39,16 @@ module _ (s : Str) (a at : ℕ) (o : Keyless s a at) (r : FieldStep) (f : Fields
 
   module _ (e : D.Field.Field) (k : Cursor) (m : r ≡ AField e k) (q : KeyStep) (g : KeysFrom s (k .at) q) where
     -- the field's own key comes first
-    field-gives : (p : Str) (l : List Key) → fieldKeys (fieldsAt s p a) l ≡ withKey (first (keysAt s p (k .at))) (fieldKeys (fieldsAt s p (k .at)) l)
+    field-gives : (p : Str) (l : List Key) → fieldKeys (fieldsAt s p a) l ≡ withSome (first (keysAt s p (k .at))) (fieldKeys (fieldsAt s p (k .at)) l)
     unfolding fieldKeys
     field-gives p l = o .same p l ∙ rw (fields-now s at r f p e k m)
 
     pub field-keyed : (x : D.PluginKey.PluginKey) (z : Cursor) → q ≡ AKey x z → InFields s a (AKey x k)
-    unfolding withKey first
+    unfolding withSome first
     field-keyed x z h = record { list = λ p l. field-gives p l ∙ rw (keys-now s (k .at) q g p x z h) }
 
     pub field-keyless : q ≡ NoKey → Keyless s a (k .at)
-    unfolding withKey first
+    unfolding withSome first
     field-keyless h = record { same = λ p l. field-gives p l ∙ rw (keys-over-now s (k .at) q g p h) }
 
 pub ruleset field-key-laws = (fields-ended, field-keyed, field-keyless)

@@ -16,7 +16,7 @@ use Rattle.record.specs.declared.release.Release.{Release}
 use Rattle.record.specs.declared.release.ReleaseParts.the-variants.{NotARelease, Parts}
 use Rattle.record.specs.declared.release.Parsed.{Parsed}
 use Rattle.record.specs.declared.release.Parsed.the-variants.{Vast, Number}
-use Rattle.record.specs.Release.{ontoHead, parts, digit, allDigits, isDecimal, allDecimal, isRelease, number, parsed, parsedPart, ofNumbers, releaseParts, earlier, firstNaming}
+use Rattle.record.specs.Release.{ontoHead, parts, digit, allDigits, isDecimal, allDecimal, isRelease, number, parsed, parsedPart, ofNumbers, releaseParts, earlier}
 
 module _ (s : Str) (i : ℕ) where
   pub digits-odd : (b : Bool) → i < length s → b ≡ digit (getD s i 0) → not b ≡ true → allDigits (drop i s) ≡ false
@@ -215,32 +215,3 @@ module _ (a b : Release) where
   earlier-patch e f = rw (eq-eqb (a .major) (b .major) e, eq-eqb (a .minor) (b .minor) f)
 
 pub ruleset earlier-laws = (earlier-major, earlier-minor, earlier-patch)
-
--- worked examples, with the order of two releases, which is not that of their bytes
-abbrev release : ℕ → ℕ → ℕ → Release
-release a b c = record { major = a; minor = b; patch = c }
-
-pub with-parts : (releaseParts (bytes "0.8.0") ≡ Parts firstNaming)
-    × (releaseParts (bytes "0.9.0") ≡ Parts (release 0 9 0))
-    × (releaseParts (bytes "0.10.0") ≡ Parts (release 0 10 0))
-    × (releaseParts (bytes "4294967295.0.0") ≡ Parts (release 4294967295 0 0))
-unfolding releaseParts parsedPart parsed number isRelease allDecimal isDecimal allDigits digit parts ontoHead eqs bytes firstNaming
-with-parts = (refl, refl, refl, refl)
-
-pub nine-before-ten : (earlier (release 0 9 0) (release 0 10 0) ≡ true) × (earlier (release 0 10 0) (release 0 9 0) ≡ false) × (earlier firstNaming firstNaming ≡ false)
-unfolding earlier firstNaming
-nine-before-ten = (refl, refl, refl)
-
--- a part of more than 32 bits, one written another way, none, two, four
-pub without-parts : (releaseParts (bytes "4294967296.0.0") ≡ NotARelease)
-    × (releaseParts (bytes "00.8.0") ≡ NotARelease)
-    × (releaseParts (bytes "") ≡ NotARelease)
-    × (releaseParts (bytes "1.2") ≡ NotARelease)
-    × (releaseParts (bytes "1.2.3.4") ≡ NotARelease)
-unfolding releaseParts parsedPart parsed number isRelease allDecimal isDecimal allDigits digit parts ontoHead eqs bytes
-without-parts = (refl, refl, refl, refl, refl)
-
--- the first of those is a release all the same
-pub vast-release : isRelease (bytes "4294967296.0.0") ≡ true
-unfolding isRelease allDecimal isDecimal allDigits digit parts ontoHead eqs bytes
-vast-release = refl

@@ -62,8 +62,3 @@ pub ruleset prim-laws = (prim-hit, prim-miss, prim-none)
 pub built-in : scalarsOf builtInRows ≡ builtIn
 unfolding scalarsOf scalarsAt scalarsFrom scalarAt beforeZero beforeByte placeOf bytes builtIn builtInRows
 built-in = refl
-
--- an example: u16 is of two bytes, i64 is no word of the table
-pub built-in-sizes : (primSize builtIn (bytes "u16") ≡ 2) × (primSize builtIn (bytes "i64") ≡ 0)
-unfolding primSize scalarIn find eqs bytes builtIn
-built-in-sizes = (refl, refl)

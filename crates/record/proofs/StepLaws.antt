@@ -352,17 +352,6 @@ module _ (s : Str) (at : ℕ) (r : Sought) (i : SoughtFrom s Anything 14 at r) w
 
 pub ruleset versions-laws = (versions-none, versions-found)
 
-module _ (s : Str) (at : ℕ) (r : HeadStep) (f : HeadsFrom s at r) where
-  -- the list itself, at the step
-  pub heads-over-now : (p : Str) → r ≡ NoHead → headsAt s p at ≡ []
-  heads-over-now p m = f .list p ∙ ap (headsOf s p) m
-
-  pub heads-now : (p : Str) (e : D.Head.Head) (k : Cursor) → r ≡ AHead e k → headsAt s p at ≡ headOf p e ∷ headsAt s p (k .at)
-  heads-now p e k m = f .list p ∙ ap (headsOf s p) m
-
-  pub heads-nearer : (e : D.Head.Head) (k : Cursor) → r ≡ AHead e k → length s - k .at < length s - at
-  heads-nearer e k m = let h : suc (length s - k .at) ≤ length s - at = subst (λ x. headsLeft s x ≤ length s - at) m (f .left) in omega arith
-
 module _ (s : Str) (at : ℕ) (r : ConstantStep) (f : ConstantsFrom s at r) where
   -- the list itself, at the step
   pub constants-over-now : (p : Str) → r ≡ NoConstant → constantsAt s p at ≡ []
@@ -533,9 +522,6 @@ module _ (s : Str) (at : ℕ) (r : KeyStep) (f : KeysFrom s at r) where
   pub keys-now : (p : Str) (e : D.PluginKey.PluginKey) (k : Cursor) → r ≡ AKey e k → keysAt s p at ≡ keyOf p e ∷ keysAt s p (k .at)
   keys-now p e k m = f .list p ∙ ap (keysOf s p) m
 
-  pub keys-nearer : (e : D.PluginKey.PluginKey) (k : Cursor) → r ≡ AKey e k → length s - k .at < length s - at
-  keys-nearer e k m = let h : suc (length s - k .at) ≤ length s - at = subst (λ x. keysLeft s x ≤ length s - at) m (f .left) in omega arith
-
 module _ (s : Str) (at : ℕ) (r : FieldStep) (f : FieldsFrom s at r) where
   -- the list itself, at the step
   pub fields-over-now : (p : Str) → r ≡ NoField → fieldsAt s p at ≡ []
@@ -622,9 +608,6 @@ module _ (s : Str) (at : ℕ) (r : UnstoredStep) (f : UnstoredFrom s at r) where
 
   pub unstored-now : (p : Str) (e : D.PluginKey.PluginKey) (k : Cursor) → r ≡ AnUnstored e k → unstoredAt s p at ≡ keyOf p e ∷ unstoredAt s p (k .at)
   unstored-now p e k m = f .list p ∙ ap (unstoredOf s p) m
-
-  pub unstored-nearer : (e : D.PluginKey.PluginKey) (k : Cursor) → r ≡ AnUnstored e k → length s - k .at < length s - at
-  unstored-nearer e k m = let h : suc (length s - k .at) ≤ length s - at = subst (λ x. unstoredLeft s x ≤ length s - at) m (f .left) in omega arith
 
 module _ (s : Str) (at : ℕ) (r : VersionStep) (f : VersionsFrom s at r) where
   -- the list itself, at the step

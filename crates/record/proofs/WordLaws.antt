@@ -1,6 +1,6 @@
 -- Words and bytes: what equal words say of the bytes, and texts from an index on. Assumes nothing.
 use Prim.Native.Nat.{ℕ, zero, suc, _+_, _*_, _-_, _≤_, _<_}
-use mathlib.Core.Bool.{Bool, true, false, _&&_}
+use mathlib.Core.Bool.{Bool, true, false, _&&_, _||_, false≢true}
 use mathlib.Core.List.{[], _∷_}
 use mathlib.Core.Path.{_≡_, refl, sym, ap, subst, _∙_}
 use native.Mathlib.Omega.{arith}
@@ -8,7 +8,7 @@ use native.Mathlib.Numerals.{add-one}
 use lib.ListN.{length, drop, getD, drop-of-length-le, List·getD-eq-default}
 use lib.Seq.{drop-cons}
 use lib.Dec.{eqb, ltb}
-use borrow.Author.Tests.{ltb-true, ltb-false, lt-ltb, le-ltb, eq-eqb, ne-eqb}
+use borrow.Author.Tests.{ltb-true, ltb-false, lt-ltb, le-ltb, eq-eqb, ne-eqb, eqb-true}
 use mir.Val.{Fits}
 use mir.Syntax.{w8}
 use Rattle.record.specs.Base.{Str, eqs, before}
@@ -199,15 +199,6 @@ module _ (a b : Str) where
       go true true f e = before-below a b i (ltb-true i (length a) f) m (ltb-true (getD a i 0) (getD b i 0) e)
       go true false f e = let n = ltb-false (getD a i 0) (getD b i 0) e in before-next a b i (ltb-true i (length a) f) m n (h n .0) ∙ h n .1
 
-  lead-above : (i : ℕ) → i < length a → (getD a i 0 ≤ getD b i 0 → (getD b i 0 ≤ getD a i 0) × (before (drop (i + 1) a) (drop (i + 1) b) ≡ false))
-      → before (drop i a) (drop i b) ≡ false
-  lead-above i l h = go (ltb i (length b)) (ltb (getD b i 0) (getD a i 0)) refl refl
-    where
-      go : (u t : Bool) → ltb i (length b) ≡ u → ltb (getD b i 0) (getD a i 0) ≡ t → before (drop i a) (drop i b) ≡ false
-      go false t f e = before-longer a b i l (ltb-false i (length b) f)
-      go true true f e = before-above a b i l (ltb-true i (length b) f) (ltb-true (getD b i 0) (getD a i 0) e)
-      go true false f e = let n = ltb-false (getD b i 0) (getD a i 0) e in before-next a b i l (ltb-true i (length b) f) (h n .0) n ∙ h n .1
-
   module _ (x y : ℕ) (f : Fronted a x) (g : Fronted b y) where
     pub front-below : x < y → true ≡ before a b
     unfolding frontAt
@@ -232,27 +223,20 @@ module _ (a b : Str) where
               )),
         )))
 
-    pub front-above : y < x → false ≡ before a b
-    unfolding frontAt
-    front-above h =
-        let u = f .number in
-        let v = g .number in
-        let a1 = f .second in
-        let a2 = f .third in
-        let a3 = f .fourth in
-        let b1 = g .second in
-        let b2 = g .third in
-        let b3 = g .fourth in
-        sym
-        (lead-above 0 (has a 0 (λ q. let p0 = past a 0 q in let p1 = past a 1 (omega arith) in let p2 = past a 2 (omega arith) in let p3 = past a 3 (omega arith) in omega arith))
-        (λ h0. (
-          omega arith,
-          lead-above 1 (has a 1 (λ q. let p1 = past a 1 q in let p2 = past a 2 (omega arith) in let p3 = past a 3 (omega arith) in omega arith))
-              (λ h1. (
-                omega arith,
-                lead-above 2 (has a 2 (λ q. let p2 = past a 2 q in let p3 = past a 3 (omega arith) in omega arith))
-                    (λ h2. (omega arith, lead-above 3 (has a 3 (λ q. let p3 = past a 3 q in omega arith)) (λ h3. absurd (omega arith)))),
-              )),
-        )))
+-- of two texts at most one goes before the other
+before-asym : (a b : Str) → before b a ≡ true → before a b ≡ false
+unfolding before
+before-asym [] [] e = refl
+before-asym [] (y ∷ b) e = absurd (false≢true e)
+before-asym (x ∷ a) [] e = refl
+before-asym (x ∷ a) (y ∷ b) e = go (ltb y x) (eqb y x) refl refl e (before-asym a b)
+  where
+    go : (u t : Bool) → ltb y x ≡ u → eqb y x ≡ t → u || (t && before b a) ≡ true → (before b a ≡ true → before a b ≡ false) → ltb x y || (eqb x y && before a b) ≡ false
+    go true t f g h i = let q = ltb-true y x f in rw (le-ltb x y (omega arith), ne-eqb x y (λ z. omega arith))
+    go false true f g h i = let q = eqb-true y x g in rw (le-ltb x y (omega arith), eq-eqb x y (sym q), i h)
+    go false false f g h i = absurd (false≢true h)
+
+pub front-above : (a b : Str) (x y : ℕ) → Fronted a x → Fronted b y → y < x → false ≡ before a b
+front-above a b x y f g h = sym (before-asym a b (sym (front-below b a y x g f h)))
 
 pub ruleset front-laws = (front-below, front-above)

@@ -3,7 +3,7 @@ use mathlib.Core.Path.{_≡_}
 use mathlib.Core.List.{List, [], _∷_}
 use mathlib.Core.Option.{Option, none, some}
 use Prim.Native.Nat.{ℕ}
-use Rattle.record.specs.Base.{Str}
+use Rattle.record.specs.Base.{Str, withSome}
 use Rattle.record.specs.Schema.{Key, Field, Struct}
 use Rattle.record.specs.Lists.{keyOf}
 use Rattle.record.specs.Steps.{fieldsAt, structsAt, unstoredAt}
@@ -14,13 +14,9 @@ use Rattle.record.specs.declared.keys.KeysAt.the-variants.{Structs, Fiel
 use Rattle.record.specs.declared.keys.PluginKeyStep.{PluginKeyStep}
 use Rattle.record.specs.declared.keys.PluginKeyStep.the-variants.{NoPluginKey, APluginKey}
 
-unfoldable pub withKey : Option Key → List Key → List Key
-withKey none l = l
-withKey (some k) l = k ∷ l
-
 unfoldable pub fieldKeys : List Field → List Key → List Key
 fieldKeys [] l = l
-fieldKeys (f ∷ fs) l = withKey (f .key) (fieldKeys fs l)
+fieldKeys (f ∷ fs) l = withSome (f .key) (fieldKeys fs l)
 
 -- the keys of structures' fields, then the unstored ones, as all have one id; those of families and variants are not looked at
 unfoldable pub pluginKeys : List Struct → List Key → List Key

@@ -5,7 +5,7 @@ use mathlib.Core.Bool.{Bool, true, false, _||_, cond}
 use Prim.Native.Nat.{ℕ}
 use lib.ListN.{getD, drop}
 use lib.Dec.{eqb}
-use Rattle.record.specs.Base.{Str, first}
+use Rattle.record.specs.Base.{Str, first, orElse}
 use Rattle.record.specs.Stretch.{textOf}
 use Rattle.record.specs.Schema.{Heading, Value, integer, words, Const, Alias, Enum, EnumValue, BitField, Member, Key, Field, Struct, Variant, Family, Version}
 use Rattle.record.specs.Commands.{headAt, constantAt, aliasAt, enumAt, valueAt, bitfieldAt, memberAt, structAt, familyAt, variantAt, fieldAt, keyAt, versionAt}
@@ -25,11 +25,6 @@ abbrev pub numberOf : OptNumber → Option ℕ
 numberOf Missing = none
 numberOf (Number n) = some n
 
--- a text that the record must have
-abbrev pub wordsOf : Str → OptText → Str
-wordsOf p Absent = []
-wordsOf p (Given t) = textOf p t
-
 -- elements ---------------------------------------------------------------------------------------------------------------
 
 abbrev pub headOf : Str → D.Head.Head → Heading
@@ -38,7 +33,7 @@ headOf p c = record { release = optOf p (c .release); unreleased = c .unreleased
 abbrev pub constantOf : Str → D.Constant.Constant → Const
 constantOf p c = record {
   name = textOf p (c .name);
-  value = cond (c .«is_text») (words (wordsOf p (c .text))) (integer (c .integer));
+  value = cond (c .«is_text») (words (orElse (optOf p (c .text)) [])) (integer (c .integer));
   api = c .«ora_api»;
   since = optOf p (c .«first_release»);
 }

@@ -1,8 +1,9 @@
 -- What the put-together arguments of messages mean, over a pool; their texts are those of layout.rs, in Verdicts of definition. Assumes nothing.
-use Rattle.record.specs.Base.{Str}
+use mathlib.Core.List.{[]}
+use Rattle.record.specs.Base.{Str, orElse}
 use Rattle.record.specs.Schema.{Value, integer, words}
 use Rattle.record.specs.Stretch.{textOf}
-use Rattle.record.specs.Lists.{wordsOf}
+use Rattle.record.specs.Lists.{optOf}
 use Rattle.definition.specs.Verdicts as D
 use Rattle.definition.specs.Verdicts.{aConstant, anEnum, aKey, aBitfield, within}
 use Rattle.verdicts.specs.declared.arguments.Item.{Item}
@@ -19,4 +20,4 @@ itemOf p (Within o n) = within (textOf p o) (textOf p n)
 
 abbrev pub valueMeant : Str → ConstantValue → Value
 valueMeant p (Integer n) = integer n
-valueMeant p (Words t) = words (wordsOf p t)
+valueMeant p (Words t) = words (orElse (optOf p t) [])
