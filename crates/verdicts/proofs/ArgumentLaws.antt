@@ -3,7 +3,7 @@ use mathlib.Core.Path.{_≡_}
 use mathlib.Core.List.{[], _∷_, _++_}
 use mathlib.Core.Bool.{Bool, true, false}
 use Prim.Native.Nat.{ℕ}
-use Rattle.record.specs.Base.{Str, bytes, signed}
+use Rattle.record.specs.Base.{Str, bytes, signed, orElse}
 use Rattle.record.specs.Stretch.{textOf}
 use Rattle.record.specs.Lists.{optOf}
 use Rattle.record.specs.Write.{Puts}
@@ -65,11 +65,11 @@ module _ (p : Str) {out after : Str} {at r : ℕ} where
     value-integer n e a = rw e a
 
     pub value-none : (o : OptText) → v ≡ Words o → o ≡ Absent → Puts out at [] after r → Puts out at (valueText (valueMeant p v)) after r
-    unfolding valueText
+    unfolding valueText orElse
     value-none o e f a = rw (e, f) a
 
     pub value-words : (o : OptText) (t : Text) → v ≡ Words o → o ≡ Given t → Puts out at (textOf p t) after r → Puts out at (valueText (valueMeant p v)) after r
-    unfolding valueText
+    unfolding valueText orElse
     value-words o t e f a = rw (e, f) a
 
 module _ {out after : Str} {at r : ℕ} (b : Bool) where
