@@ -1,15 +1,19 @@
--- One entry of the table of words: it is the word, or the rest of the table decides. What a test for padding tells.
+-- One entry of the table of words: it is the word, or the rest of the table decides. Words of other lengths play no part. What a test for padding tells.
 use Prim.Native.Nat.{ℕ}
 use mathlib.Core.List.{List, [], _∷_}
-use mathlib.Core.Bool.{Bool, true, false}
-use mathlib.Core.Path.{_≡_, refl}
+use mathlib.Core.Bool.{Bool, true, false, cond}
+use mathlib.Core.Path.{_≡_, refl, sym, ap, _∙_}
+use lib.ListN.{length}
+use lib.Dec.{eqb}
+use borrow.Author.Tests.{eqb-false}
 use types.Run.{OneOf, miss}
 use denote.Enum.Declared.{tagOf}
-use Rattle.record.specs.Base.{Str, eqs}
+use Rattle.record.specs.Base.{Str, bytes, eqs}
 use Rattle.record.specs.declared.kind.Kind.{Kind}
 use Rattle.record.specs.declared.kind.Kind.the-variants.{Scalar, Enum, TypeAlias, Bitfield, InlineArray, InlineArray2d, CstrPtr, StructPtr, StructArrayPtr, StructPtrArrayPtr, TaggedFamPtr, SimpleFamPtr, OpaquePtr, FnPtr, Padding, Text, Other}
-use Rattle.record.specs.Kind.{Word, meaning, isPadding}
+use Rattle.record.specs.Kind.{Word, words, ofLength, meaning, kindOf, isPadding}
 use Rattle.record.proofs.kind.Kind.{the-type}
+use Rattle.record.proofs.WordLaws.{same-length}
 
 module _ (w : Str) where
   pub word-hit : (s : Str) (k : Kind) (xs : List Word) (b : Bool) → b ≡ eqs w s → b ≡ true → k ≡ meaning (record { spelt = s; means = k } ∷ xs) w
@@ -25,6 +29,38 @@ module _ (w : Str) where
   word-none = refl
 
 pub ruleset word-laws = (word-hit, word-miss, word-none)
+
+length-step : (w : Str) (x : Word) (xs ys : List Word) → meaning ys w ≡ meaning xs w → (t : Bool) → eqb (length (x .spelt)) (length w) ≡ t → meaning (cond t (x ∷ ys) ys) w ≡ meaning (x ∷ xs) w
+unfolding meaning
+length-step w x xs ys h true e = rw h
+length-step w x xs ys h false e = rw (← same-length w (x .spelt) (λ q. eqb-false (length (x .spelt)) (length w) e (sym q))) h
+
+of-length : (w : Str) (l : List Word) → meaning (ofLength (length w) l) w ≡ meaning l w
+unfolding ofLength
+of-length w [] = refl
+of-length w (x ∷ xs) = length-step w x xs (ofLength (length w) xs) (of-length w xs) (eqb (length (x .spelt)) (length w)) refl
+
+-- a length that no word of a table has
+abbrev pub apart : ℕ → List Word → Type 0
+apart n [] = Unit
+apart n (x ∷ xs) = (n ≡ length (x .spelt) → ⊥) × apart n xs
+
+none-apart : (w : Str) (l : List Word) → apart (length w) l → Other ≡ meaning l w
+unfolding meaning
+none-apart w [] h = refl
+none-apart w (x ∷ xs) h = rw (← same-length w (x .spelt) (h .0)) (none-apart w xs (h .1))
+
+module _ (w : Str) where
+  -- the words of a word's own length decide
+  pub kind-by-length : (n : ℕ) (k : Kind) → length w ≡ n → k ≡ meaning (ofLength n words) w → k ≡ kindOf w
+  unfolding kindOf
+  kind-by-length n k e h = h ∙ ap (λ (m : ℕ). meaning (ofLength m words) w) (sym e) ∙ of-length w words
+
+  pub kind-of-none : (length w ≡ 6 → ⊥) → (length w ≡ 4 → ⊥) → (length w ≡ 8 → ⊥) → (length w ≡ 10 → ⊥) → (length w ≡ 12 → ⊥) → (length w ≡ 14 → ⊥) → (length w ≡ 7 → ⊥)
+      → (length w ≡ 16 → ⊥) → (length w ≡ 20 → ⊥) → Other ≡ kindOf w
+  unfolding kindOf words bytes
+  kind-of-none six four eight ten twelve fourteen seven sixteen twenty =
+      none-apart w words (six, (four, (ten, (eight, (twelve, (fourteen, (eight, (ten, (sixteen, (twenty, (fourteen, (fourteen, (ten, (six, (seven, (six, tt))))))))))))))))
 
 pub padding-is : (k : Kind) → k ≡ Padding → true ≡ isPadding k
 padding-is k e = rw e

@@ -1,14 +1,14 @@
 -- One step of the comparison of two lists from an index on, and what the stretch of a pool is in each case.
 use Prim.Native.Nat.{ℕ, _+_, _-_, _≤_, _<_}
 use mathlib.Core.List.{List, []}
-use mathlib.Core.Bool.{true, false}
+use mathlib.Core.Bool.{true}
 use mathlib.Core.Path.{_≡_, sym, _∙_}
 use native.Mathlib.Nat.{add-sub-cancel-left}
 use native.Mathlib.Numerals.{add-one}
 use native.Mathlib.Omega.{arith}
 use lib.ListN.{length, take, drop, getD, drop-of-length-le, length-drop}
 use lib.Seq.{drop-cons, take-all, take-nil}
-use borrow.Author.Tests.{eq-eqb, ne-eqb}
+use borrow.Author.Tests.{eq-eqb}
 use Rattle.record.specs.Base.{eqs}
 use Rattle.record.specs.Stretch.{textOf}
 use Rattle.record.specs.declared.text.Text.{Text}
@@ -17,18 +17,6 @@ module _ (a b : List ℕ) (i : ℕ) where
   pub same-step : i < length a → i < length b → getD a i 0 ≡ getD b i 0 → eqs (drop i a) (drop i b) ≡ eqs (drop (i + 1) a) (drop (i + 1) b)
   unfolding eqs
   same-step p q e = rw (add-one, drop-cons a i 0, drop-cons b i 0, eq-eqb (getD a i 0) (getD b i 0) e)
-
-  pub same-differ : i < length a → i < length b → (getD a i 0 ≡ getD b i 0 → ⊥) → eqs (drop i a) (drop i b) ≡ false
-  unfolding eqs
-  same-differ p q e = rw (drop-cons a i 0, drop-cons b i 0, ne-eqb (getD a i 0) (getD b i 0) e)
-
-  pub same-longer : i < length a → length b ≤ i → eqs (drop i a) (drop i b) ≡ false
-  unfolding eqs
-  same-longer p q = rw (drop-cons a i 0, drop-of-length-le b)
-
-  pub same-shorter : length a ≤ i → i < length b → eqs (drop i a) (drop i b) ≡ false
-  unfolding eqs
-  same-shorter p q = rw (drop-of-length-le a, drop-cons b i 0)
 
   pub same-end : length a ≤ i → length b ≤ i → eqs (drop i a) (drop i b) ≡ true
   unfolding eqs
@@ -55,7 +43,5 @@ kept p q = p ∙ q
 
 pub ended : {A : Type 0} {x y z : A} → x ≡ y → y ≡ z → z ≡ x
 ended p q = sym (p ∙ q)
-
-pub ruleset same-laws = (same-step, same-differ, same-longer, same-shorter, same-end)
 
 pub ruleset text-laws = (text-past, text-whole, text-cut)

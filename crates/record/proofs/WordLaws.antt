@@ -1,5 +1,5 @@
 -- Words and bytes: what equal words say of the bytes, and texts from an index on. Assumes nothing.
-use Prim.Native.Nat.{ℕ, zero, suc, _+_, _*_, _-_, _≤_, _<_}
+use Prim.Native.Nat.{ℕ, zero, suc, _+_, _*_, _-_, _/_, _≤_, _<_}
 use mathlib.Core.Bool.{Bool, true, false, _&&_, _||_, false≢true}
 use mathlib.Core.List.{[], _∷_}
 use mathlib.Core.Path.{_≡_, refl, sym, ap, subst, _∙_}
@@ -14,7 +14,7 @@ use mir.Syntax.{w8}
 use Rattle.record.specs.Base.{Str, eqs, before}
 use Rattle.record.specs.Le.{u16At, u32At, u64At}
 use Rattle.record.specs.Words.{frontAt, Fronted, Skipped}
-use Rattle.record.proofs.TextLaws.{same-step}
+use Rattle.record.proofs.TextLaws.{same-step, same-end}
 use Rattle.record.proofs.Basics.{eqs→eq}
 
 -- every element is a byte
@@ -72,26 +72,21 @@ module _ (a b : Str) (f : Bytes a) (g : Bytes b) where
   unfolding u64At
   word-agree i e = let p = half-small a f i in let q = half-small b g i in let r : u32At a i ≡ u32At b i = omega arith in (r, omega arith)
 
+  half-more : (i : ℕ) → Skipped a b i → u32At a i ≡ u32At b i → i + 4 ≤ length a → i + 4 ≤ length b → Skipped a b (i + 4)
+  half-more i s e l m = record { agree = λ k t. go k t (ltb k i) refl; in-first = l; in-second = m }
+    where
+      go : (k : ℕ) → k < i + 4 → (c : Bool) → ltb k i ≡ c → getD a k 0 ≡ getD b k 0
+      go k t true u = s .agree k (ltb-true k i u)
+      go k t false u =
+          let v = ltb-false k i u in
+          let j : i + (k - i) ≡ k = omega arith in
+          subst (λ (n : ℕ). getD a n 0 ≡ getD b n 0) j (half-agree i e (k - i) (omega arith))
+
   pub skip-more : (i n x y : ℕ) → Skipped a b i → x ≡ u64At a i → y ≡ u64At b i → x ≡ y → n ≤ length a → n ≤ length b → i ≤ n → 8 ≤ n - i → Skipped a b (i + 8)
   skip-more i n x y s p q e l m z h =
-      record { agree = λ k t. go k t (ltb k i) refl; in-first = omega arith; in-second = omega arith }
-    where
-      w : (u32At a i ≡ u32At b i) × (u32At a (i + 4) ≡ u32At b (i + 4))
-      w = word-agree i (sym p ∙ e ∙ q)
-
-      go : (k : ℕ) → k < i + 8 → (c : Bool) → ltb k i ≡ c → getD a k 0 ≡ getD b k 0
-      go k t true u = s .agree k (ltb-true k i u)
-      go k t false u = more (ltb-false k i u) (ltb k (i + 4)) refl
-        where
-          more : i ≤ k → (c : Bool) → ltb k (i + 4) ≡ c → getD a k 0 ≡ getD b k 0
-          more v true o =
-              let r = ltb-true k (i + 4) o in
-              let j : i + (k - i) ≡ k = omega arith in
-              subst (λ (m′ : ℕ). getD a m′ 0 ≡ getD b m′ 0) j (half-agree i (w .0) (k - i) (omega arith))
-          more v false o =
-              let r = ltb-false k (i + 4) o in
-              let j : i + 4 + (k - (i + 4)) ≡ k = omega arith in
-              subst (λ (m′ : ℕ). getD a m′ 0 ≡ getD b m′ 0) j (half-agree (i + 4) (w .1) (k - (i + 4)) (omega arith))
+      let w = word-agree i (sym p ∙ e ∙ q) in
+      let j : i + 4 + 4 ≡ i + 8 = omega arith in
+      subst (Skipped a b) j (half-more (i + 4) (half-more i s (w .0) (omega arith) (omega arith)) (w .1) (omega arith) (omega arith))
 
 -- two texts compared from an index on
 module _ (a b : Str) (i : ℕ) where
@@ -160,16 +155,59 @@ module _ (a b : Str) where
   pub same-length : (length a ≡ length b → ⊥) → false ≡ eqs a b
   same-length h = lengths a b h
 
--- texts with different words are not the same
-pub word-differs : (a b : Str) (i x y : ℕ) → x ≡ u64At a i → y ≡ u64At b i → (x ≡ y → ⊥) → false ≡ eqs a b
-word-differs a b i x y p q h = go (eqs a b) refl
+-- texts that differ somewhere are not the same
+differs : (f : Str → ℕ) (a b : Str) → (f a ≡ f b → ⊥) → false ≡ eqs a b
+differs f a b h = go (eqs a b) refl
   where
     go : (t : Bool) → eqs a b ≡ t → false ≡ t
-    go true e = absurd (h (p ∙ ap (λ (s : Str). u64At s i) (eqs→eq a b e) ∙ sym q))
+    go true e = absurd (h (ap f (eqs→eq a b e)))
     go false e = refl
 
-pub same-rest : (a b : Str) (i : ℕ) (r : Bool) → Skipped a b i → r ≡ eqs (drop i a) (drop i b) → r ≡ eqs a b
-same-rest a b i r s e = e ∙ sym (same-skip a b i s)
+module _ (a b : Str) (i : ℕ) where
+  pub word-differs : (x y : ℕ) → x ≡ u64At a i → y ≡ u64At b i → (x ≡ y → ⊥) → false ≡ eqs a b
+  word-differs x y p q h = differs (λ (s : Str). u64At s i) a b (λ e. h (p ∙ e ∙ sym q))
+
+  pub half-differs : (x y : ℕ) → x ≡ u32At a i → y ≡ u32At b i → (x ≡ y → ⊥) → false ≡ eqs a b
+  half-differs x y p q h = differs (λ (s : Str). u32At s i) a b (λ e. h (p ∙ e ∙ sym q))
+
+  pub byte-differs : (getD a i 0 ≡ getD b i 0 → ⊥) → false ≡ eqs a b
+  byte-differs h = differs (λ (s : Str). getD s i 0) a b h
+
+-- texts that agree to their ends are the same
+module _ (a b : Str) where
+  all-same : (i : ℕ) → Skipped a b i → length a ≤ i → length b ≤ i → true ≡ eqs a b
+  all-same i s p q = sym (same-skip a b i s ∙ same-end a b i p q)
+
+  pub none-same : length a ≡ 0 → length a ≡ length b → true ≡ eqs a b
+  none-same p q = all-same 0 (skip-none a b) (omega arith) (omega arith)
+
+  fewer : (i j : ℕ) → Skipped a b i → j ≤ i → Skipped a b j
+  fewer i j s h = let p = s .in-first in let q = s .in-second in record { agree = λ k t. s .agree k (omega arith); in-first = omega arith; in-second = omega arith }
+
+  pub word-more : Bytes a → Bytes b → (i j x y : ℕ) → Skipped a b i → x ≡ u64At a i → y ≡ u64At b i → x ≡ y → i < j → j + 8 ≡ length a → length a ≡ length b → Skipped a b (i + 8)
+  word-more f g i j x y s p q e l m n = skip-more a b f g i (length a) x y s p q e (omega arith) (omega arith) (omega arith) (omega arith)
+
+  pub words-same : Bytes a → Bytes b → (i j x y : ℕ) → Skipped a b i → x ≡ u64At a j → y ≡ u64At b j → x ≡ y → j ≤ i → j + 8 ≡ length a → length a ≡ length b → true ≡ eqs a b
+  words-same f g i j x y s p q e l m n =
+      all-same (j + 8) (skip-more a b f g j (length a) x y (fewer i j s l) p q e (omega arith) (omega arith) (omega arith) (omega arith)) (omega arith) (omega arith)
+
+  pub halves-same : Bytes a → Bytes b → (j x y u v : ℕ) → x ≡ u32At a j → y ≡ u32At b j → x ≡ y → u ≡ u32At a 0 → v ≡ u32At b 0 → u ≡ v → j ≤ 4 → j + 4 ≡ length a → length a ≡ length b
+      → true ≡ eqs a b
+  halves-same f g j x y u v p q e r t h l m n =
+      let s = half-more a b f g 0 (skip-none a b) (sym r ∙ h ∙ t) (omega arith) (omega arith) in
+      all-same (j + 4) (half-more a b f g j (fewer (0 + 4) j s (omega arith)) (sym p ∙ e ∙ q) (omega arith) (omega arith)) (omega arith) (omega arith)
+
+  pub bytes-same : (n : ℕ) → n ≡ length a → getD a (n - 1) 0 ≡ getD b (n - 1) 0 → getD a 0 0 ≡ getD b 0 0 → getD a (n / 2) 0 ≡ getD b (n / 2) 0 → 1 ≤ n → n ≤ 3 → length a ≡ length b → true ≡ eqs a b
+  bytes-same n e p q r l h m =
+      all-same n (record { agree = λ k t. go k t (ltb k 1) (ltb k (n - 1)) refl refl; in-first = omega arith; in-second = omega arith }) (omega arith) (omega arith)
+    where
+      there : (i k : ℕ) → i ≡ k → getD a i 0 ≡ getD b i 0 → getD a k 0 ≡ getD b k 0
+      there i k j x = subst (λ (v : ℕ). getD a v 0 ≡ getD b v 0) j x
+
+      go : (k : ℕ) → k < n → (x y : Bool) → ltb k 1 ≡ x → ltb k (n - 1) ≡ y → getD a k 0 ≡ getD b k 0
+      go k t true y u v = let w = ltb-true k 1 u in there 0 k (omega arith) q
+      go k t false true u v = let w = ltb-false k 1 u in let z = ltb-true k (n - 1) v in there (n / 2) k (omega arith) r
+      go k t false false u v = let z = ltb-false k (n - 1) v in there (n - 1) k (omega arith) p
 
 -- the first four bytes ------------------------------------------------------------------------------------------------------
 

@@ -1,6 +1,9 @@
 -- The kinds of a field, each by its whole word: 01, Flattening. Assumes nothing.
 use mathlib.Core.List.{List, [], _∷_, map}
 use mathlib.Core.Bool.{Bool, true, false, cond}
+use Prim.Native.Nat.{ℕ}
+use lib.ListN.{length}
+use lib.Dec.{eqb}
 use Rattle.record.specs.Base.{Str, bytes, eqs}
 use Rattle.record.specs.declared.kind.Kind.{Kind}
 use Rattle.record.specs.declared.kind.Kind.the-variants.{Scalar, Enum, TypeAlias, Bitfield, InlineArray, InlineArray2d, CstrPtr, StructPtr, StructArrayPtr, StructPtrArrayPtr, TaggedFamPtr, SimpleFamPtr, OpaquePtr, FnPtr, Padding, Text, Other}
@@ -37,6 +40,11 @@ kindWords = map (λ (w : Word). w .spelt) words
 unfoldable pub meaning : List Word → Str → Kind
 meaning [] w = Other
 meaning (x ∷ xs) w = cond (eqs w (x .spelt)) (x .means) (meaning xs w)
+
+-- the entries of words of a length
+unfoldable pub ofLength : ℕ → List Word → List Word
+ofLength n [] = []
+ofLength n (x ∷ xs) = cond (eqb (length (x .spelt)) n) (x ∷ ofLength n xs) (ofLength n xs)
 
 -- 01: a kind is recognised by its whole word
 unfoldable pub kindOf : Str → Kind

@@ -1,98 +1,85 @@
-use Rattle.record.specs.Base.{bytes}
-use Rattle.record.specs.Kind.{words, kindOf}
-use Rattle.record.proofs.KindLaws.{word-laws}
+use Rattle.record.proofs.KindLaws.{kind-by-length, kind-of-none}
 use borrow.Author.Needs.{needs}
 use Rattle.record.proofs.kind.kind_of.Statement.{statement}
 use Rattle.record.proofs.kind.kind_of.Tie as tie
 
-slice-aggregate-same : tie.Need-slice-aggregate-same
-slice-aggregate-same c = search needs
-
-same-requires : tie.Need-same-requires
-same-requires c κs = search needs
+kind-of-six-requires : tie.Need-kind-of-six-requires
+kind-of-six-requires c κs = search needs
 
 returns : tie.Need-returns
-unfolding bytes words kindOf
-returns c = search word-laws depth 8
+returns c = search kind-by-length
 
-slice-aggregate-same-2 : tie.Need-slice-aggregate-same-2
-slice-aggregate-same-2 c = search needs
-
-same-requires-2 : tie.Need-same-requires-2
-same-requires-2 c κs = search needs
+kind-of-four-requires : tie.Need-kind-of-four-requires
+kind-of-four-requires c κs = search needs
 
 returns-2 : tie.Need-returns-2
-unfolding bytes words kindOf
-returns-2 c = search word-laws depth 8
+returns-2 c = search kind-by-length
 
-slice-aggregate-same-3 : tie.Need-slice-aggregate-same-3
-slice-aggregate-same-3 c = search needs
-
-same-requires-3 : tie.Need-same-requires-3
-same-requires-3 c κs = search needs
+kind-of-eight-requires : tie.Need-kind-of-eight-requires
+kind-of-eight-requires c κs = search needs
 
 returns-3 : tie.Need-returns-3
-unfolding bytes words kindOf
-returns-3 c = search word-laws depth 8
+returns-3 c = search kind-by-length
 
-slice-aggregate-same-4 : tie.Need-slice-aggregate-same-4
-slice-aggregate-same-4 c = search needs
-
-same-requires-4 : tie.Need-same-requires-4
-same-requires-4 c κs = search needs
+kind-of-ten-requires : tie.Need-kind-of-ten-requires
+kind-of-ten-requires c κs = search needs
 
 returns-4 : tie.Need-returns-4
-unfolding bytes words kindOf
-returns-4 c = search word-laws depth 8
+returns-4 c = search kind-by-length
 
-slice-aggregate-same-5 : tie.Need-slice-aggregate-same-5
-slice-aggregate-same-5 c = search needs
-
-same-requires-5 : tie.Need-same-requires-5
-same-requires-5 c κs = search needs
+kind-of-twelve-requires : tie.Need-kind-of-twelve-requires
+kind-of-twelve-requires c κs = search needs
 
 returns-5 : tie.Need-returns-5
-unfolding bytes words kindOf
-returns-5 c = search word-laws depth 8
+returns-5 c = search kind-by-length
 
-slice-aggregate-same-6 : tie.Need-slice-aggregate-same-6
-slice-aggregate-same-6 c = search needs
-
-same-requires-6 : tie.Need-same-requires-6
-same-requires-6 c κs = search needs
+kind-of-fourteen-requires : tie.Need-kind-of-fourteen-requires
+kind-of-fourteen-requires c κs = search needs
 
 returns-6 : tie.Need-returns-6
-unfolding bytes words kindOf
-returns-6 c = search word-laws depth 8
+returns-6 c = search kind-by-length
 
-pointer-kind-requires : tie.Need-pointer-kind-requires
-pointer-kind-requires c κs = search needs
+kind-of-seven-requires : tie.Need-kind-of-seven-requires
+kind-of-seven-requires c κs = search needs
 
 returns-7 : tie.Need-returns-7
-unfolding bytes words kindOf
-returns-7 c = search word-laws depth 8
+returns-7 c = search kind-by-length
+
+kind-of-sixteen-requires : tie.Need-kind-of-sixteen-requires
+kind-of-sixteen-requires c κs = search needs
+
+returns-8 : tie.Need-returns-8
+returns-8 c = search kind-by-length
+
+kind-of-twenty-requires : tie.Need-kind-of-twenty-requires
+kind-of-twenty-requires c κs = search needs
+
+returns-9 : tie.Need-returns-9
+returns-9 c = search kind-by-length
+
+returns-10 : tie.Need-returns-10
+returns-10 c = search kind-of-none
 
 pub kind-of-spec : {M : Type 1} → statement M
 kind-of-spec =
     tie.close
     (tie.spec
-    slice-aggregate-same
-    same-requires
+    kind-of-six-requires
     returns
-    slice-aggregate-same-2
-    same-requires-2
+    kind-of-four-requires
     returns-2
-    slice-aggregate-same-3
-    same-requires-3
+    kind-of-eight-requires
     returns-3
-    slice-aggregate-same-4
-    same-requires-4
+    kind-of-ten-requires
     returns-4
-    slice-aggregate-same-5
-    same-requires-5
+    kind-of-twelve-requires
     returns-5
-    slice-aggregate-same-6
-    same-requires-6
+    kind-of-fourteen-requires
     returns-6
-    pointer-kind-requires
-    returns-7)
+    kind-of-seven-requires
+    returns-7
+    kind-of-sixteen-requires
+    returns-8
+    kind-of-twenty-requires
+    returns-9
+    returns-10)

@@ -1,9 +1,9 @@
 use Rattle.record.specs.Base.{bytes}
-use Rattle.record.specs.Kind.{words}
+use Rattle.record.specs.Kind.{words, ofLength}
 use Rattle.record.proofs.KindLaws.{word-laws}
 use borrow.Author.Needs.{needs}
-use Rattle.record.proofs.kind.last_kind.Statement.{statement}
-use Rattle.record.proofs.kind.last_kind.Tie as tie
+use Rattle.record.proofs.kind.kind_of_ten.Statement.{statement}
+use Rattle.record.proofs.kind.kind_of_ten.Tie as tie
 
 slice-aggregate-same : tie.Need-slice-aggregate-same
 slice-aggregate-same c = search needs
@@ -12,7 +12,7 @@ same-requires : tie.Need-same-requires
 same-requires c κs = search needs
 
 returns : tie.Need-returns
-unfolding bytes words
+unfolding bytes words ofLength
 returns c = search word-laws depth 8
 
 slice-aggregate-same-2 : tie.Need-slice-aggregate-same-2
@@ -22,7 +22,7 @@ same-requires-2 : tie.Need-same-requires-2
 same-requires-2 c κs = search needs
 
 returns-2 : tie.Need-returns-2
-unfolding bytes words
+unfolding bytes words ofLength
 returns-2 c = search word-laws depth 8
 
 slice-aggregate-same-3 : tie.Need-slice-aggregate-same-3
@@ -32,25 +32,15 @@ same-requires-3 : tie.Need-same-requires-3
 same-requires-3 c κs = search needs
 
 returns-3 : tie.Need-returns-3
-unfolding bytes words
+unfolding bytes words ofLength
 returns-3 c = search word-laws depth 8
 
-slice-aggregate-same-4 : tie.Need-slice-aggregate-same-4
-slice-aggregate-same-4 c = search needs
-
-same-requires-4 : tie.Need-same-requires-4
-same-requires-4 c κs = search needs
-
 returns-4 : tie.Need-returns-4
-unfolding bytes words
+unfolding bytes words ofLength
 returns-4 c = search word-laws depth 8
 
-returns-5 : tie.Need-returns-5
-unfolding bytes words
-returns-5 c = search word-laws depth 8
-
-pub last-kind-spec : {M : Type 1} → statement M
-last-kind-spec =
+pub kind-of-ten-spec : {M : Type 1} → statement M
+kind-of-ten-spec =
     tie.close
     (tie.spec
     slice-aggregate-same
@@ -62,7 +52,4 @@ last-kind-spec =
     slice-aggregate-same-3
     same-requires-3
     returns-3
-    slice-aggregate-same-4
-    same-requires-4
-    returns-4
-    returns-5)
+    returns-4)

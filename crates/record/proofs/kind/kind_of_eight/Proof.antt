@@ -1,0 +1,42 @@
+use Rattle.record.specs.Base.{bytes}
+use Rattle.record.specs.Kind.{words, ofLength}
+use Rattle.record.proofs.KindLaws.{word-laws}
+use borrow.Author.Needs.{needs}
+use Rattle.record.proofs.kind.kind_of_eight.Statement.{statement}
+use Rattle.record.proofs.kind.kind_of_eight.Tie as tie
+
+slice-aggregate-same : tie.Need-slice-aggregate-same
+slice-aggregate-same c = search needs
+
+same-requires : tie.Need-same-requires
+same-requires c κs = search needs
+
+returns : tie.Need-returns
+unfolding bytes words ofLength
+returns c = search word-laws depth 8
+
+slice-aggregate-same-2 : tie.Need-slice-aggregate-same-2
+slice-aggregate-same-2 c = search needs
+
+same-requires-2 : tie.Need-same-requires-2
+same-requires-2 c κs = search needs
+
+returns-2 : tie.Need-returns-2
+unfolding bytes words ofLength
+returns-2 c = search word-laws depth 8
+
+returns-3 : tie.Need-returns-3
+unfolding bytes words ofLength
+returns-3 c = search word-laws depth 8
+
+pub kind-of-eight-spec : {M : Type 1} → statement M
+kind-of-eight-spec =
+    tie.close
+    (tie.spec
+    slice-aggregate-same
+    same-requires
+    returns
+    slice-aggregate-same-2
+    same-requires-2
+    returns-2
+    returns-3)
