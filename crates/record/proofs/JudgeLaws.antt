@@ -1,19 +1,18 @@
 -- The cases of the judgement of one command, as the code's branches need them. Assumes nothing.
-use Prim.Native.Nat.{ℕ, suc, _+_, _-_, _*_, _≤_, _<_}
-use mathlib.Core.List.{[]}
-use mathlib.Core.Option.{none, some}
-use mathlib.Core.Bool.{Bool, true, false, cond}
+use Prim.Native.Nat.{ℕ, _+_, _-_, _≤_, _<_}
+use mathlib.Core.List.{[], _∷_}
+use mathlib.Core.Option.{Option, none, some}
+use mathlib.Core.Bool.{Bool, true, false, not, cond}
 use mathlib.Core.Path.{_≡_, refl, sym, ap, _∙_}
-use native.Mathlib.Numerals.{add-one}
 use native.Mathlib.Omega.{arith}
-use lib.ListN.{length, take, drop, getD, length-drop, drop-of-length-le}
-use lib.Seq.{take-all, drop-cons}
-use lib.Dec.{eqb}
+use lib.ListN.{length, take, drop, getD, length-drop}
+use lib.Seq.{take-all}
+use lib.Dec.{eqb, ltb}
 use borrow.Author.Tests.{eq-eqb, ne-eqb, lt-ltb, le-ltb, le-leb, lt-leb}
 use Rattle.record.specs.Base.{Str}
 use Rattle.record.specs.Operands.{flagAt, optTextAt}
-use Rattle.record.specs.Commands.{operands, wide, widths, commandOf}
-use Rattle.record.specs.Judge.{worseOf, ifAbsent, textFault, flagFault, operandFault, faultsFrom, follows, mayStand, parentAfter, ready, judgedWith, judgedAt}
+use Rattle.record.specs.Commands.{operands, wide, widthWith, widthOf, commandOf}
+use Rattle.record.specs.Judge.{worseOf, ifAbsent, textFault, flagFault, operandFault, faultsFrom, faultsOf, follows, mayStand, rowOf, rowAt, parentAfter, ready, faulted, judgedWith, judgedAs, judgedAt}
 use Rattle.record.specs.declared.text.Text.{Text}
 use Rattle.record.specs.declared.operands.OptText.{OptText}
 use Rattle.record.specs.declared.operands.OptText.the-variants.{Absent, Given}
@@ -26,8 +25,10 @@ use Rattle.record.specs.declared.refusal.Side.the-variants.{Current, Rel
 use Rattle.record.specs.declared.refusal.Refusal.the-variants as R
 use Rattle.record.specs.declared.judge.Fault.{Fault}
 use Rattle.record.specs.declared.judge.Fault.the-variants.{Fine, Outside, Missing, Flag}
+use Rattle.record.specs.declared.judge.Row.{Row}
 use Rattle.record.specs.declared.judge.Judged.{Judged}
 use Rattle.record.specs.declared.judge.Judged.the-variants.{Next, Done, Refused}
+use Rattle.record.proofs.CommandLaws.{none-operands, none-width}
 
 -- an absent text, by the operand's letter
 module _ (side : Side) (x : Str) (o : ℕ) where
@@ -103,102 +104,38 @@ module _ (side : Side) (n : ℕ) (x : Str) (i o : ℕ) where
 
 pub ruleset operand-fault-laws = (operand-flag, operand-number, operand-four, operand-eight, operand-text)
 
-module _ (o : ℕ) where
-  pub wide-flag : o ≡ 70 → 1 ≡ wide o
-  unfolding wide
-  wide-flag e = rw e
-
-  pub wide-four : o ≡ 87 → 4 ≡ wide o
-  unfolding wide
-  wide-four e = rw e
-
-  pub wide-eight : o ≡ 86 → 8 ≡ wide o
-  unfolding wide
-  wide-eight e = rw e
-
-  pub wide-number : o ≡ 78 → 5 ≡ wide o
-  unfolding wide
-  wide-number e = rw e
-
-  pub wide-text : (o ≡ 70 → ⊥) → (o ≡ 87 → ⊥) → (o ≡ 86 → ⊥) → (o ≡ 78 → ⊥) → 3 ≡ wide o
-  unfolding wide
-  wide-text a b c d = rw (ne-eqb o 70 a, ne-eqb o 87 b, ne-eqb o 86 c, ne-eqb o 78 d)
-
-  wide-bound : wide o ≤ 8
-  unfolding wide
-  wide-bound = go (eqb o 70) (eqb o 87) (eqb o 86) (eqb o 78)
-    where
-      go : (a b c d : Bool) → cond a 1 (cond b 4 (cond c 8 (cond d 5 3))) ≤ 8
-      go true b c d = omega arith
-      go false true c d = omega arith
-      go false false true d = omega arith
-      go false false false true = omega arith
-      go false false false false = omega arith
-
-pub wide-small : (w o : ℕ) → w ≡ wide o → w ≤ 8
-wide-small w o e = let h = wide-bound o in omega arith
-
-pub ruleset wide-laws = (wide-flag, wide-four, wide-eight, wide-number, wide-text)
-
--- the worst of a list of operands, one more at a time
-worse-worse : (a b c : Fault) → worseOf (worseOf a b) c ≡ worseOf a (worseOf b c)
-worse-worse Fine b c = refl
-worse-worse Outside b c = refl
-worse-worse Missing Fine c = refl
-worse-worse Missing Outside c = refl
-worse-worse Missing Missing Fine = refl
-worse-worse Missing Missing Outside = refl
-worse-worse Missing Missing Missing = refl
-worse-worse Missing Missing Flag = refl
-worse-worse Missing Flag Fine = refl
-worse-worse Missing Flag Outside = refl
-worse-worse Missing Flag Missing = refl
-worse-worse Missing Flag Flag = refl
-worse-worse Flag Fine c = refl
-worse-worse Flag Outside c = refl
-worse-worse Flag Missing Fine = refl
-worse-worse Flag Missing Outside = refl
-worse-worse Flag Missing Missing = refl
-worse-worse Flag Missing Flag = refl
-worse-worse Flag Flag Fine = refl
-worse-worse Flag Flag Outside = refl
-worse-worse Flag Flag Missing = refl
-worse-worse Flag Flag Flag = refl
-
+-- the operands of a command, one after the other
 worse-fine : (a : Fault) → worseOf a Fine ≡ a
 worse-fine Fine = refl
 worse-fine Outside = refl
 worse-fine Missing = refl
 worse-fine Flag = refl
 
-module _ (side : Side) (n : ℕ) (x os : Str) where
-  pub record Faulting (worst : Fault) (at i : ℕ) : Type 0 where
-    pub so-far : faultsFrom side n x 1 os ≡ worseOf worst (faultsFrom side n x at (drop i os))
-    pub bound : at ≤ 1 + 8 * i
-    pub inside : i ≤ length os
+module _ (side : Side) (n : ℕ) (x : Str) (i : ℕ) where
+  pub operand-then : (o : ℕ) (os : Str) (r q v : Fault) → r ≡ operandFault side n x i o → q ≡ faultsFrom side n x (i + wide o) os → v ≡ worseOf r q → v ≡ faultsFrom side n x i (o ∷ os)
+  unfolding faultsFrom
+  operand-then o os r q v e f g = rw (g, e, f)
 
-  pub faults-begin : Faulting Fine 1 0
-  faults-begin = record { so-far = refl; bound = omega arith; inside = omega arith }
+  pub operand-alone : (o : ℕ) (r : Fault) → r ≡ operandFault side n x i o → r ≡ faultsFrom side n x i (o ∷ [])
+  unfolding faultsFrom
+  operand-alone o r e = e ∙ sym (worse-fine (operandFault side n x i o))
 
-  module _ (worst : Fault) (at i : ℕ) (f : Faulting worst at i) where
-    pub faults-more : (r v : Fault) (w : ℕ) → i < length os → r ≡ operandFault side n x at (getD os i 0) → v ≡ worseOf worst r → w ≡ wide (getD os i 0) → Faulting v (at + w) (i + 1)
-    unfolding faultsFrom
-    faults-more r v w h e g l =
-        let b = f .bound in
-        let z = wide-bound (getD os i 0) in
-        record {
-          so-far =
-              f .so-far
-              ∙ ap (λ (y : Str). worseOf worst (faultsFrom side n x at y)) (drop-cons os i 0 h)
-              ∙ sym (worse-worse worst (operandFault side n x at (getD os i 0)) (faultsFrom side n x (at + wide (getD os i 0)) (drop (suc i) os)))
-              ∙ rw (← e, ← g, ← l, add-one i);
-          bound = omega (arith, z, l);
-          inside = omega arith;
-        }
+  -- four bytes and eight bytes are never at fault
+  pub skip-four : (os : Str) (q : Fault) → q ≡ faultsFrom side n x (i + 4) os → q ≡ faultsFrom side n x i (87 ∷ os)
+  unfolding faultsFrom operandFault wide
+  skip-four os q f = f
 
-    pub faults-all : length os ≤ i → worst ≡ faultsFrom side n x 1 os
-    unfolding faultsFrom
-    faults-all h = sym (f .so-far ∙ ap (λ (y : Str). worseOf worst (faultsFrom side n x at y)) (drop-of-length-le os h) ∙ worse-fine worst)
+  pub skip-eight : (os : Str) (q : Fault) → q ≡ faultsFrom side n x (i + 8) os → q ≡ faultsFrom side n x i (86 ∷ os)
+  unfolding faultsFrom operandFault wide
+  skip-eight os q f = f
+
+  pub operand-word : (r : Fault) → r ≡ operandFault side n x i 84 → r ≡ faultsFrom side n x i (84 ∷ 87 ∷ [])
+  unfolding faultsFrom operandFault
+  operand-word r e = e ∙ sym (worse-fine (operandFault side n x i 84))
+
+pub faults-unknown : (side : Side) (n : ℕ) (x : Str) (b : ℕ) → (b ≡ 1 → ⊥) → (b ≡ 2 → ⊥) → (b ≡ 3 → ⊥) → (b ≡ 4 → ⊥) → (b ≡ 5 → ⊥) → (b ≡ 6 → ⊥) → (b ≡ 7 → ⊥) → (b ≡ 8 → ⊥) → (b ≡ 9 → ⊥) → (b ≡ 10 → ⊥) → (b ≡ 11 → ⊥) → (b ≡ 12 → ⊥) → (b ≡ 13 → ⊥) → (b ≡ 14 → ⊥) → (b ≡ 15 → ⊥) → Fine ≡ faultsOf side n x (operands b)
+unfolding faultsOf
+faults-unknown side n x b h1 h2 h3 h4 h5 h6 h7 h8 h9 h10 h11 h12 h13 h14 h15 = rw (none-operands b h1 h2 h3 h4 h5 h6 h7 h8 h9 h10 h11 h12 h13 h14 h15)
 
 -- the rules of place
 module _ (c : Cursor) (a b : ℕ) where
@@ -211,6 +148,16 @@ module _ (c : Cursor) (a b : ℕ) where
   follows-second e = rw (ne-eqb (c .last) a e)
 
 pub ruleset follows-laws = (follows-first, follows-second)
+
+-- the row of a number
+module _ (c : Cursor) (b : ℕ) where
+  pub row-known : (k w : ℕ) (t u : Bool) (r : Row) → widthOf k ≡ w → mayStand c k ≡ u → b ≡ k → t ≡ u → r ≡ rowOf w t → r ≡ rowAt c b
+  unfolding rowAt
+  row-known k w t u r ew eu e et er = rw (er, e, ew, eu, et)
+
+  pub row-other : (t : Bool) (r : Row) → (b ≡ 1 → ⊥) → (b ≡ 2 → ⊥) → (b ≡ 3 → ⊥) → (b ≡ 4 → ⊥) → (b ≡ 5 → ⊥) → (b ≡ 6 → ⊥) → (b ≡ 7 → ⊥) → (b ≡ 8 → ⊥) → (b ≡ 9 → ⊥) → (b ≡ 10 → ⊥) → (b ≡ 11 → ⊥) → (b ≡ 12 → ⊥) → (b ≡ 13 → ⊥) → (b ≡ 14 → ⊥) → (b ≡ 15 → ⊥) → t ≡ not (eqb (c .last) 0) → r ≡ rowOf 0 t → r ≡ rowAt c b
+  unfolding rowAt mayStand
+  row-other t r h1 h2 h3 h4 h5 h6 h7 h8 h9 h10 h11 h12 h13 h14 h15 et er = rw (er, et, ← none-width b h1 h2 h3 h4 h5 h6 h7 h8 h9 h10 h11 h12 h13 h14 h15, ne-eqb b 1 h1, ne-eqb b 5 h5, ne-eqb b 7 h7, ne-eqb b 10 h10, ne-eqb b 11 h11, ne-eqb b 12 h12)
 
 module _ (p : Parent) (b : ℕ) where
   pub after-struct : b ≡ 8 → InStruct ≡ parentAfter p b
@@ -255,52 +202,63 @@ module _ (s : Str) (c : Cursor) (b w : ℕ) where
 
 pub ruleset ready-laws = (ready-done, ready-more, ready-next)
 
--- the judgement by operands, width and place
-module _ (side : Side) (s : Str) (n : ℕ) (c : Cursor) (os : Str) (w : ℕ) (stands : Bool) where
-  pub with-cut : length s - c .at < w → Refused R.Cut (c .at) ≡ judgedWith side s n c os w stands
-  unfolding judgedWith
-  with-cut h = rw (lt-ltb (length s - c .at) w h)
+-- a whole command that may stand where it does, by its operands
+module _ (side : Side) (s : Str) (n : ℕ) (c : Cursor) (b w : ℕ) (f : Fault) (e : f ≡ faultsOf side n (take (length s - c .at) (drop (c .at) s)) (operands b)) where
+  fault-is : faultsOf side n (drop (c .at) s) (operands b) ≡ f
+  fault-is = ap (λ (y : Str). faultsOf side n y (operands b)) (sym (take-all (length s - c .at) (drop (c .at) s) (rw length-drop (omega arith)))) ∙ sym e
 
-  module _ (h : w ≤ length s - c .at) where
-    pub with-misplaced : stands ≡ false → Refused R.Misplaced (c .at) ≡ judgedWith side s n c os w stands
-    unfolding judgedWith
-    with-misplaced t = rw (le-ltb (length s - c .at) w h, t)
+  pub fault-outside : f ≡ Outside → Refused R.Outside (c .at) ≡ faulted (c .at) (ready s c b w) (faultsOf side n (drop (c .at) s) (operands b))
+  fault-outside g = rw (fault-is, g)
 
-    module _ (t : stands ≡ true) (f : Fault) (e : f ≡ faultsFrom side n (take (length s - c .at) (drop (c .at) s)) 1 os) where
-      fault-is : faultsFrom side n (drop (c .at) s) 1 os ≡ f
-      fault-is = ap (λ (y : Str). faultsFrom side n y 1 os) (sym (take-all (length s - c .at) (drop (c .at) s) (rw length-drop (omega arith)))) ∙ sym e
+  pub fault-missing : f ≡ Missing → Refused R.Missing (c .at) ≡ faulted (c .at) (ready s c b w) (faultsOf side n (drop (c .at) s) (operands b))
+  fault-missing g = rw (fault-is, g)
 
-      pub with-outside : f ≡ Outside → Refused R.Outside (c .at) ≡ judgedWith side s n c os w stands
-      unfolding judgedWith
-      with-outside g = rw (le-ltb (length s - c .at) w h, t, fault-is, g)
+  pub fault-flag : f ≡ Flag → Refused R.Flag (c .at) ≡ faulted (c .at) (ready s c b w) (faultsOf side n (drop (c .at) s) (operands b))
+  fault-flag g = rw (fault-is, g)
 
-      pub with-missing : f ≡ Missing → Refused R.Missing (c .at) ≡ judgedWith side s n c os w stands
-      unfolding judgedWith
-      with-missing g = rw (le-ltb (length s - c .at) w h, t, fault-is, g)
+  pub fault-none : (r : Judged) → f ≡ Fine → r ≡ ready s c b w → r ≡ faulted (c .at) (ready s c b w) (faultsOf side n (drop (c .at) s) (operands b))
+  fault-none r g q = rw (fault-is, g) q
 
-      pub with-flag : f ≡ Flag → Refused R.Flag (c .at) ≡ judgedWith side s n c os w stands
-      unfolding judgedWith
-      with-flag g = rw (le-ltb (length s - c .at) w h, t, fault-is, g)
+pub ruleset fault-laws = (fault-outside, fault-missing, fault-flag, fault-none)
 
-      pub with-fine : (r : Judged) → f ≡ Fine → r ≡ ready s c (getD s (c .at) 0) w → r ≡ judgedWith side s n c os w stands
-      unfolding judgedWith
-      with-fine r g q = rw (le-ltb (length s - c .at) w h, t, fault-is, g) q
-
-pub ruleset with-laws = (with-cut, with-misplaced, with-outside, with-missing, with-flag, with-fine)
-
--- the judgement by the command's number
+-- the judgement by the command's row
 module _ (side : Side) (s : Str) (n : ℕ) (c : Cursor) where
   pub judged-past : length s ≤ c .at → Refused R.Cut (c .at) ≡ judgedAt side s n c
   unfolding judgedAt
   judged-past h = rw (le-ltb (c .at) (length s) h)
 
-  module _ (h : c .at < length s) where
-    pub judged-none : operands (getD s (c .at) 0) ≡ none → Refused R.Unknown (c .at) ≡ judgedAt side s n c
-    unfolding judgedAt
-    judged-none e = rw (lt-ltb (c .at) (length s) h, e)
+  by-operands : (o : Option Str) → (widthWith o ≡ 0 → ⊥) → judgedAs side s n c (getD s (c .at) 0) o ≡ cond (ltb (length s - c .at) (widthWith o)) (Refused R.Cut (c .at)) (cond (mayStand c (getD s (c .at) 0)) (faulted (c .at) (ready s c (getD s (c .at) 0) (widthWith o)) (faultsOf side n (drop (c .at) s) o)) (Refused R.Misplaced (c .at)))
+  unfolding judgedWith widthWith faultsOf
+  by-operands none z = absurd (z refl)
+  by-operands (some os) z = refl
 
-    -- a number with its row: the operands, their width, and the rule of place
-    pub judged-row : (k : ℕ) (os : Str) (w : ℕ) (t u : Bool) (r : Judged) → operands k ≡ some os → 1 + widths os ≡ w → mayStand c k ≡ u
-        → getD s (c .at) 0 ≡ k → t ≡ u → r ≡ judgedWith side s n c os w t → r ≡ judgedAt side s n c
+  no-operands : (o : Option Str) → widthWith o ≡ 0 → judgedAs side s n c (getD s (c .at) 0) o ≡ Refused R.Unknown (c .at)
+  unfolding widthWith
+  no-operands none z = refl
+  no-operands (some os) z = absurd (omega (arith, z))
+
+  module _ (h : c .at < length s) (q : Row) (e : q ≡ rowAt c (getD s (c .at) 0)) where
+    width-is : q .width ≡ widthWith (operands (getD s (c .at) 0))
+    unfolding rowAt widthOf
+    width-is = ap (λ (r : Row). r .width) e
+
+    pub judged-unknown : q .width ≡ 0 → Refused R.Unknown (c .at) ≡ judgedAt side s n c
     unfolding judgedAt
-    judged-row k os w t u r eo ew eu e et er = rw (lt-ltb (c .at) (length s) h, e, eo, ew, eu, ← et) er
+    judged-unknown z = rw (lt-ltb (c .at) (length s) h) (sym (no-operands (operands (getD s (c .at) 0)) (sym width-is ∙ z)))
+
+    module _ (z : q .width ≡ 0 → ⊥) where
+      by-row : judgedAt side s n c ≡ cond (ltb (length s - c .at) (q .width)) (Refused R.Cut (c .at)) (cond (q .stands) (faulted (c .at) (ready s c (getD s (c .at) 0) (q .width)) (faultsOf side n (drop (c .at) s) (operands (getD s (c .at) 0)))) (Refused R.Misplaced (c .at)))
+      unfolding rowAt judgedAt
+      by-row = rw (lt-ltb (c .at) (length s) h, ap (λ (r : Row). r .stands) e, width-is) (by-operands (operands (getD s (c .at) 0)) (λ y. z (width-is ∙ y)))
+
+      pub judged-cut : length s - c .at < q .width → Refused R.Cut (c .at) ≡ judgedAt side s n c
+      judged-cut l = rw (by-row, lt-ltb (length s - c .at) (q .width) l)
+
+      pub judged-misplaced : q .width ≤ length s - c .at → q .stands ≡ false → Refused R.Misplaced (c .at) ≡ judgedAt side s n c
+      judged-misplaced l t = rw (by-row, le-ltb (length s - c .at) (q .width) l, t)
+
+      pub judged-standing : (r : Judged) → q .width ≤ length s - c .at → q .stands ≡ true
+          → r ≡ faulted (c .at) (ready s c (getD s (c .at) 0) (q .width)) (faultsOf side n (drop (c .at) s) (operands (getD s (c .at) 0))) → r ≡ judgedAt side s n c
+      judged-standing r l t g = rw (by-row, le-ltb (length s - c .at) (q .width) l, t) g
+
+pub ruleset judged-laws = (judged-past, judged-unknown, judged-cut, judged-misplaced, judged-standing)

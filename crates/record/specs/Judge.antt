@@ -8,7 +8,7 @@ use lib.ListN.{getD, length, drop}
 use lib.Dec.{eqb, ltb, leb}
 use Rattle.record.specs.Base.{Str}
 use Rattle.record.specs.Operands.{flagAt, optTextAt}
-use Rattle.record.specs.Commands.{operands, wide, widths, commandOf}
+use Rattle.record.specs.Commands.{operands, wide, widths, widthOf, commandOf}
 use Rattle.record.specs.declared.operands.OptText.{OptText}
 use Rattle.record.specs.declared.operands.OptText.the-variants.{Absent, Given}
 use Rattle.record.specs.declared.command.Parent.{Parent}
@@ -19,6 +19,7 @@ use Rattle.record.specs.declared.refusal.Side.the-variants.{Current, Rel
 use Rattle.record.specs.declared.refusal.Refusal.the-variants as R
 use Rattle.record.specs.declared.judge.Fault.{Fault}
 use Rattle.record.specs.declared.judge.Fault.the-variants.{Fine, Outside, Missing, Flag}
+use Rattle.record.specs.declared.judge.Row.{Row}
 use Rattle.record.specs.declared.judge.Judged.{Judged}
 use Rattle.record.specs.declared.judge.Judged.the-variants.{Next, Done, Refused}
 
@@ -69,6 +70,11 @@ unfoldable pub faultsFrom : Side → ℕ → Str → ℕ → Str → Fault
 faultsFrom side n x i [] = Fine
 faultsFrom side n x i (o ∷ os) = worseOf (operandFault side n x i o) (faultsFrom side n x (i + wide o) os)
 
+-- the fault of a command's operands, which begin at its second byte; nothing where there is no such command
+unfoldable pub faultsOf : Side → ℕ → Str → Option Str → Fault
+faultsOf side n x none = Fine
+faultsOf side n x (some os) = faultsFrom side n x 1 os
+
 -- places ------------------------------------------------------------------------------------------------------------------
 
 abbrev pub isOpen : Parent → Bool
@@ -94,6 +100,13 @@ mayStand c b =
     (cond (eqb b 10) (inFamily (c .parent))
     (cond (eqb b 11) (isOpen (c .parent))
     (cond (eqb b 12) (follows c 11 11) (not (eqb (c .last) 0)))))))
+
+-- the width of a number's command, and whether it may stand at a cursor
+abbrev pub rowOf : ℕ → Bool → Row
+rowOf w t = record { width = w; stands = t }
+
+unfoldable pub rowAt : Cursor → ℕ → Row
+rowAt c b = rowOf (widthOf b) (mayStand c b)
 
 -- 01: only 0A, 0B and 0C leave a structure or a family open
 unfoldable pub parentAfter : Parent → ℕ → Parent

@@ -9,14 +9,14 @@ use crate::operands::flag_at;
 use crate::operands::opt_text_at;
 use crate::refusal::Refusal;
 use crate::refusal::Side;
-use crate::text::Text;
 ghost use mathlib.Core.Path.{_≡_};
 ghost use Prim.Native.Nat.{_≤_, _+_};
-ghost use lib.ListN.{length};
+ghost use lib.ListN.{length, drop};
 ghost use lib.Dec.{eqb};
 ghost use mathlib.Core.Bool.{not};
-ghost use Rattle.record.specs.Commands.{wide};
-ghost use Rattle.record.specs.Judge.{worseOf, ifAbsent, textFault, flagFault, operandFault, faultsFrom, parentAfter, follows, isOpen, inFamily, ready, judgedWith, judgedAt};
+ghost use Rattle.record.specs.Base.{bytes};
+ghost use Rattle.record.specs.Commands.{operands};
+ghost use Rattle.record.specs.Judge.{worseOf, ifAbsent, textFault, flagFault, operandFault, faultsFrom, faultsOf, parentAfter, follows, isOpen, inFamily, rowOf, rowAt, ready, faulted, judgedAt};
 
 // The least refusal among a command's operands, 4 before 5 before 6.
 pub enum Fault {
@@ -24,6 +24,12 @@ pub enum Fault {
     Outside,
     Missing,
     Flag,
+}
+
+// The width of a command, and whether it may stand where it does. No command has the width 0.
+pub struct Row {
+    pub width: usize,
+    pub stands: bool,
 }
 
 pub enum Judged {
@@ -110,33 +116,183 @@ fn operand_fault(side: Side, n: usize, s: &[u8], at: usize, operand: u8) -> Faul
     }
 }
 
-fn width(operand: u8) -> usize
-    ensures { λ r. ⌜ r ≡ wide operand ⌝ }
+// The fault of the operands of each command, one after the other: a loop over their letters would test every letter at every command.
+fn head_faults(side: Side, n: usize, s: &[u8]) -> Fault
+    ensures { λ r. ⌜ r ≡ faultsFrom side n (now (s .entry)) 1 (bytes "!F") ⌝ }
 {
-    match operand {
-        b'F' => 1,
-        b'W' => 4,
-        b'V' => 8,
-        b'N' => 5,
-        _ => 3,
-    }
+    worse(
+        operand_fault(side, n, s, 1, b'!'),
+        operand_fault(side, n, s, 4, b'F'),
+    )
 }
 
-// The fault of a command's operands, which no command has more than eight of.
-fn faults(side: Side, n: usize, s: &[u8], operands: &[u8]) -> Fault
-    requires { ⌜ length (now operands) ≤ 8 ⌝ }
-    ensures { λ r. ⌜ r ≡ faultsFrom side n (now (s .entry)) 1 (now (operands .entry)) ⌝ }
+fn constant_faults(side: Side, n: usize, s: &[u8]) -> Fault
+    ensures { λ r. ⌜ r ≡ faultsFrom side n (now (s .entry)) 1 (bytes "TFV?FO") ⌝ }
 {
-    let mut worst = Fault::Fine;
-    let mut at = 1;
-    let mut i = 0;
-    while i < operands.len() {
-        let operand = operands[i];
-        worst = worse(worst, operand_fault(side, n, s, at, operand));
-        at += width(operand);
-        i += 1;
+    worse(
+        operand_fault(side, n, s, 1, b'T'),
+        worse(
+            operand_fault(side, n, s, 4, b'F'),
+            worse(
+                operand_fault(side, n, s, 13, b'?'),
+                worse(
+                    operand_fault(side, n, s, 16, b'F'),
+                    operand_fault(side, n, s, 17, b'O'),
+                ),
+            ),
+        ),
+    )
+}
+
+fn alias_faults(side: Side, n: usize, s: &[u8]) -> Fault
+    ensures { λ r. ⌜ r ≡ faultsFrom side n (now (s .entry)) 1 (bytes "TT") ⌝ }
+{
+    worse(
+        operand_fault(side, n, s, 1, b'T'),
+        operand_fault(side, n, s, 4, b'T'),
+    )
+}
+
+fn enum_faults(side: Side, n: usize, s: &[u8]) -> Fault
+    ensures { λ r. ⌜ r ≡ faultsFrom side n (now (s .entry)) 1 (bytes "TWFO") ⌝ }
+{
+    worse(
+        operand_fault(side, n, s, 1, b'T'),
+        worse(
+            operand_fault(side, n, s, 8, b'F'),
+            operand_fault(side, n, s, 9, b'O'),
+        ),
+    )
+}
+
+fn value_faults(side: Side, n: usize, s: &[u8]) -> Fault
+    ensures { λ r. ⌜ r ≡ faultsFrom side n (now (s .entry)) 1 (bytes "TVO") ⌝ }
+{
+    worse(
+        operand_fault(side, n, s, 1, b'T'),
+        operand_fault(side, n, s, 12, b'O'),
+    )
+}
+
+fn bitfield_faults(side: Side, n: usize, s: &[u8]) -> Fault
+    ensures { λ r. ⌜ r ≡ faultsFrom side n (now (s .entry)) 1 (bytes "TW!") ⌝ }
+{
+    worse(
+        operand_fault(side, n, s, 1, b'T'),
+        operand_fault(side, n, s, 8, b'!'),
+    )
+}
+
+fn member_faults(side: Side, n: usize, s: &[u8]) -> Fault
+    ensures { λ r. ⌜ r ≡ faultsFrom side n (now (s .entry)) 1 (bytes "TWNO") ⌝ }
+{
+    worse(
+        operand_fault(side, n, s, 1, b'T'),
+        worse(
+            operand_fault(side, n, s, 8, b'N'),
+            operand_fault(side, n, s, 13, b'O'),
+        ),
+    )
+}
+
+fn struct_faults(side: Side, n: usize, s: &[u8]) -> Fault
+    ensures { λ r. ⌜ r ≡ faultsFrom side n (now (s .entry)) 1 (bytes "TOO") ⌝ }
+{
+    worse(
+        operand_fault(side, n, s, 1, b'T'),
+        worse(
+            operand_fault(side, n, s, 4, b'O'),
+            operand_fault(side, n, s, 7, b'O'),
+        ),
+    )
+}
+
+fn family_faults(side: Side, n: usize, s: &[u8]) -> Fault
+    ensures { λ r. ⌜ r ≡ faultsFrom side n (now (s .entry)) 1 (bytes "TTTTOF") ⌝ }
+{
+    worse(
+        operand_fault(side, n, s, 1, b'T'),
+        worse(
+            operand_fault(side, n, s, 4, b'T'),
+            worse(
+                operand_fault(side, n, s, 7, b'T'),
+                worse(
+                    operand_fault(side, n, s, 10, b'T'),
+                    worse(
+                        operand_fault(side, n, s, 13, b'O'),
+                        operand_fault(side, n, s, 16, b'F'),
+                    ),
+                ),
+            ),
+        ),
+    )
+}
+
+// The four numbers of a field.
+fn number_faults(side: Side, n: usize, s: &[u8]) -> Fault
+    ensures { λ r. ⌜ r ≡ faultsFrom side n (now (s .entry)) 13 (bytes "NNNN") ⌝ }
+{
+    worse(
+        operand_fault(side, n, s, 13, b'N'),
+        worse(
+            operand_fault(side, n, s, 18, b'N'),
+            worse(
+                operand_fault(side, n, s, 23, b'N'),
+                operand_fault(side, n, s, 28, b'N'),
+            ),
+        ),
+    )
+}
+
+fn field_faults(side: Side, n: usize, s: &[u8]) -> Fault
+    ensures { λ r. ⌜ r ≡ faultsFrom side n (now (s .entry)) 1 (bytes "TTOONNNN") ⌝ }
+{
+    worse(
+        operand_fault(side, n, s, 1, b'T'),
+        worse(
+            operand_fault(side, n, s, 4, b'T'),
+            worse(
+                operand_fault(side, n, s, 7, b'O'),
+                worse(
+                    operand_fault(side, n, s, 10, b'O'),
+                    number_faults(side, n, s),
+                ),
+            ),
+        ),
+    )
+}
+
+fn key_faults(side: Side, n: usize, s: &[u8]) -> Fault
+    ensures { λ r. ⌜ r ≡ faultsFrom side n (now (s .entry)) 1 (bytes "T!") ⌝ }
+{
+    worse(
+        operand_fault(side, n, s, 1, b'T'),
+        operand_fault(side, n, s, 4, b'!'),
+    )
+}
+
+// The fault of the operands of a command by its number, from the bytes that begin with it.
+fn faults(side: Side, n: usize, s: &[u8], byte: u8) -> Fault
+    ensures { λ r. ⌜ r ≡ faultsOf side n (now (s .entry)) (operands byte) ⌝ }
+{
+    match byte {
+        1 => head_faults(side, n, s),
+        2 => constant_faults(side, n, s),
+        3 => alias_faults(side, n, s),
+        4 => enum_faults(side, n, s),
+        5 => value_faults(side, n, s),
+        6 => bitfield_faults(side, n, s),
+        7 => member_faults(side, n, s),
+        8 => struct_faults(side, n, s),
+        9 => family_faults(side, n, s),
+        10 => operand_fault(side, n, s, 1, b'T'),
+        11 => field_faults(side, n, s),
+        12 => key_faults(side, n, s),
+        13 => key_faults(side, n, s),
+        14 => operand_fault(side, n, s, 1, b'T'),
+        15 => Fault::Fine,
+        0 | 16..=255 => Fault::Fine,
     }
-    worst
 }
 
 // What is open after a command of this number: fields, variants and plugin keys leave it as it is.
@@ -151,6 +307,12 @@ fn parent_after(parent: Parent, byte: u8) -> Parent
         12 => parent,
         _ => Parent::NoParent,
     }
+}
+
+fn takes(width: usize, stands: bool) -> Row
+    ensures { λ r. ⌜ r ≡ rowOf width stands ⌝ }
+{
+    Row { width, stands }
 }
 
 impl Cursor {
@@ -223,38 +385,47 @@ impl Cursor {
         )
     }
 
-    // The command at the cursor by its operands, its width and whether it may stand here: 1, then 3, then 4, 5 and 6.
-    fn judge(
-        self,
-        side: Side,
-        stream: &[u8],
-        pool: &[u8],
-        operands: &[u8],
-        width: usize,
-        stands: bool,
-    ) -> Judged
-        requires { ⌜ (length (now operands) ≤ 8) × (self .at + 1 ≤ length (now stream)) ⌝ }
-        ensures { λ r. ⌜ r ≡ judgedWith side (now (stream .entry)) (length (now (pool .entry))) self (now (operands .entry)) width stands ⌝ }
+    // The command byte decides: each number has its fixed width and its rule of place.
+    fn row(self, byte: u8) -> Row
+        ensures { λ r. ⌜ r ≡ rowAt self byte ⌝ }
     {
-        let at = self.at;
-        let byte = stream[at];
-        if stream.len() - at < width {
-            return Judged::Refused(Refusal::Cut, at);
-        }
-        if stands {
-            match faults(side, pool.len(), &stream[at..], operands) {
-                Fault::Outside => Judged::Refused(Refusal::Outside, at),
-                Fault::Missing => Judged::Refused(Refusal::Missing, at),
-                Fault::Flag => Judged::Refused(Refusal::Flag, at),
-                Fault::Fine => self.ready(stream, byte, width),
-            }
-        } else {
-            Judged::Refused(Refusal::Misplaced, at)
+        match byte {
+            1 => takes(5, self.first()),
+            2 => takes(20, self.begun()),
+            3 => takes(7, self.begun()),
+            4 => takes(12, self.begun()),
+            5 => takes(15, self.after(4, 5)),
+            6 => takes(11, self.begun()),
+            7 => takes(16, self.after(6, 7)),
+            8 => takes(10, self.begun()),
+            9 => takes(17, self.begun()),
+            10 => takes(4, self.in_family()),
+            11 => takes(33, self.in_type()),
+            12 => takes(7, self.after(11, 11)),
+            13 => takes(7, self.begun()),
+            14 => takes(8, self.begun()),
+            15 => takes(1, self.begun()),
+            0 => takes(0, self.begun()),
+            16..=255 => takes(0, self.begun()),
         }
     }
 
-    // The command at the cursor with the cursor after it, or the refusal and its place. The command byte decides: each number has its operands,
-    // their fixed width with it, and its rule of place.
+    // A whole command that may stand here, by its operands: 4, 5 and 6.
+    fn judge(self, side: Side, stream: &[u8], pool: &[u8], byte: u8, width: usize) -> Judged
+        requires { ⌜ self .at + width ≤ length (now stream) ⌝ }
+        ensures { λ r. ⌜ r ≡ faulted (self .at) (ready (now (stream .entry)) self byte width) (faultsOf side (length (now (pool .entry))) (drop (self .at) (now (stream .entry))) (operands byte)) ⌝ }
+    {
+        let at = self.at;
+        match faults(side, pool.len(), &stream[at..], byte) {
+            Fault::Outside => Judged::Refused(Refusal::Outside, at),
+            Fault::Missing => Judged::Refused(Refusal::Missing, at),
+            Fault::Flag => Judged::Refused(Refusal::Flag, at),
+            Fault::Fine => self.ready(stream, byte, width),
+        }
+    }
+
+    // The command at the cursor with the cursor after it, or the refusal and its place: 2, then 1, then 3, then those of its operands. All of it is in
+    // one place for every number, so that a caller who drops the command does not pay for it.
     pub fn judged(self, side: Side, stream: &[u8], pool: &[u8]) -> Judged
         ensures { λ r. ⌜ r ≡ judgedAt side (now (stream .entry)) (length (now (pool .entry))) self ⌝ }
     {
@@ -263,23 +434,17 @@ impl Cursor {
             return Judged::Refused(Refusal::Cut, at);
         }
         let byte = stream[at];
-        match byte {
-            1 => self.judge(side, stream, pool, b"!F", 5, self.first()),
-            2 => self.judge(side, stream, pool, b"TFV?FO", 20, self.begun()),
-            3 => self.judge(side, stream, pool, b"TT", 7, self.begun()),
-            4 => self.judge(side, stream, pool, b"TWFO", 12, self.begun()),
-            5 => self.judge(side, stream, pool, b"TVO", 15, self.after(4, 5)),
-            6 => self.judge(side, stream, pool, b"TW!", 11, self.begun()),
-            7 => self.judge(side, stream, pool, b"TWNO", 16, self.after(6, 7)),
-            8 => self.judge(side, stream, pool, b"TOO", 10, self.begun()),
-            9 => self.judge(side, stream, pool, b"TTTTOF", 17, self.begun()),
-            10 => self.judge(side, stream, pool, b"T", 4, self.in_family()),
-            11 => self.judge(side, stream, pool, b"TTOONNNN", 33, self.in_type()),
-            12 => self.judge(side, stream, pool, b"T!", 7, self.after(11, 11)),
-            13 => self.judge(side, stream, pool, b"T!", 7, self.begun()),
-            14 => self.judge(side, stream, pool, b"TW", 8, self.begun()),
-            15 => self.judge(side, stream, pool, b"", 1, self.begun()),
-            0 | 16..=255 => Judged::Refused(Refusal::Unknown, at),
+        let row = self.row(byte);
+        let width = row.width;
+        if width == 0 {
+            return Judged::Refused(Refusal::Unknown, at);
         }
+        if stream.len() - at < width {
+            return Judged::Refused(Refusal::Cut, at);
+        }
+        if row.stands {
+            return self.judge(side, stream, pool, byte, width);
+        }
+        Judged::Refused(Refusal::Misplaced, at)
     }
 }

@@ -1,75 +1,197 @@
-use native.Mathlib.Omega.{arith}
-use Prim.Native.Nat.{_-_}
-use lib.ListN.{length}
-use Rattle.record.proofs.JudgeLaws.{Faulting, faults-begin, faults-more, faults-all, wide-small}
+use Rattle.record.specs.Base.{bytes}
+use Rattle.record.specs.Commands.{operands}
+use Rattle.record.specs.Judge.{faultsFrom, faultsOf}
+use Rattle.record.proofs.JudgeLaws.{operand-alone, operand-word, faults-unknown}
 use borrow.Author.Needs.{needs}
 use Rattle.record.proofs.judge.faults.Statement.{statement}
 use Rattle.record.proofs.judge.faults.Tie as tie
 use Rattle.record.proofs.judge.faults.Reads as reads
 use Rattle.record.proofs.judge.faults.Lts as lts
+use Rattle.record.proofs.judge.alias_faults.Reads as alias-faults-reads
+use Rattle.record.proofs.judge.bitfield_faults.Reads as bitfield-faults-reads
+use Rattle.record.proofs.judge.constant_faults.Reads as constant-faults-reads
+use Rattle.record.proofs.judge.enum_faults.Reads as enum-faults-reads
+use Rattle.record.proofs.judge.family_faults.Reads as family-faults-reads
+use Rattle.record.proofs.judge.field_faults.Reads as field-faults-reads
+use Rattle.record.proofs.judge.head_faults.Reads as head-faults-reads
+use Rattle.record.proofs.judge.key_faults.Reads as key-faults-reads
+use Rattle.record.proofs.judge.member_faults.Reads as member-faults-reads
 use Rattle.record.proofs.judge.operand_fault.Reads as operand-fault-reads
-use Rattle.record.proofs.judge.width.Reads as width-reads
-use Rattle.record.proofs.judge.worse.Reads as worse-reads
+use Rattle.record.proofs.judge.struct_faults.Reads as struct-faults-reads
+use Rattle.record.proofs.judge.value_faults.Reads as value-faults-reads
 
-abbrev Inv-loop : tie.InvT-loop
-Inv-loop side n s operands worst₀ at₀ i₀ worst at i = Faulting side n s operands worst at i
+-- src/judge.rt:279:14
+head-faults-requires : tie.Need-head-faults-requires
+head-faults-requires c κs = search needs
 
-abbrev μ-loop : tie.MeasureT-loop
-μ-loop side n s operands worst₀ at₀ i₀ worst at i = length operands - i
+-- src/judge.rt:280:14
+constant-faults-requires : tie.Need-constant-faults-requires
+constant-faults-requires c κs = search needs
 
--- src/judge.rt:129:5
-loop-holds : tie.Need-loop-holds Inv-loop μ-loop
-loop-holds c = search faults-begin
+-- src/judge.rt:281:14
+alias-faults-requires : tie.Need-alias-faults-requires
+alias-faults-requires c κs = search needs
 
--- src/judge.rt:130:23
-shared-slice-read-operand : tie.Need-shared-slice-read-operand Inv-loop μ-loop
-shared-slice-read-operand c = search needs
+-- src/judge.rt:282:14
+enum-faults-requires : tie.Need-enum-faults-requires
+enum-faults-requires c κs = search needs
 
--- src/judge.rt:131:30
-operand-fault-requires : tie.Need-operand-fault-requires Inv-loop μ-loop
+-- src/judge.rt:283:14
+value-faults-requires : tie.Need-value-faults-requires
+value-faults-requires c κs = search needs
+
+-- src/judge.rt:284:14
+bitfield-faults-requires : tie.Need-bitfield-faults-requires
+bitfield-faults-requires c κs = search needs
+
+-- src/judge.rt:285:14
+member-faults-requires : tie.Need-member-faults-requires
+member-faults-requires c κs = search needs
+
+-- src/judge.rt:286:14
+struct-faults-requires : tie.Need-struct-faults-requires
+struct-faults-requires c κs = search needs
+
+-- src/judge.rt:287:14
+family-faults-requires : tie.Need-family-faults-requires
+family-faults-requires c κs = search needs
+
+-- src/judge.rt:288:15
+operand-fault-requires : tie.Need-operand-fault-requires
 operand-fault-requires c κs = search needs
 
--- src/judge.rt:131:9
-worse-requires : tie.Need-worse-requires Inv-loop μ-loop
-worse-requires c κs = search needs
+-- src/judge.rt:289:15
+field-faults-requires : tie.Need-field-faults-requires
+field-faults-requires c κs = search needs
 
--- src/judge.rt:132:15
-width-requires : tie.Need-width-requires Inv-loop μ-loop
-width-requires c κs = search needs
+-- src/judge.rt:290:15
+key-faults-requires : tie.Need-key-faults-requires
+key-faults-requires c κs = search needs
 
--- src/judge.rt:132:9
-add-at : tie.Need-add-at Inv-loop μ-loop
-add-at c = let h = wide-small _ _ (c .width .ensures) in omega arith
+-- src/judge.rt:291:15
+key-faults-requires-2 : tie.Need-key-faults-requires-2
+key-faults-requires-2 c κs = search needs
 
--- src/judge.rt:133:9
-add-i : tie.Need-add-i Inv-loop μ-loop
-add-i c = search needs
+-- src/judge.rt:292:15
+operand-fault-requires-2 : tie.Need-operand-fault-requires-2
+operand-fault-requires-2 c κs = search needs
 
--- src/judge.rt:129:5
-loop-less : tie.Need-loop-less Inv-loop μ-loop
-loop-less c = search needs
+-- src/judge.rt:275:1
+returns : tie.Need-returns
+unfolding faultsOf operands
+returns c = rw (c .before .match .keys1) (c .head-faults .ensures)
 
--- src/judge.rt:129:5
-loop-again : tie.Need-loop-again Inv-loop μ-loop
-loop-again c = search faults-more
+-- src/judge.rt:275:1
+returns-2 : tie.Need-returns-2
+unfolding faultsOf operands
+returns-2 c = rw (c .before .match .keys2) (c .constant-faults .ensures)
 
--- src/judge.rt:122:1
-returns : tie.Need-returns Inv-loop μ-loop
-returns c = search faults-all
+-- src/judge.rt:275:1
+returns-3 : tie.Need-returns-3
+unfolding faultsOf operands
+returns-3 c = rw (c .before .match .keys3) (c .alias-faults .ensures)
+
+-- src/judge.rt:275:1
+returns-4 : tie.Need-returns-4
+unfolding faultsOf operands
+returns-4 c = rw (c .before .match .keys4) (c .enum-faults .ensures)
+
+-- src/judge.rt:275:1
+returns-5 : tie.Need-returns-5
+unfolding faultsOf operands
+returns-5 c = rw (c .before .match .keys5) (c .value-faults .ensures)
+
+-- src/judge.rt:275:1
+returns-6 : tie.Need-returns-6
+unfolding faultsOf operands
+returns-6 c = rw (c .before .match .keys6) (c .bitfield-faults .ensures)
+
+-- src/judge.rt:275:1
+returns-7 : tie.Need-returns-7
+unfolding faultsOf operands
+returns-7 c = rw (c .before .match .keys7) (c .member-faults .ensures)
+
+-- src/judge.rt:275:1
+returns-8 : tie.Need-returns-8
+unfolding faultsOf operands
+returns-8 c = rw (c .before .match .keys8) (c .struct-faults .ensures)
+
+-- src/judge.rt:275:1
+returns-9 : tie.Need-returns-9
+unfolding faultsOf operands
+returns-9 c = rw (c .before .match .keys9) (c .family-faults .ensures)
+
+-- src/judge.rt:275:1
+returns-10 : tie.Need-returns-10
+unfolding faultsOf operands bytes
+returns-10 c = rw (c .before .match .keys10) (operand-alone _ _ _ _ _ _ (c .operand-fault .ensures))
+
+-- src/judge.rt:275:1
+returns-11 : tie.Need-returns-11
+unfolding faultsOf operands
+returns-11 c = rw (c .before .match .keys11) (c .field-faults .ensures)
+
+-- src/judge.rt:275:1
+returns-12 : tie.Need-returns-12
+unfolding faultsOf operands
+returns-12 c = rw (c .before .match .keys12) (c .key-faults .ensures)
+
+-- src/judge.rt:275:1
+returns-13 : tie.Need-returns-13
+unfolding faultsOf operands
+returns-13 c = rw (c .before .match .keys13) (c .key-faults2 .ensures)
+
+-- src/judge.rt:275:1
+returns-14 : tie.Need-returns-14
+unfolding faultsOf operands bytes
+returns-14 c = rw (c .before .match .keys14) (operand-word _ _ _ _ _ (c .operand-fault2 .ensures))
+
+-- src/judge.rt:275:1
+returns-15 : tie.Need-returns-15
+unfolding faultsOf faultsFrom operands bytes
+returns-15 c = rw (c .match .keys15)
+
+-- src/judge.rt:275:1
+returns-16 : tie.Need-returns-16
+unfolding faultsOf operands
+returns-16 c = rw (c .match .keys16)
+
+-- src/judge.rt:275:1
+returns-17 : tie.Need-returns-17
+returns-17 c = search faults-unknown
 
 pub faults-spec : {M : Type 1} → statement M
 faults-spec =
     tie.close
     (tie.spec
-    Inv-loop
-    μ-loop
-    loop-holds
-    shared-slice-read-operand
+    head-faults-requires
+    constant-faults-requires
+    alias-faults-requires
+    enum-faults-requires
+    value-faults-requires
+    bitfield-faults-requires
+    member-faults-requires
+    struct-faults-requires
+    family-faults-requires
     operand-fault-requires
-    worse-requires
-    width-requires
-    add-at
-    add-i
-    loop-less
-    loop-again
-    returns)
+    field-faults-requires
+    key-faults-requires
+    key-faults-requires-2
+    operand-fault-requires-2
+    returns
+    returns-2
+    returns-3
+    returns-4
+    returns-5
+    returns-6
+    returns-7
+    returns-8
+    returns-9
+    returns-10
+    returns-11
+    returns-12
+    returns-13
+    returns-14
+    returns-15
+    returns-16
+    returns-17)

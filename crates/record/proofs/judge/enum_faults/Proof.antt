@@ -1,0 +1,46 @@
+use Rattle.record.specs.Base.{bytes}
+use Rattle.record.specs.Commands.{wide}
+use Rattle.record.proofs.JudgeLaws.{operand-then, operand-alone, skip-four}
+use borrow.Author.Needs.{needs}
+use Rattle.record.proofs.judge.enum_faults.Statement.{statement}
+use Rattle.record.proofs.judge.enum_faults.Tie as tie
+use Rattle.record.proofs.judge.enum_faults.Reads as reads
+use Rattle.record.proofs.judge.enum_faults.Lts as lts
+use Rattle.record.proofs.judge.operand_fault.Reads as operand-fault-reads
+use Rattle.record.proofs.judge.worse.Reads as worse-reads
+
+-- src/judge.rt:160:9
+operand-fault-requires : tie.Need-operand-fault-requires
+operand-fault-requires c κs = search needs
+
+-- src/judge.rt:162:13
+operand-fault-requires-2 : tie.Need-operand-fault-requires-2
+operand-fault-requires-2 c κs = search needs
+
+-- src/judge.rt:163:13
+operand-fault-requires-3 : tie.Need-operand-fault-requires-3
+operand-fault-requires-3 c κs = search needs
+
+-- src/judge.rt:161:9
+worse-requires : tie.Need-worse-requires
+worse-requires c κs = search needs
+
+-- src/judge.rt:159:5
+worse-requires-2 : tie.Need-worse-requires-2
+worse-requires-2 c κs = search needs
+
+-- src/judge.rt:156:1
+returns : tie.Need-returns
+unfolding bytes wide
+returns c = operand-then _ _ _ _ _ _ _ _ _ (c .before .before .before .before .operand-fault .ensures) (skip-four _ _ _ _ _ _ (operand-then _ _ _ _ _ _ _ _ _ (c .before .before .before .operand-fault2 .ensures) (operand-alone _ _ _ _ _ _ (c .before .before .operand-fault3 .ensures)) (c .before .worse .ensures))) (c .worse2 .ensures)
+
+pub enum-faults-spec : {M : Type 1} → statement M
+enum-faults-spec =
+    tie.close
+    (tie.spec
+    operand-fault-requires
+    operand-fault-requires-2
+    operand-fault-requires-3
+    worse-requires
+    worse-requires-2
+    returns)
