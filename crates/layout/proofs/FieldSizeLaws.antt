@@ -12,7 +12,6 @@ use Rattle.record.specs.Commands.{operands, wide, widths, widthWith, widthOf, f
 use Rattle.record.specs.Lists.{fieldOf}
 use Rattle.record.specs.Shapes.{shapeSize, capped}
 use Rattle.record.specs.Reading.{Rec, schemaOf}
-use Rattle.record.specs.declared.command as D
 use Rattle.record.specs.declared.command.Cursor.{Cursor}
 use Rattle.record.specs.declared.command.Command.{Command}
 use Rattle.record.specs.declared.command.Step.the-variants.{Next}
@@ -54,7 +53,7 @@ module _ (r : Rec) (o t : List ℕ) (from : ℕ) (z : Sizing r o t from) (g : So
       go (inl n) = absurd (List·Memᴰ·not-nil (rw (i .list ∙ ap (placesLeft (r .stream) Anything 11) m) at n))
       go (inr e) = e .1
 
-  module _ (a k : ℕ) (m : g ≡ At a k) (y : List ℕ) (f : D.Field.Field) (d : y ≡ drop a (r .stream)) (h : f ≡ fieldAt y) where
+  module _ (a k : ℕ) (m : g ≡ At a k) (y : List ℕ) (d : y ≡ drop a (r .stream)) where
     stands : Standing (r .stream) 11 from a k
     stands = sought-stands (r .stream) Anything 11 from g i a k m
 
@@ -62,11 +61,11 @@ module _ (r : Rec) (o t : List ℕ) (from : ℕ) (z : Sizing r o t from) (g : So
     unfolding widthOf widthWith operands widths wide bytes
     after = stands .after
 
-    size-is : (x : ℕ) → x ≡ capped (shapeSize (schemaOf r) (fieldOf (r .pool) f none)) → x ≡ fieldSize r a
+    size-is : (x : ℕ) → x ≡ capped (shapeSize (schemaOf r) (fieldOf (r .pool) (fieldAt y) none)) → x ≡ fieldSize r a
     unfolding fieldSize
-    size-is x e = e ∙ ap (λ (v : D.Field.Field). capped (shapeSize (schemaOf r) (fieldOf (r .pool) v none))) (h ∙ ap fieldAt d)
+    size-is x e = e ∙ ap (λ (v : List ℕ). capped (shapeSize (schemaOf r) (fieldOf (r .pool) (fieldAt v) none))) d
 
-    pub sizing-field : (x : ℕ) (u : List ℕ) → x ≡ capped (shapeSize (schemaOf r) (fieldOf (r .pool) f none)) → u ≡ set t (k / 33) x → Sizing r o u k
+    pub sizing-field : (x : ℕ) (u : List ℕ) → x ≡ capped (shapeSize (schemaOf r) (fieldOf (r .pool) (fieldAt y) none)) → u ≡ set t (k / 33) x → Sizing r o u k
     sizing-field x u e s = record { entered = λ small room at n b. go small room at (z .entered small room at n b); long = ap length s ∙ simp length-set (z .long) }
       where
         here : length (r .stream) ≤ 32768 → 993 ≤ length o → (at : ℕ) → List·Memᴰ at (a ∷ placesOf (r .stream) Anything 11 k) → Entered r u k at

@@ -1,10 +1,9 @@
 // The sizes of a record's fields, each computed once, in a table that the caller lends.
-use record::command::field_at;
 use record::cut;
 use record::seek::Between;
 use record::seek::Sought;
 use record::seek::seek;
-use record::sizes::shape_size;
+use record::sizes::field_size;
 ghost use Prim.Native.Nat.{_/_, _≤_};
 ghost use mathlib.Core.Path.{_≡_};
 ghost use lib.ListN.{length, getD, set};
@@ -43,8 +42,11 @@ pub fn fill_sizes(rows: &[u8], stream: &[u8], pool: &[u8], sizes: &mut [u64])
         let Sought::At(place, after) = seek(stream, at, 11, Between::Anything) else {
             return;
         };
-        let f = field_at(cut::from(stream, place));
-        put_size(sizes, after, shape_size(rows, stream, pool, f));
+        put_size(
+            sizes,
+            after,
+            field_size(rows, stream, pool, cut::from(stream, place)),
+        );
         at = after;
     }
 }

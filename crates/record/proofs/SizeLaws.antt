@@ -1,5 +1,5 @@
 -- The cases of the sizes, as the code's branches need them. Assumes nothing.
-use mathlib.Core.Path.{_≡_, refl, sym, ap, _∙_}
+use mathlib.Core.Path.{_≡_, refl, sym, ap, ap₂, _∙_}
 use mathlib.Core.List.{List, []}
 use mathlib.Core.Option.{Option, none, some}
 use mathlib.Core.Bool.{Bool, true, false}
@@ -12,7 +12,8 @@ use Rattle.record.specs.Base.{Str, bytes, orElse, mapOption}
 use Rattle.record.specs.Scalars.{Scalar, primSize}
 use Rattle.record.specs.Schema.{Schema, Key, Enum, Alias, BitField}
 use Rattle.record.specs.Stretch.{textOf}
-use Rattle.record.specs.Commands.{start}
+use Rattle.record.specs.Operands.{textAt, optTextAt, optNumberAt}
+use Rattle.record.specs.Commands.{fieldAt, start}
 use Rattle.record.specs.Lists.{optOf, numberOf, fieldOf}
 use Rattle.record.specs.Steps.{enumIn, enumFound, enumsAt, aliasIn, aliasFound, aliasesAt, bitfieldIn, bitfieldFound, bitfieldsAt}
 use Rattle.record.specs.Kind.{kindOf}
@@ -163,83 +164,93 @@ module _ (w : List Scalar) (p : Str) (t : OptText) where
 
 pub ruleset scalar-laws = (scalar-absent, scalar-given)
 
+-- operands of a field ----------------------------------------------------------------------------------------------------
+
+module _ (b : Str) (at : ℕ) where
+  pub scalar-at-is : (w : List Scalar) (p : Str) (o : OptText) (z y : ℕ) → o ≡ optTextAt b at → z ≡ primSize w (orElse (optOf p o) (bytes "u8")) → y ≡ z
+      → y ≡ primSize w (orElse (optOf p (optTextAt b at)) (bytes "u8"))
+  scalar-at-is w p o z y e g h = rw (← e) (h ∙ g)
+
+  pub number-at-is : (n : OptNumber) (z y : ℕ) → n ≡ optNumberAt b at → z ≡ orElse (numberOf n) 0 → y ≡ z → y ≡ orElse (numberOf (optNumberAt b at)) 0
+  number-at-is n z y e g h = rw (← e) (h ∙ g)
+
 -- a field by its kind ----------------------------------------------------------------------------------------------------
 
-module _ (s p : Str) (w : List Scalar) (f : D.Field.Field) (x : Str) (k : Kind) (e : x ≡ textOf p (f .kind)) (q : k ≡ kindOf x) where
-  shape-is : (m : Kind) → k ≡ m → shapeSize (schemaOf (rec s p w)) (fieldOf p f none) ≡ sizeAs m (schemaOf (rec s p w)) (fieldOf p f none)
+module _ (s p : Str) (w : List Scalar) (b : Str) (t : Text) (x : Str) (k : Kind) (d : t ≡ textAt b 4) (e : x ≡ textOf p t) (q : k ≡ kindOf x) where
+  shape-is : (m : Kind) → k ≡ m → shapeSize (schemaOf (rec s p w)) (fieldOf p (fieldAt b) none) ≡ sizeAs m (schemaOf (rec s p w)) (fieldOf p (fieldAt b) none)
   unfolding shapeSize
-  shape-is m h = rw (← e, ← q, h)
+  shape-is m h = ap (λ (i : Kind). sizeAs i (schemaOf (rec s p w)) (fieldOf p (fieldAt b) none)) (sym (sym h ∙ q ∙ ap kindOf (e ∙ ap (textOf p) d)))
 
-  pub shape-scalar : (z y r : ℕ) → k ≡ K.Scalar → z ≡ primSize w (orElse (optOf p (f .«type_name»)) (bytes "u8")) → y ≡ z → r ≡ capped y → r ≡ capped (shapeSize (schemaOf (rec s p w)) (fieldOf p f none))
+  pub shape-scalar : (y r : ℕ) → k ≡ K.Scalar → y ≡ primSize w (orElse (optOf p (optTextAt b 7)) (bytes "u8")) → r ≡ capped y → r ≡ capped (shapeSize (schemaOf (rec s p w)) (fieldOf p (fieldAt b) none))
   unfolding sizeAs scalarSize schemaOf schemaFrom
-  shape-scalar z y r h a b c = rw (shape-is K.Scalar h, ← a, ← b) c
+  shape-scalar y r h a c = c ∙ ap capped (a ∙ sym (shape-is K.Scalar h))
 
-  pub shape-enum : (z y r : ℕ) → k ≡ K.Enum → z ≡ sized (optOf p (f .«type_name»)) (enumSize (enumsAt s p 0)) 1 → y ≡ z → r ≡ capped y → r ≡ capped (shapeSize (schemaOf (rec s p w)) (fieldOf p f none))
+  pub shape-enum : (o : OptText) (z y r : ℕ) → k ≡ K.Enum → o ≡ optTextAt b 7 → z ≡ sized (optOf p o) (enumSize (enumsAt s p 0)) 1 → y ≡ z → r ≡ capped y → r ≡ capped (shapeSize (schemaOf (rec s p w)) (fieldOf p (fieldAt b) none))
   unfolding sizeAs schemaOf schemaFrom enumsAt
-  shape-enum z y r h a b c = rw (shape-is K.Enum h, ← a, ← b) c
+  shape-enum o z y r h j a v c = c ∙ ap capped (v ∙ a ∙ ap (λ (i : OptText). sized (optOf p i) (enumSize (enumsAt s p 0)) 1) j ∙ sym (shape-is K.Enum h))
 
-  pub shape-alias : (z y r : ℕ) → k ≡ K.TypeAlias → z ≡ sized (optOf p (f .«type_name»)) (aliasSize w (aliasesAt s p 0)) 2 → y ≡ z → r ≡ capped y → r ≡ capped (shapeSize (schemaOf (rec s p w)) (fieldOf p f none))
+  pub shape-alias : (o : OptText) (z y r : ℕ) → k ≡ K.TypeAlias → o ≡ optTextAt b 7 → z ≡ sized (optOf p o) (aliasSize w (aliasesAt s p 0)) 2 → y ≡ z → r ≡ capped y → r ≡ capped (shapeSize (schemaOf (rec s p w)) (fieldOf p (fieldAt b) none))
   unfolding sizeAs schemaOf schemaFrom aliasesAt
-  shape-alias z y r h a b c = rw (shape-is K.TypeAlias h, ← a, ← b) c
+  shape-alias o z y r h j a v c = c ∙ ap capped (v ∙ a ∙ ap (λ (i : OptText). sized (optOf p i) (aliasSize w (aliasesAt s p 0)) 2) j ∙ sym (shape-is K.TypeAlias h))
 
-  pub shape-bitfield : (z y r : ℕ) → k ≡ K.Bitfield → z ≡ sized (optOf p (f .«type_name»)) (bitfieldSize (bitfieldsAt s p 0)) 0 → y ≡ z → r ≡ capped y → r ≡ capped (shapeSize (schemaOf (rec s p w)) (fieldOf p f none))
+  pub shape-bitfield : (o : OptText) (z y r : ℕ) → k ≡ K.Bitfield → o ≡ optTextAt b 7 → z ≡ sized (optOf p o) (bitfieldSize (bitfieldsAt s p 0)) 0 → y ≡ z → r ≡ capped y → r ≡ capped (shapeSize (schemaOf (rec s p w)) (fieldOf p (fieldAt b) none))
   unfolding sizeAs schemaOf schemaFrom bitfieldsAt
-  shape-bitfield z y r h a b c = rw (shape-is K.Bitfield h, ← a, ← b) c
+  shape-bitfield o z y r h j a v c = c ∙ ap capped (v ∙ a ∙ ap (λ (i : OptText). sized (optOf p i) (bitfieldSize (bitfieldsAt s p 0)) 0) j ∙ sym (shape-is K.Bitfield h))
 
-  pub shape-array : (z y c d r : ℕ) → k ≡ K.InlineArray → z ≡ primSize w (orElse (optOf p (f .element)) (bytes "u8")) → y ≡ z → c ≡ orElse (numberOf (f .count)) 0 → d ≡ c → r ≡ capped (y * d) → r ≡ capped (shapeSize (schemaOf (rec s p w)) (fieldOf p f none))
+  pub shape-array : (y n r : ℕ) → k ≡ K.InlineArray → y ≡ primSize w (orElse (optOf p (optTextAt b 10)) (bytes "u8")) → n ≡ orElse (numberOf (optNumberAt b 13)) 0 → r ≡ capped (y * n) → r ≡ capped (shapeSize (schemaOf (rec s p w)) (fieldOf p (fieldAt b) none))
   unfolding sizeAs scalarSize schemaOf schemaFrom
-  shape-array z y c d r h a b g i j = rw (shape-is K.InlineArray h, ← a, ← b, ← g, ← i) j
+  shape-array y n r h a g c = c ∙ ap capped (ap₂ _*_ a g ∙ sym (shape-is K.InlineArray h))
 
-  pub shape-array2d : (r : ℕ) → k ≡ K.InlineArray2d → r ≡ capped (primSize w (orElse (optOf p (f .element)) (bytes "u8")) * orElse (numberOf (f .rows)) 0 * orElse (numberOf (f .cols)) 0) → r ≡ capped (shapeSize (schemaOf (rec s p w)) (fieldOf p f none))
+  pub shape-array2d : (r : ℕ) → k ≡ K.InlineArray2d → r ≡ capped (primSize w (orElse (optOf p (optTextAt b 10)) (bytes "u8")) * orElse (numberOf (optNumberAt b 18)) 0 * orElse (numberOf (optNumberAt b 23)) 0) → r ≡ capped (shapeSize (schemaOf (rec s p w)) (fieldOf p (fieldAt b) none))
   unfolding sizeAs scalarSize schemaOf schemaFrom
-  shape-array2d r h j = rw (shape-is K.InlineArray2d h) j
+  shape-array2d r h c = c ∙ ap capped (sym (shape-is K.InlineArray2d h))
 
-  pub shape-padding : (z y r : ℕ) → k ≡ K.Padding → z ≡ orElse (numberOf (f .size)) 0 → y ≡ z → r ≡ capped y → r ≡ capped (shapeSize (schemaOf (rec s p w)) (fieldOf p f none))
+  pub shape-padding : (y r : ℕ) → k ≡ K.Padding → y ≡ orElse (numberOf (optNumberAt b 28)) 0 → r ≡ capped y → r ≡ capped (shapeSize (schemaOf (rec s p w)) (fieldOf p (fieldAt b) none))
   unfolding sizeAs
-  shape-padding z y r h a b c = rw (shape-is K.Padding h, ← a, ← b) c
+  shape-padding y r h a c = c ∙ ap capped (a ∙ sym (shape-is K.Padding h))
 
-  pub shape-CstrPtr : k ≡ K.CstrPtr → 4 ≡ capped (shapeSize (schemaOf (rec s p w)) (fieldOf p f none))
+  pub shape-CstrPtr : k ≡ K.CstrPtr → 4 ≡ capped (shapeSize (schemaOf (rec s p w)) (fieldOf p (fieldAt b) none))
   unfolding sizeAs
   shape-CstrPtr h = rw (shape-is K.CstrPtr h) (cap-low 4 (omega arith))
 
-  pub shape-StructPtr : k ≡ K.StructPtr → 4 ≡ capped (shapeSize (schemaOf (rec s p w)) (fieldOf p f none))
+  pub shape-StructPtr : k ≡ K.StructPtr → 4 ≡ capped (shapeSize (schemaOf (rec s p w)) (fieldOf p (fieldAt b) none))
   unfolding sizeAs
   shape-StructPtr h = rw (shape-is K.StructPtr h) (cap-low 4 (omega arith))
 
-  pub shape-StructArrayPtr : k ≡ K.StructArrayPtr → 4 ≡ capped (shapeSize (schemaOf (rec s p w)) (fieldOf p f none))
+  pub shape-StructArrayPtr : k ≡ K.StructArrayPtr → 4 ≡ capped (shapeSize (schemaOf (rec s p w)) (fieldOf p (fieldAt b) none))
   unfolding sizeAs
   shape-StructArrayPtr h = rw (shape-is K.StructArrayPtr h) (cap-low 4 (omega arith))
 
-  pub shape-StructPtrArrayPtr : k ≡ K.StructPtrArrayPtr → 4 ≡ capped (shapeSize (schemaOf (rec s p w)) (fieldOf p f none))
+  pub shape-StructPtrArrayPtr : k ≡ K.StructPtrArrayPtr → 4 ≡ capped (shapeSize (schemaOf (rec s p w)) (fieldOf p (fieldAt b) none))
   unfolding sizeAs
   shape-StructPtrArrayPtr h = rw (shape-is K.StructPtrArrayPtr h) (cap-low 4 (omega arith))
 
-  pub shape-TaggedFamPtr : k ≡ K.TaggedFamPtr → 4 ≡ capped (shapeSize (schemaOf (rec s p w)) (fieldOf p f none))
+  pub shape-TaggedFamPtr : k ≡ K.TaggedFamPtr → 4 ≡ capped (shapeSize (schemaOf (rec s p w)) (fieldOf p (fieldAt b) none))
   unfolding sizeAs
   shape-TaggedFamPtr h = rw (shape-is K.TaggedFamPtr h) (cap-low 4 (omega arith))
 
-  pub shape-SimpleFamPtr : k ≡ K.SimpleFamPtr → 4 ≡ capped (shapeSize (schemaOf (rec s p w)) (fieldOf p f none))
+  pub shape-SimpleFamPtr : k ≡ K.SimpleFamPtr → 4 ≡ capped (shapeSize (schemaOf (rec s p w)) (fieldOf p (fieldAt b) none))
   unfolding sizeAs
   shape-SimpleFamPtr h = rw (shape-is K.SimpleFamPtr h) (cap-low 4 (omega arith))
 
-  pub shape-OpaquePtr : k ≡ K.OpaquePtr → 4 ≡ capped (shapeSize (schemaOf (rec s p w)) (fieldOf p f none))
+  pub shape-OpaquePtr : k ≡ K.OpaquePtr → 4 ≡ capped (shapeSize (schemaOf (rec s p w)) (fieldOf p (fieldAt b) none))
   unfolding sizeAs
   shape-OpaquePtr h = rw (shape-is K.OpaquePtr h) (cap-low 4 (omega arith))
 
-  pub shape-FnPtr : k ≡ K.FnPtr → 4 ≡ capped (shapeSize (schemaOf (rec s p w)) (fieldOf p f none))
+  pub shape-FnPtr : k ≡ K.FnPtr → 4 ≡ capped (shapeSize (schemaOf (rec s p w)) (fieldOf p (fieldAt b) none))
   unfolding sizeAs
   shape-FnPtr h = rw (shape-is K.FnPtr h) (cap-low 4 (omega arith))
 
-  pub shape-Text : k ≡ K.Text → 0 ≡ capped (shapeSize (schemaOf (rec s p w)) (fieldOf p f none))
+  pub shape-Text : k ≡ K.Text → 0 ≡ capped (shapeSize (schemaOf (rec s p w)) (fieldOf p (fieldAt b) none))
   unfolding sizeAs
   shape-Text h = rw (shape-is K.Text h) (cap-low 0 (omega arith))
 
-  pub shape-Other : k ≡ K.Other → 0 ≡ capped (shapeSize (schemaOf (rec s p w)) (fieldOf p f none))
+  pub shape-Other : k ≡ K.Other → 0 ≡ capped (shapeSize (schemaOf (rec s p w)) (fieldOf p (fieldAt b) none))
   unfolding sizeAs
   shape-Other h = rw (shape-is K.Other h) (cap-low 0 (omega arith))
 
-pub array2d-is : (z z0 y a a0 b l c c0 d r : ℕ) → z0 ≡ z → y ≡ z0 → a0 ≡ a → b ≡ a0 → l ≡ capped (y * b) → c0 ≡ c → d ≡ c0 → r ≡ capped (l * d) → r ≡ capped (z * a * c)
-array2d-is z z0 y a a0 b l c c0 d r z1 y1 a1 b1 l1 c1 d1 r1 = r1 ∙ rw (l1, y1, z1, b1, a1, d1, c1) (product-capped (z * a) c)
+pub array2d-is : (z y a n l c m r : ℕ) → y ≡ z → n ≡ a → l ≡ capped (y * n) → m ≡ c → r ≡ capped (l * m) → r ≡ capped (z * a * c)
+array2d-is z y a n l c m r y1 n1 l1 m1 r1 = r1 ∙ rw (l1, y1, n1, m1) (product-capped (z * a) c)
 
 -- the plugin key plays no part
 pub keyless : (m : Kind) (t : Schema) (p : Str) (f : D.Field.Field) (k : Option Key) → sizeAs m t (fieldOf p f k) ≡ sizeAs m t (fieldOf p f none)

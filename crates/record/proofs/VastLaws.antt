@@ -11,10 +11,10 @@ use borrow.Author.Tests.{lt-ltb, le-ltb, ne-eqb, leb-true, leb-false}
 use Rattle.record.specs.Base.{Str, bytes, eqs, any, orElse}
 use Rattle.record.specs.Scalars.{Scalar, primSize}
 use Rattle.record.specs.Schema.{Schema, Field, Family}
-use Rattle.record.specs.Commands.{familyAt, place, commandsAt}
-use Rattle.record.specs.Seek.{afterAt}
+use Rattle.record.specs.Commands.{familyAt, fieldAt, place, commandsAt}
+use Rattle.record.specs.Seek.{afterAt, SoughtFrom}
 use Rattle.record.specs.Lists.{optOf, fieldOf, familyOf, fields}
-use Rattle.record.specs.Steps.{enumsAt, fieldsAt, fieldKeyAt, FieldsFrom}
+use Rattle.record.specs.Steps.{enumsAt, fieldsAt, fieldKeyAt}
 use Rattle.record.specs.Kind.{kindOf, meaning, words}
 use Rattle.record.specs.Shapes.{enumSize, sized, scalarSize, sizeAs, shapeSize, Place, placeOf, places, plain, prefix, limit, capped}
 use Rattle.record.specs.Reading.{rec, schemaFrom, schemaOf, openedAt, opened, large, vast}
@@ -23,15 +23,17 @@ use Rattle.record.specs.declared.operands.OptText.{OptText}
 use Rattle.record.specs.declared.operands.OptText.the-variants.{Given}
 use Rattle.record.specs.declared.command as D
 use Rattle.record.specs.declared.command.Cursor.{Cursor}
-use Rattle.record.specs.declared.lists.FieldStep.{FieldStep}
 use Rattle.record.specs.declared.lists.FieldStep.the-variants.{NoField, AField}
+use Rattle.record.specs.declared.seek.Between.the-variants.{Keys}
+use Rattle.record.specs.declared.seek.Sought.{Sought}
+use Rattle.record.specs.declared.seek.Sought.the-variants.{Nowhere, At}
 use Rattle.record.specs.declared.vast.TypeStep.{TypeStep}
 use Rattle.record.specs.declared.vast.TypeStep.the-variants.{NoType, Plain, Fronted}
 use Rattle.record.specs.declared.vast.Vast.the-variants.{NoneVast, VastAt}
 use Rattle.record.proofs.Stream.{commands-stop, commands-next}
 use Rattle.record.proofs.ListLaws.{find-none, find-hit, find-miss}
 use Rattle.record.proofs.SeekLaws.{Stepped, stepped, ended-there, after-nearer}
-use Rattle.record.proofs.StepLaws.{fields-over-now, fields-now, fields-nearer}
+use Rattle.record.proofs.StepLaws.{fields-none, fields-found, fields-over-now, fields-now}
 use Rattle.record.proofs.SizeLaws.{cap-low, cap-high, keyless}
 
 -- one step along the types ------------------------------------------------------------------------------------------------
@@ -151,28 +153,31 @@ module _ (s p : Str) (w : List Scalar) where
   pub ending-begin : (offset at : ℕ) → offset ≤ limit → Ending (places (schemaOf (rec s p w)) offset (fieldsAt s p at)) offset at
   ending-begin offset at h = record { so-far = refl; low = h }
 
-  module _ (fs : List Place) (offset at : ℕ) (i : Ending fs offset at) (r : FieldStep) (f : FieldsFrom s at r) where
-    pub ending-none : r ≡ NoField → false ≡ any large fs
+  module _ (fs : List Place) (offset at : ℕ) (i : Ending fs offset at) (r : Sought) (f : SoughtFrom s Keys 11 at r) where
+    pub ending-none : r ≡ Nowhere → false ≡ any large fs
     unfolding places any
-    ending-none m = sym (i .so-far ∙ rw (fields-over-now s at r f p m))
+    ending-none m = sym (i .so-far ∙ rw (fields-over-now s at NoField (fields-none s at r f m) p refl))
 
-    module _ (e : D.Field.Field) (k : Cursor) (m : r ≡ AField e k) (z end : ℕ) (u : z ≡ capped (shapeSize (schemaOf (rec s p w)) (fieldOf p e none))) (v : end ≡ capped (offset + z)) where
-      size-is : shapeSize (schemaOf (rec s p w)) (fieldOf p e (fieldKeyAt s p (k .at))) ≡ shapeSize (schemaOf (rec s p w)) (fieldOf p e none)
+    module _ (a k : ℕ) (m : r ≡ At a k) (y : Str) (d : y ≡ drop a s) (z end : ℕ) (u : z ≡ capped (shapeSize (schemaOf (rec s p w)) (fieldOf p (fieldAt y) none))) (v : end ≡ capped (offset + z)) where
+      here : fieldsAt s p at ≡ fieldOf p (fieldAt y) (fieldKeyAt s p k) ∷ fieldsAt s p k
+      here = fields-now s at (AField (fieldAt y) (place k)) (fields-found s at r f a k m y (fieldAt y) (place k) d refl refl) p (fieldAt y) (place k) refl
+
+      size-is : shapeSize (schemaOf (rec s p w)) (fieldOf p (fieldAt y) (fieldKeyAt s p k)) ≡ shapeSize (schemaOf (rec s p w)) (fieldOf p (fieldAt y) none)
       unfolding shapeSize
-      size-is = keyless (kindOf (fieldOf p e none .kind)) (schemaOf (rec s p w)) p e (fieldKeyAt s p (k .at))
+      size-is = keyless (kindOf (fieldOf p (fieldAt y) none .kind)) (schemaOf (rec s p w)) p (fieldAt y) (fieldKeyAt s p k)
 
-      ending-at : any large fs ≡ (ltb limit (offset + shapeSize (schemaOf (rec s p w)) (fieldOf p e none)) || any large (places (schemaOf (rec s p w)) (offset + shapeSize (schemaOf (rec s p w)) (fieldOf p e none)) (fieldsAt s p (k .at))))
+      ending-at : any large fs ≡ (ltb limit (offset + shapeSize (schemaOf (rec s p w)) (fieldOf p (fieldAt y) none)) || any large (places (schemaOf (rec s p w)) (offset + shapeSize (schemaOf (rec s p w)) (fieldOf p (fieldAt y) none)) (fieldsAt s p k)))
       unfolding places placeOf any large
-      ending-at = i .so-far ∙ rw (fields-now s at r f p e k m, size-is)
+      ending-at = i .so-far ∙ rw (here, size-is)
 
       pub ending-past : limit < end → true ≡ any large fs
       ending-past h =
-          let g = end-past offset (shapeSize (schemaOf (rec s p w)) (fieldOf p e none)) z end (i .low) u v h in
-          sym (ending-at ∙ rw (lt-ltb limit (offset + shapeSize (schemaOf (rec s p w)) (fieldOf p e none)) g))
+          let g = end-past offset (shapeSize (schemaOf (rec s p w)) (fieldOf p (fieldAt y) none)) z end (i .low) u v h in
+          sym (ending-at ∙ rw (lt-ltb limit (offset + shapeSize (schemaOf (rec s p w)) (fieldOf p (fieldAt y) none)) g))
 
-      pub ending-more : end ≤ limit → Ending fs end (k .at)
+      pub ending-more : end ≤ limit → Ending fs end k
       ending-more h =
-          let x = end-exact offset (shapeSize (schemaOf (rec s p w)) (fieldOf p e none)) z end (i .low) u v h in
+          let x = end-exact offset (shapeSize (schemaOf (rec s p w)) (fieldOf p (fieldAt y) none)) z end (i .low) u v h in
           record {
             so-far = ending-at ∙ rw (← x, le-ltb limit end h);
             low = h;

@@ -1,7 +1,6 @@
 // The sizes of fields, in bytes. A size is exact as far as the limit of number 9, and one more stands for all that are larger: number 9 refuses
 // every record that has one, so nothing after the reader sees the difference.
 use crate::command::Cursor;
-use crate::command::Field;
 use crate::kind::Kind;
 use crate::kind::kind_of;
 use crate::lists::AliasStep;
@@ -12,6 +11,9 @@ use crate::lists::find_bitfield;
 use crate::lists::find_enum;
 use crate::operands::OptNumber;
 use crate::operands::OptText;
+use crate::operands::opt_number_at;
+use crate::operands::opt_text_at;
+use crate::operands::text_at;
 use crate::scalars::prim_size;
 use crate::text::bytes_of;
 ghost use mathlib.Core.Path.{_≡_};
@@ -19,6 +21,8 @@ ghost use mathlib.Core.Option.{none};
 ghost use Prim.Native.Nat.{_*_, _+_};
 ghost use Rattle.record.specs.Base.{bytes, orElse};
 ghost use Rattle.record.specs.Scalars.{scalarsOf, primSize};
+ghost use Rattle.record.specs.Operands.{optTextAt, optNumberAt};
+ghost use Rattle.record.specs.Commands.{fieldAt};
 ghost use Rattle.record.specs.Lists.{optOf, numberOf, fieldOf};
 ghost use Rattle.record.specs.Steps.{enumsAt, aliasesAt, bitfieldsAt};
 ghost use Rattle.record.specs.Shapes.{enumSize, aliasSize, bitfieldSize, sized, shapeSize, capped};
@@ -141,27 +145,31 @@ fn bitfield_bytes(stream: &[u8], pool: &[u8], name: OptText) -> u32
     or_else(bitfield_size(stream, pool, bytes_of(pool, x)), 0)
 }
 
-// The bytes that a field takes.
-pub fn shape_size(rows: &[u8], stream: &[u8], pool: &[u8], f: Field) -> u64
-    ensures { λ r. ⌜ r ≡ capped (shapeSize (schemaOf (rec (now (stream .entry)) (now (pool .entry)) (scalarsOf (now (rows .entry))))) (fieldOf (now (pool .entry)) f none)) ⌝ }
+// The bytes of the scalar whose word stands at a place of a command.
+fn scalar_at(rows: &[u8], pool: &[u8], s: &[u8], at: usize) -> u64
+    ensures { λ r. ⌜ r ≡ primSize (scalarsOf (now (rows .entry))) (orElse (optOf (now (pool .entry)) (optTextAt (now (s .entry)) at)) (bytes "u8")) ⌝ }
 {
-    let kind = f.kind;
-    let named = f.type_name;
-    let element = f.element;
-    let count = f.count;
-    let size = f.size;
-    match kind_of(bytes_of(pool, kind)) {
-        Kind::Scalar => cap(wide(scalar_bytes(rows, pool, named))),
-        Kind::Enum => cap(wide(enum_bytes(stream, pool, named))),
-        Kind::TypeAlias => cap(wide(alias_bytes(rows, stream, pool, named))),
-        Kind::Bitfield => cap(wide(bitfield_bytes(stream, pool, named))),
-        Kind::InlineArray => {
-            product(
-                wide(scalar_bytes(rows, pool, element)),
-                wide(or_else(count, 0)),
-            )
-        }
-        Kind::InlineArray2d => array2d_size(rows, pool, f),
+    wide(scalar_bytes(rows, pool, opt_text_at(s, at)))
+}
+
+// The number at a place of a command, 0 where it is left out.
+fn number_at(s: &[u8], at: usize) -> u64
+    ensures { λ r. ⌜ r ≡ orElse (numberOf (optNumberAt (now (s .entry)) at)) 0 ⌝ }
+{
+    wide(or_else(opt_number_at(s, at), 0))
+}
+
+// The bytes that a field takes, from the bytes that begin with its command. Of its operands only those are read that its kind needs.
+pub fn field_size(rows: &[u8], stream: &[u8], pool: &[u8], s: &[u8]) -> u64
+    ensures { λ r. ⌜ r ≡ capped (shapeSize (schemaOf (rec (now (stream .entry)) (now (pool .entry)) (scalarsOf (now (rows .entry))))) (fieldOf (now (pool .entry)) (fieldAt (now (s .entry))) none)) ⌝ }
+{
+    match kind_of(bytes_of(pool, text_at(s, 4))) {
+        Kind::Scalar => cap(scalar_at(rows, pool, s, 7)),
+        Kind::Enum => cap(wide(enum_bytes(stream, pool, opt_text_at(s, 7)))),
+        Kind::TypeAlias => cap(wide(alias_bytes(rows, stream, pool, opt_text_at(s, 7)))),
+        Kind::Bitfield => cap(wide(bitfield_bytes(stream, pool, opt_text_at(s, 7)))),
+        Kind::InlineArray => product(scalar_at(rows, pool, s, 10), number_at(s, 13)),
+        Kind::InlineArray2d => array2d_size(rows, pool, s),
         Kind::CstrPtr => 4,
         Kind::StructPtr => 4,
         Kind::StructArrayPtr => 4,
@@ -170,21 +178,15 @@ pub fn shape_size(rows: &[u8], stream: &[u8], pool: &[u8], f: Field) -> u64
         Kind::SimpleFamPtr => 4,
         Kind::OpaquePtr => 4,
         Kind::FnPtr => 4,
-        Kind::Padding => cap(wide(or_else(size, 0))),
+        Kind::Padding => cap(number_at(s, 28)),
         Kind::Text => 0,
         Kind::Other => 0,
     }
 }
 
-fn array2d_size(rows: &[u8], pool: &[u8], f: Field) -> u64
-    ensures { λ r. ⌜ r ≡ capped (primSize (scalarsOf (now (rows .entry))) (orElse (optOf (now (pool .entry)) (f .element)) (bytes "u8")) * orElse (numberOf (f .rows)) 0 * orElse (numberOf (f .cols)) 0) ⌝ }
+fn array2d_size(rows: &[u8], pool: &[u8], s: &[u8]) -> u64
+    ensures { λ r. ⌜ r ≡ capped (primSize (scalarsOf (now (rows .entry))) (orElse (optOf (now (pool .entry)) (optTextAt (now (s .entry)) 10)) (bytes "u8")) * orElse (numberOf (optNumberAt (now (s .entry)) 18)) 0 * orElse (numberOf (optNumberAt (now (s .entry)) 23)) 0) ⌝ }
 {
-    let element = f.element;
-    let down = f.rows;
-    let across = f.cols;
-    let line = product(
-        wide(scalar_bytes(rows, pool, element)),
-        wide(or_else(down, 0)),
-    );
-    product(line, wide(or_else(across, 0)))
+    let line = product(scalar_at(rows, pool, s, 10), number_at(s, 18));
+    product(line, number_at(s, 23))
 }

@@ -4,14 +4,15 @@ use crate::command::Family;
 use crate::command::family_at;
 use crate::cut;
 use crate::le::byte_at;
-use crate::lists::FieldStep;
-use crate::lists::next_field;
 use crate::operands::OptText;
+use crate::seek::Between;
+use crate::seek::Sought;
 use crate::seek::after_at;
+use crate::seek::seek;
 use crate::sizes::LIMIT;
 use crate::sizes::enum_bytes;
+use crate::sizes::field_size;
 use crate::sizes::scalar_bytes;
-use crate::sizes::shape_size;
 use crate::sizes::sum;
 use crate::sizes::wide;
 ghost use mathlib.Core.Path.{_≡_};
@@ -81,18 +82,19 @@ fn ends_past(rows: &[u8], stream: &[u8], pool: &[u8], from: Cursor, start: u64) 
     requires { ⌜ start ≤ limit ⌝ }
     ensures { λ r. ⌜ r ≡ any large (places (schemaOf (rec (now (stream .entry)) (now (pool .entry)) (scalarsOf (now (rows .entry))))) start (fieldsAt (now (stream .entry)) (now (pool .entry)) (from .at))) ⌝ }
 {
-    let mut cursor = from;
+    let mut at = from.at;
     let mut offset = start;
     loop {
-        let FieldStep::AField(f, after) = next_field(stream, cursor) else {
+        let Sought::At(place, after) = seek(stream, at, 11, Between::Keys) else {
             return false;
         };
-        let end = sum(offset, shape_size(rows, stream, pool, f));
+        let size = field_size(rows, stream, pool, cut::from(stream, place));
+        let end = sum(offset, size);
         if LIMIT < end {
             return true;
         }
         offset = end;
-        cursor = after;
+        at = after;
     }
 }
 

@@ -10,10 +10,9 @@ use Rattle.layout.proofs.field_sizes.fill_sizes.Tie as tie
 use Rattle.layout.proofs.field_sizes.fill_sizes.Reads as reads
 use Rattle.layout.proofs.field_sizes.fill_sizes.Lts as lts
 use Rattle.layout.proofs.field_sizes.put_size.Reads as put-size-reads
-use Rattle.record.proofs.command.field_at.Reads as field-at-reads
 use Rattle.record.proofs.cut.from.Reads as from-reads
 use Rattle.record.proofs.seek.seek.Reads as seek-reads
-use Rattle.record.proofs.sizes.shape_size.Reads as shape-size-reads
+use Rattle.record.proofs.sizes.field_size.Reads as field-size-reads
 
 abbrev Inv-loop : tie.InvT-loop
 Inv-loop rows stream pool sizes₀ at₀ sizes at = Sizing (rec stream pool (scalarsOf rows)) sizes₀ sizes at
@@ -49,13 +48,9 @@ returns c = λ small room. search sizing-end
 from-requires : tie.Need-from-requires Inv-loop μ-loop
 from-requires c κs = search needs
 
--- src/field_sizes.rt:46:13
-field-at-requires : tie.Need-field-at-requires Inv-loop μ-loop
-field-at-requires c κs = search needs
-
 -- src/field_sizes.rt:47:32
-shape-size-requires : tie.Need-shape-size-requires Inv-loop μ-loop
-shape-size-requires c κs = search needs
+field-size-requires : tie.Need-field-size-requires Inv-loop μ-loop
+field-size-requires c κs = search needs
 
 -- src/field_sizes.rt:47:9
 put-size-requires : tie.Need-put-size-requires Inv-loop μ-loop
@@ -82,8 +77,7 @@ fill-sizes-spec =
     same-length
     returns
     from-requires
-    field-at-requires
-    shape-size-requires
+    field-size-requires
     put-size-requires
     loop-less
     loop-again)

@@ -1,276 +1,279 @@
 use Rattle.record.proofs.SizeLaws.{shape-scalar, shape-enum, shape-alias, shape-bitfield, shape-array, shape-array2d, shape-CstrPtr, shape-StructPtr, shape-StructArrayPtr, shape-StructPtrArrayPtr, shape-TaggedFamPtr, shape-SimpleFamPtr, shape-OpaquePtr, shape-FnPtr, shape-padding, shape-Text, shape-Other}
 use borrow.Author.Needs.{needs}
-use Rattle.record.proofs.sizes.shape_size.Statement.{statement}
-use Rattle.record.proofs.sizes.shape_size.Tie as tie
-use Rattle.record.proofs.sizes.shape_size.Reads as reads
-use Rattle.record.proofs.sizes.shape_size.Lts as lts
+use Rattle.record.proofs.sizes.field_size.Statement.{statement}
+use Rattle.record.proofs.sizes.field_size.Tie as tie
+use Rattle.record.proofs.sizes.field_size.Reads as reads
+use Rattle.record.proofs.sizes.field_size.Lts as lts
 use Rattle.record.proofs.kind.kind_of.Reads as kind-of-reads
+use Rattle.record.proofs.operands.opt_text_at.Reads as opt-text-at-reads
+use Rattle.record.proofs.operands.text_at.Reads as text-at-reads
 use Rattle.record.proofs.sizes.alias_bytes.Reads as alias-bytes-reads
 use Rattle.record.proofs.sizes.array2d_size.Reads as array2d-size-reads
 use Rattle.record.proofs.sizes.bitfield_bytes.Reads as bitfield-bytes-reads
 use Rattle.record.proofs.sizes.cap.Reads as cap-reads
 use Rattle.record.proofs.sizes.enum_bytes.Reads as enum-bytes-reads
-use Rattle.record.proofs.sizes.or_else.Reads as or-else-reads
+use Rattle.record.proofs.sizes.number_at.Reads as number-at-reads
 use Rattle.record.proofs.sizes.product.Reads as product-reads
-use Rattle.record.proofs.sizes.scalar_bytes.Reads as scalar-bytes-reads
+use Rattle.record.proofs.sizes.scalar_at.Reads as scalar-at-reads
 use Rattle.record.proofs.sizes.wide.Reads as wide-reads
 use Rattle.record.proofs.text.bytes_of.Reads as bytes-of-reads
 
--- src/sizes.rt:153:19
+-- src/sizes.rt:166:34
+text-at-requires : tie.Need-text-at-requires
+text-at-requires c κs = search needs
+
+-- src/sizes.rt:166:19
 bytes-of-requires : tie.Need-bytes-of-requires
 bytes-of-requires c κs = search needs
 
--- src/sizes.rt:153:11
+-- src/sizes.rt:166:11
 kind-of-requires : tie.Need-kind-of-requires
 kind-of-requires c κs = search needs
 
--- src/sizes.rt:154:34
+-- src/sizes.rt:167:29
 enum-told : tie.Need-enum-told
 enum-told c = search needs
 
--- src/sizes.rt:154:34
-scalar-bytes-requires : tie.Need-scalar-bytes-requires
-scalar-bytes-requires c κs = search needs
+-- src/sizes.rt:167:29
+scalar-at-requires : tie.Need-scalar-at-requires
+scalar-at-requires c κs = search needs
 
--- src/sizes.rt:154:29
-wide-requires : tie.Need-wide-requires
-wide-requires c κs = search needs
-
--- src/sizes.rt:154:25
+-- src/sizes.rt:167:25
 cap-requires : tie.Need-cap-requires
 cap-requires c κs = search needs
 
--- src/sizes.rt:155:32
+-- src/sizes.rt:168:57
 enum-told-2 : tie.Need-enum-told-2
 enum-told-2 c = search needs
 
--- src/sizes.rt:155:32
+-- src/sizes.rt:168:57
+opt-text-at-requires : tie.Need-opt-text-at-requires
+opt-text-at-requires c κs = search needs
+
+-- src/sizes.rt:168:32
 enum-bytes-requires : tie.Need-enum-bytes-requires
 enum-bytes-requires c κs = search needs
 
--- src/sizes.rt:155:27
-wide-requires-2 : tie.Need-wide-requires-2
-wide-requires-2 c κs = search needs
+-- src/sizes.rt:168:27
+wide-requires : tie.Need-wide-requires
+wide-requires c κs = search needs
 
--- src/sizes.rt:155:23
+-- src/sizes.rt:168:23
 cap-requires-2 : tie.Need-cap-requires-2
 cap-requires-2 c κs = search needs
 
--- src/sizes.rt:156:37
+-- src/sizes.rt:169:69
 enum-told-3 : tie.Need-enum-told-3
 enum-told-3 c = search needs
 
--- src/sizes.rt:156:37
+-- src/sizes.rt:169:69
+opt-text-at-requires-2 : tie.Need-opt-text-at-requires-2
+opt-text-at-requires-2 c κs = search needs
+
+-- src/sizes.rt:169:37
 alias-bytes-requires : tie.Need-alias-bytes-requires
 alias-bytes-requires c κs = search needs
 
--- src/sizes.rt:156:32
-wide-requires-3 : tie.Need-wide-requires-3
-wide-requires-3 c κs = search needs
+-- src/sizes.rt:169:32
+wide-requires-2 : tie.Need-wide-requires-2
+wide-requires-2 c κs = search needs
 
--- src/sizes.rt:156:28
+-- src/sizes.rt:169:28
 cap-requires-3 : tie.Need-cap-requires-3
 cap-requires-3 c κs = search needs
 
--- src/sizes.rt:157:36
+-- src/sizes.rt:170:65
 enum-told-4 : tie.Need-enum-told-4
 enum-told-4 c = search needs
 
--- src/sizes.rt:157:36
+-- src/sizes.rt:170:65
+opt-text-at-requires-3 : tie.Need-opt-text-at-requires-3
+opt-text-at-requires-3 c κs = search needs
+
+-- src/sizes.rt:170:36
 bitfield-bytes-requires : tie.Need-bitfield-bytes-requires
 bitfield-bytes-requires c κs = search needs
 
--- src/sizes.rt:157:31
-wide-requires-4 : tie.Need-wide-requires-4
-wide-requires-4 c κs = search needs
+-- src/sizes.rt:170:31
+wide-requires-3 : tie.Need-wide-requires-3
+wide-requires-3 c κs = search needs
 
--- src/sizes.rt:157:27
+-- src/sizes.rt:170:27
 cap-requires-4 : tie.Need-cap-requires-4
 cap-requires-4 c κs = search needs
 
--- src/sizes.rt:160:22
+-- src/sizes.rt:171:38
 enum-told-5 : tie.Need-enum-told-5
 enum-told-5 c = search needs
 
--- src/sizes.rt:160:22
-scalar-bytes-requires-2 : tie.Need-scalar-bytes-requires-2
-scalar-bytes-requires-2 c κs = search needs
+-- src/sizes.rt:171:38
+scalar-at-requires-2 : tie.Need-scalar-at-requires-2
+scalar-at-requires-2 c κs = search needs
 
--- src/sizes.rt:160:17
-wide-requires-5 : tie.Need-wide-requires-5
-wide-requires-5 c κs = search needs
+-- src/sizes.rt:171:68
+number-at-requires : tie.Need-number-at-requires
+number-at-requires c κs = search needs
 
--- src/sizes.rt:161:22
-or-else-requires : tie.Need-or-else-requires
-or-else-requires c κs = search needs
-
--- src/sizes.rt:161:17
-wide-requires-6 : tie.Need-wide-requires-6
-wide-requires-6 c κs = search needs
-
--- src/sizes.rt:159:13
+-- src/sizes.rt:171:30
 product-requires : tie.Need-product-requires
 product-requires c κs = search needs
 
--- src/sizes.rt:164:32
+-- src/sizes.rt:172:32
 enum-told-6 : tie.Need-enum-told-6
 enum-told-6 c = search needs
 
--- src/sizes.rt:164:32
+-- src/sizes.rt:172:32
 array2d-size-requires : tie.Need-array2d-size-requires
 array2d-size-requires c κs = search needs
 
--- src/sizes.rt:165:26
+-- src/sizes.rt:173:26
 enum-told-7 : tie.Need-enum-told-7
 enum-told-7 c = search needs
 
--- src/sizes.rt:166:28
+-- src/sizes.rt:174:28
 enum-told-8 : tie.Need-enum-told-8
 enum-told-8 c = search needs
 
--- src/sizes.rt:167:33
+-- src/sizes.rt:175:33
 enum-told-9 : tie.Need-enum-told-9
 enum-told-9 c = search needs
 
--- src/sizes.rt:168:36
+-- src/sizes.rt:176:36
 enum-told-10 : tie.Need-enum-told-10
 enum-told-10 c = search needs
 
--- src/sizes.rt:169:31
+-- src/sizes.rt:177:31
 enum-told-11 : tie.Need-enum-told-11
 enum-told-11 c = search needs
 
--- src/sizes.rt:170:31
+-- src/sizes.rt:178:31
 enum-told-12 : tie.Need-enum-told-12
 enum-told-12 c = search needs
 
--- src/sizes.rt:171:28
+-- src/sizes.rt:179:28
 enum-told-13 : tie.Need-enum-told-13
 enum-told-13 c = search needs
 
--- src/sizes.rt:172:24
+-- src/sizes.rt:180:24
 enum-told-14 : tie.Need-enum-told-14
 enum-told-14 c = search needs
 
--- src/sizes.rt:173:35
+-- src/sizes.rt:181:30
 enum-told-15 : tie.Need-enum-told-15
 enum-told-15 c = search needs
 
--- src/sizes.rt:173:35
-or-else-requires-2 : tie.Need-or-else-requires-2
-or-else-requires-2 c κs = search needs
+-- src/sizes.rt:181:30
+number-at-requires-2 : tie.Need-number-at-requires-2
+number-at-requires-2 c κs = search needs
 
--- src/sizes.rt:173:30
-wide-requires-7 : tie.Need-wide-requires-7
-wide-requires-7 c κs = search needs
-
--- src/sizes.rt:173:26
+-- src/sizes.rt:181:26
 cap-requires-5 : tie.Need-cap-requires-5
 cap-requires-5 c κs = search needs
 
--- src/sizes.rt:174:23
+-- src/sizes.rt:182:23
 enum-told-16 : tie.Need-enum-told-16
 enum-told-16 c = search needs
 
--- src/sizes.rt:175:24
+-- src/sizes.rt:183:24
 enum-told-17 : tie.Need-enum-told-17
 enum-told-17 c = search needs
 
--- src/sizes.rt:145:1
+-- src/sizes.rt:163:1
 returns : tie.Need-returns
 returns c = search shape-scalar
 
--- src/sizes.rt:145:1
+-- src/sizes.rt:163:1
 returns-2 : tie.Need-returns-2
 returns-2 c = search shape-enum
 
--- src/sizes.rt:145:1
+-- src/sizes.rt:163:1
 returns-3 : tie.Need-returns-3
 returns-3 c = search shape-alias
 
--- src/sizes.rt:145:1
+-- src/sizes.rt:163:1
 returns-4 : tie.Need-returns-4
 returns-4 c = search shape-bitfield
 
--- src/sizes.rt:145:1
+-- src/sizes.rt:163:1
 returns-5 : tie.Need-returns-5
 returns-5 c = search shape-array
 
--- src/sizes.rt:145:1
+-- src/sizes.rt:163:1
 returns-6 : tie.Need-returns-6
 returns-6 c = search shape-array2d
 
--- src/sizes.rt:145:1
+-- src/sizes.rt:163:1
 returns-7 : tie.Need-returns-7
 returns-7 c = search shape-CstrPtr
 
--- src/sizes.rt:145:1
+-- src/sizes.rt:163:1
 returns-8 : tie.Need-returns-8
 returns-8 c = search shape-StructPtr
 
--- src/sizes.rt:145:1
+-- src/sizes.rt:163:1
 returns-9 : tie.Need-returns-9
 returns-9 c = search shape-StructArrayPtr
 
--- src/sizes.rt:145:1
+-- src/sizes.rt:163:1
 returns-10 : tie.Need-returns-10
 returns-10 c = search shape-StructPtrArrayPtr
 
--- src/sizes.rt:145:1
+-- src/sizes.rt:163:1
 returns-11 : tie.Need-returns-11
 returns-11 c = search shape-TaggedFamPtr
 
--- src/sizes.rt:145:1
+-- src/sizes.rt:163:1
 returns-12 : tie.Need-returns-12
 returns-12 c = search shape-SimpleFamPtr
 
--- src/sizes.rt:145:1
+-- src/sizes.rt:163:1
 returns-13 : tie.Need-returns-13
 returns-13 c = search shape-OpaquePtr
 
--- src/sizes.rt:145:1
+-- src/sizes.rt:163:1
 returns-14 : tie.Need-returns-14
 returns-14 c = search shape-FnPtr
 
--- src/sizes.rt:145:1
+-- src/sizes.rt:163:1
 returns-15 : tie.Need-returns-15
 returns-15 c = search shape-padding
 
--- src/sizes.rt:145:1
+-- src/sizes.rt:163:1
 returns-16 : tie.Need-returns-16
 returns-16 c = search shape-Text
 
--- src/sizes.rt:145:1
+-- src/sizes.rt:163:1
 returns-17 : tie.Need-returns-17
 returns-17 c = search shape-Other
 
-pub shape-size-spec : {M : Type 1} → statement M
-shape-size-spec =
+pub field-size-spec : {M : Type 1} → statement M
+field-size-spec =
     tie.close
     (tie.spec
+    text-at-requires
     bytes-of-requires
     kind-of-requires
     enum-told
-    scalar-bytes-requires
-    wide-requires
+    scalar-at-requires
     cap-requires
     enum-told-2
+    opt-text-at-requires
     enum-bytes-requires
-    wide-requires-2
+    wide-requires
     cap-requires-2
     enum-told-3
+    opt-text-at-requires-2
     alias-bytes-requires
-    wide-requires-3
+    wide-requires-2
     cap-requires-3
     enum-told-4
+    opt-text-at-requires-3
     bitfield-bytes-requires
-    wide-requires-4
+    wide-requires-3
     cap-requires-4
     enum-told-5
-    scalar-bytes-requires-2
-    wide-requires-5
-    or-else-requires
-    wide-requires-6
+    scalar-at-requires-2
+    number-at-requires
     product-requires
     enum-told-6
     array2d-size-requires
@@ -283,8 +286,7 @@ shape-size-spec =
     enum-told-13
     enum-told-14
     enum-told-15
-    or-else-requires-2
-    wide-requires-7
+    number-at-requires-2
     cap-requires-5
     enum-told-16
     enum-told-17

@@ -1,0 +1,28 @@
+use Rattle.record.proofs.SizeLaws.{number-at-is}
+use borrow.Author.Needs.{needs}
+use Rattle.record.proofs.sizes.number_at.Statement.{statement}
+use Rattle.record.proofs.sizes.number_at.Tie as tie
+use Rattle.record.proofs.sizes.number_at.Reads as reads
+use Rattle.record.proofs.sizes.number_at.Lts as lts
+use Rattle.record.proofs.operands.opt_number_at.Reads as opt-number-at-reads
+use Rattle.record.proofs.sizes.or_else.Reads as or-else-reads
+use Rattle.record.proofs.sizes.wide.Reads as wide-reads
+
+-- src/sizes.rt:159:18
+opt-number-at-requires : tie.Need-opt-number-at-requires
+opt-number-at-requires c κs = search needs
+
+-- src/sizes.rt:159:10
+or-else-requires : tie.Need-or-else-requires
+or-else-requires c κs = search needs
+
+-- src/sizes.rt:159:5
+wide-requires : tie.Need-wide-requires
+wide-requires c κs = search needs
+
+-- src/sizes.rt:156:1
+returns : tie.Need-returns
+returns c = search number-at-is
+
+pub number-at-spec : {M : Type 1} → statement M
+number-at-spec = tie.close (tie.spec opt-number-at-requires or-else-requires wide-requires returns)
