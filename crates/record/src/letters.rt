@@ -1,6 +1,7 @@
 // The letters of a pool.
 ghost use mathlib.Core.Path.{_≡_};
-ghost use Rattle.record.specs.Letters.{isLetter, oddLetter};
+ghost use mathlib.Core.Bool.{_&&_};
+ghost use Rattle.record.specs.Letters.{isLetter, allLetters, oddLetter};
 
 pub enum Letters {
     Good,
@@ -17,10 +18,32 @@ pub fn is_letter(b: u8) -> bool
     b <= 0x7e
 }
 
+fn both(a: bool, b: bool) -> bool
+    ensures { λ r. ⌜ r ≡ (a && b) ⌝ }
+{
+    if a { b } else { false }
+}
+
+// Whether all bytes are letters. The loop goes on after one that is none, so that the machine may take many bytes at a time.
+fn all_letters(pool: &[u8]) -> bool
+    ensures { λ r. ⌜ r ≡ allLetters (now (pool .entry)) ⌝ }
+{
+    let mut good = true;
+    let mut i = 0;
+    while i < pool.len() {
+        good = both(good, is_letter(pool[i]));
+        i += 1;
+    }
+    good
+}
+
 // The first byte of a pool that is no letter.
 pub fn odd_letter(pool: &[u8]) -> Letters
     ensures { λ r. ⌜ r ≡ oddLetter 0 (now (pool .entry)) ⌝ }
 {
+    if all_letters(pool) {
+        return Letters::Good;
+    }
     let mut i = 0;
     while i < pool.len() {
         if !is_letter(pool[i]) {
