@@ -12,20 +12,22 @@ use borrow.Author.Tests.{eqb-true, eqb-false}
 use lib.ListN.{length, getD, drop}
 use Rattle.record.specs.Base.{Str, bytes, eqs, orElse, orOption}
 use Rattle.record.specs.Stretch.{textOf}
+use Rattle.record.specs.Operands.{textAt}
 use Rattle.record.specs.Scalars.{Scalar, primSize}
 use Rattle.record.specs.Schema.{Schema, Field}
 use Rattle.record.specs.Commands.{operands, wide, widths, widthWith, widthOf, commandOf, familyAt, fieldAt, place, stepAt}
 use Rattle.record.specs.Seek.{afterAt, SoughtFrom}
 use Rattle.record.specs.declared.seek.Between.the-variants.{Keys}
 use Rattle.record.specs.declared.seek.Sought.{Sought}
-use Rattle.record.specs.declared.seek.Sought.the-variants.{At}
+use Rattle.record.specs.declared.seek.Sought.the-variants.{Nowhere, At}
 use Rattle.record.specs.Lists.{optOf, fieldOf, familyOf}
 use Rattle.record.specs.Steps.{enumsAt, fieldKeyAt, fieldsAt, FieldsFrom, FieldPlace}
 use Rattle.record.specs.Kind.{words, meaning, kindOf, isPadding}
 use Rattle.record.specs.Shapes.{enumSize, sized, scalarSize, sizeAs, shapeSize, spaced, named, restAs, shapeType, Place, placeOf, places, plain, prefix, limit, capped}
-use Rattle.record.specs.Describe.{describedAs}
+use Rattle.record.specs.Describe.{describedAs, Shaped}
 use Rattle.record.specs.Reading.{Rec, rec, schemaFrom, schemaOf}
 use Rattle.record.specs.Read.{Exact}
+use Rattle.record.specs.declared.text.Text.{Text}
 use Rattle.record.specs.declared.operands.OptText.{OptText}
 use Rattle.record.specs.declared.operands.OptText.the-variants.{Given}
 use Rattle.record.specs.declared.command as D
@@ -34,16 +36,16 @@ use Rattle.record.specs.declared.command.Command.{Command}
 use Rattle.record.specs.declared.command.Command.the-variants as C
 use Rattle.record.specs.declared.command.Step.{Step}
 use Rattle.record.specs.declared.command.Step.the-variants.{Next, Stop}
+use Rattle.record.specs.declared.describe.Shape.{Shape}
 use Rattle.record.specs.declared.describe.Description.{Description}
 use Rattle.record.specs.declared.describe.Description.the-variants.{Discriminant, Length}
-use Rattle.record.specs.declared.kind.Kind.{Kind}
 use Rattle.record.specs.declared.lists.FieldStep.{FieldStep}
 use Rattle.record.specs.declared.lists.FieldStep.the-variants.{NoField, AField}
 use Rattle.record.proofs.command.Command.{the-type}
 use Rattle.record.proofs.Stream.{step-found}
 use Rattle.record.proofs.ListLaws.{byteOf, other, byte-is, operands-are, find-miss}
 use Rattle.record.proofs.SeekLaws.{stepped as stepped-there, ended-there, sought-nearer}
-use Rattle.record.proofs.StepLaws.{fields-found, fields-over-now, fields-now, fields-nearer, fields-stand}
+use Rattle.record.proofs.StepLaws.{fields-none, fields-found, fields-over-now, fields-now, fields-nearer, fields-stand}
 use Rattle.record.proofs.SizeLaws.{cap-low, keyless}
 use Rattle.record.proofs.DescribeLaws.{described-keyless}
 use Rattle.layout.specs.declared.spots.Spot.{Spot}
@@ -149,7 +151,7 @@ module _ (s p : Str) (w : List Scalar) (t : List ℕ) (f : D.Family.Family) (k :
 -- a field of the record ----------------------------------------------------------------------------------------------------
 
 module _ (s p : Str) (w : List Scalar) (t : List ℕ) (k : Cursor) (offset : ℕ) (r : FieldStep) (h : FieldsFrom s (k .at) r) where
-  pub spot-none : r ≡ NoField → SpotsFrom (rec s p w) t (cursorAt (Body k) offset) NoSpot
+  spot-none : r ≡ NoField → SpotsFrom (rec s p w) t (cursorAt (Body k) offset) NoSpot
   unfolding placesFrom places
   spot-none m = record { list = λ d. rw (fields-over-now s (k .at) r h p m); sound = λ d. tt; left = omega arith }
 
@@ -188,18 +190,17 @@ module _ (s p : Str) (w : List Scalar) (t : List ℕ) (k : Cursor) (offset : ℕ
         let e : g .after .at ≡ j .at = omega arith in
         subst (λ (i : ℕ). SizesFrom (rec s p w) t i) e (sizes-later (rec s p w) t (k .at) (j .at - 33) (g .command) (g .after) z (y .in-stream) (g .step))
 
-    pub spot-field : (z e : ℕ) (d : Description) (x : Str) (q : Kind) (b : Bool) → z ≡ getD t (j .at / 33) 0 → describedAs p d ≡ shapeType (fieldOf p f none)
-        → x ≡ textOf p (f .kind) → q ≡ kindOf x → b ≡ isPadding q → e ≡ capped (offset + z)
+    spot-field : (z e : ℕ) (d : Description) (b : Bool) → z ≡ getD t (j .at / 33) 0 → describedAs p d ≡ shapeType (fieldOf p f none) → b ≡ isPadding (kindOf (textOf p (f .kind)))
+        → e ≡ capped (offset + z)
         → SpotsFrom (rec s p w) t (cursorAt (Body k) offset) (ASpot (record { name = f .name; offset = offset; size = z; described = d; padding = b }) (cursorAt (Body j) e))
     unfolding placeOf
-    spot-field z e d x q b u v n o g i =
+    spot-field z e d b u v g i =
         let more : fieldsAt s p (k .at) ≡ whole ∷ fieldsAt s p (j .at) = fields-now s (k .at) r h p f j m in
         let read : describedAs p d ≡ shapeType whole = v ∙ sym (described-keyless p f (fieldKeyAt s p (j .at))) in
-        let pad : b ≡ isPadding (kindOf (textOf p (f .kind))) = g ∙ ap isPadding (o ∙ ap kindOf n) in
         let near = fields-nearer s (k .at) r h f j m in
         stepped (rec s p w) t (Body k) (Body j) offset whole more z e (λ y. size-exact (rec s p w) t (Body k) (Body j) offset whole more y z (u ∙ table-size (y .sizes))) i table-kept
         (record { name = f .name; offset = offset; size = z; described = d; padding = b })
-        (λ y a. record { name = textOf p (f .name); offset = offset; size = y a; described = read a; padding = pad a }) (omega arith)
+        (λ y a. record { name = textOf p (f .name); offset = offset; size = y a; described = read a; padding = g a }) (omega arith)
 
     -- a field that is passed over
     module _ (z e : ℕ) (u : z ≡ getD t (j .at / 33) 0) (i : e ≡ capped (offset + z)) (d : Sound (rec s p w) t (cursorAt (Body k) offset)) where
@@ -214,6 +215,21 @@ module _ (s p : Str) (w : List Scalar) (t : List ℕ) (k : Cursor) (offset : ℕ
 
       passed-sound : Sound (rec s p w) t (cursorAt (Body j) e)
       passed-sound = still-sound (rec s p w) t (Body k) (Body j) offset whole more z e sized-so i table-kept d
+
+-- the same by the place of its command
+module _ (s p : Str) (w : List Scalar) (t : List ℕ) (k : Cursor) (offset : ℕ) (r : Sought) (i : SoughtFrom s Keys 11 (k .at) r) where
+  pub no-spot : r ≡ Nowhere → SpotsFrom (rec s p w) t (cursorAt (Body k) offset) NoSpot
+  no-spot m = spot-none s p w t k offset NoField (fields-none s (k .at) r i m) refl
+
+  pub spot-at : (a j : ℕ) (y : Str) (v : Shape) (x : Text) (c : Cursor) (z e : ℕ) → r ≡ At a j → y ≡ drop a s → Shaped p y v → x ≡ textAt y 1 → c ≡ place j → z ≡ getD t (j / 33) 0
+      → e ≡ capped (offset + z)
+      → SpotsFrom (rec s p w) t (cursorAt (Body k) offset) (ASpot (record { name = x; offset = offset; size = z; described = v .described; padding = v .padding }) (cursorAt (Body c) e))
+  spot-at a j y v x c z e m d g n l u q =
+      subst
+      (λ (f : Text). SpotsFrom (rec s p w) t (cursorAt (Body k) offset) (ASpot (record { name = f; offset = offset; size = z; described = v .described; padding = v .padding }) (cursorAt (Body c) e)))
+      (sym n)
+      (spot-field s p w t k offset (AField (fieldAt y) c) (fields-found s (k .at) r i a j m y (fieldAt y) c d refl l) (fieldAt y) c refl z e (v .described) (v .padding)
+      (u ∙ ap (λ (f : Cursor). getD t (f .at / 33) 0) (sym l)) (g .text) (g .padded) q)
 
 -- a step from any cursor ---------------------------------------------------------------------------------------------------
 

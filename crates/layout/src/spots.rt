@@ -6,14 +6,12 @@ use record::command::Command;
 use record::command::Cursor;
 use record::command::Family;
 use record::command::Step;
+use record::cut;
 use record::describe::Description;
-use record::describe::shape_type;
-use record::kind::is_padding;
-use record::kind::kind_of;
+use record::describe::shape_at;
 use record::le::byte_at;
-use record::lists::FieldStep;
-use record::lists::next_field;
 use record::operands::OptText;
+use record::operands::text_at;
 use record::reader::command_at;
 use record::seek::Between;
 use record::seek::Sought;
@@ -24,7 +22,6 @@ use record::sizes::scalar_bytes;
 use record::sizes::sum;
 use record::sizes::wide;
 use record::text::Text;
-use record::text::bytes_of;
 use record::text::same;
 ghost use mathlib.Core.List.{List};
 ghost use Prim.Native.Nat.{ℕ};
@@ -152,22 +149,23 @@ fn length_spot(rows: &[u8], pool: &[u8], f: Family, k: Cursor, offset: u64) -> S
 fn field_spot(stream: &[u8], pool: &[u8], sizes: &[u64], k: Cursor, offset: u64) -> SpotStep
     ensures { λ r. ⌜ ((w : List Scalar) → SpotsFrom (rec (now (stream .entry)) (now (pool .entry)) w) (now (sizes .entry)) (cursorAt (Ahead.Body k) offset) r) ⌝ }
 {
-    let FieldStep::AField(f, after) = next_field(stream, k) else {
+    let Sought::At(place, after) = seek(stream, k.at, 11, Between::Keys) else {
         return SpotStep::NoSpot;
     };
-    let name = f.name;
-    let kind = f.kind;
-    let size = size_before(sizes, after.at);
+    let s = cut::from(stream, place);
+    let shape = shape_at(pool, s);
+    let described = shape.described;
+    let size = size_before(sizes, after);
     SpotStep::ASpot(
         Spot {
-            name,
+            name: text_at(s, 1),
             offset,
             size,
-            described: shape_type(pool, f),
-            padding: is_padding(kind_of(bytes_of(pool, kind))),
+            described,
+            padding: shape.padding,
         },
         SpotCursor {
-            ahead: Ahead::Body(after),
+            ahead: Ahead::Body(Cursor::place(after)),
             offset: sum(offset, size),
         },
     )

@@ -1,7 +1,8 @@
 -- The cases of a field's description, as the code's branches need them. Assumes nothing.
-use mathlib.Core.Path.{_≡_, refl, sym, ap}
+use mathlib.Core.Path.{_≡_, refl, sym, ap, ap₂, _∙_}
 use mathlib.Core.List.{List, [], _∷_, _++_, append-nil, append-assoc}
 use mathlib.Core.Option.{Option, none}
+use mathlib.Core.Bool.{Bool, true, false}
 use Prim.Native.Nat.{ℕ}
 use types.Run.{OneOf, miss}
 use denote.Enum.Declared.{tagOf}
@@ -9,73 +10,102 @@ use Rattle.record.specs.Base.{Str, bytes, eqs, decimal, orElse, orOption
 use Rattle.record.specs.Schema.{Field, Key}
 use Rattle.record.specs.Stretch.{textOf}
 use Rattle.record.specs.Lists.{optOf, numberOf, fieldOf}
-use Rattle.record.specs.Kind.{words, meaning, kindOf}
+use Rattle.record.specs.Operands.{textAt, optTextAt, optNumberAt}
+use Rattle.record.specs.Commands.{fieldAt}
+use Rattle.record.specs.Kind.{words, meaning, kindOf, isPadding}
 use Rattle.record.specs.Write.{Puts}
 use Rattle.record.specs.Shapes.{spaced, named, restAs, shapeType, plain}
 use Rattle.record.specs.declared.text.Text.{Text}
 use Rattle.record.specs.declared.operands.OptText.{OptText}
 use Rattle.record.specs.declared.operands.OptText.the-variants.{Absent, Given}
+use Rattle.record.specs.declared.operands.OptNumber.{OptNumber}
 use Rattle.record.specs.declared.command as D
 use Rattle.record.specs.declared.kind.Kind.{Kind}
 use Rattle.record.specs.declared.kind.Kind.the-variants as K
 use Rattle.record.specs.declared.describe.Description.{Description}
 use Rattle.record.specs.declared.describe.Description.the-variants.{Plain, Named, Array, Array2d, Discriminant, Length}
-use Rattle.record.specs.Describe.{elementOf, times, describedAs}
+use Rattle.record.specs.Describe.{elementOf, times, describedAs, Shaped}
 use Rattle.record.proofs.kind.Kind.{the-type}
 use Rattle.record.proofs.WriterLaws.{puts-then, puts-as}
 
--- the tags of all kinds but the arrays
-abbrev pub noArray : List ℕ
-noArray = 0 ∷ 1 ∷ 2 ∷ 3 ∷ 6 ∷ 7 ∷ 8 ∷ 9 ∷ 10 ∷ 11 ∷ 12 ∷ 13 ∷ 14 ∷ 15 ∷ 16 ∷ []
+-- the tags of all kinds but the arrays and padding
+abbrev pub named-tags : List ℕ
+named-tags = 0 ∷ 1 ∷ 2 ∷ 3 ∷ 6 ∷ 7 ∷ 8 ∷ 9 ∷ 10 ∷ 11 ∷ 12 ∷ 13 ∷ 15 ∷ 16 ∷ []
 
-rest-named : (m : Kind) (f : Field) → OneOf noArray (tagOf the-type m) → restAs m f ≡ named f
+-- what all these have in common
+record PlainKind (m : Kind) (f : Field) : Type 0 where
+  pub rest : named f ≡ restAs m f
+  pub no-padding : false ≡ isPadding m
+
+plain-kind : (m : Kind) (f : Field) → OneOf named-tags (tagOf the-type m) → PlainKind m f
 unfolding restAs
-rest-named K.Scalar f h = refl
-rest-named K.Enum f h = refl
-rest-named K.TypeAlias f h = refl
-rest-named K.Bitfield f h = refl
-rest-named K.InlineArray f h = absurd (miss noArray 4 tt h)
-rest-named K.InlineArray2d f h = absurd (miss noArray 5 tt h)
-rest-named K.CstrPtr f h = refl
-rest-named K.StructPtr f h = refl
-rest-named K.StructArrayPtr f h = refl
-rest-named K.StructPtrArrayPtr f h = refl
-rest-named K.TaggedFamPtr f h = refl
-rest-named K.SimpleFamPtr f h = refl
-rest-named K.OpaquePtr f h = refl
-rest-named K.FnPtr f h = refl
-rest-named K.Padding f h = refl
-rest-named K.Text f h = refl
-rest-named K.Other f h = refl
+plain-kind K.Scalar f h = record { rest = refl; no-padding = refl }
+plain-kind K.Enum f h = record { rest = refl; no-padding = refl }
+plain-kind K.TypeAlias f h = record { rest = refl; no-padding = refl }
+plain-kind K.Bitfield f h = record { rest = refl; no-padding = refl }
+plain-kind K.InlineArray f h = absurd (miss named-tags 4 tt h)
+plain-kind K.InlineArray2d f h = absurd (miss named-tags 5 tt h)
+plain-kind K.CstrPtr f h = record { rest = refl; no-padding = refl }
+plain-kind K.StructPtr f h = record { rest = refl; no-padding = refl }
+plain-kind K.StructArrayPtr f h = record { rest = refl; no-padding = refl }
+plain-kind K.StructPtrArrayPtr f h = record { rest = refl; no-padding = refl }
+plain-kind K.TaggedFamPtr f h = record { rest = refl; no-padding = refl }
+plain-kind K.SimpleFamPtr f h = record { rest = refl; no-padding = refl }
+plain-kind K.OpaquePtr f h = record { rest = refl; no-padding = refl }
+plain-kind K.FnPtr f h = record { rest = refl; no-padding = refl }
+plain-kind K.Padding f h = absurd (miss named-tags 14 tt h)
+plain-kind K.Text f h = record { rest = refl; no-padding = refl }
+plain-kind K.Other f h = record { rest = refl; no-padding = refl }
 
-module _ (p : Str) (f : D.Field.Field) (x : Str) (k : Kind) (e : x ≡ textOf p (f .kind)) (q : k ≡ kindOf x) where
-  type-is : shapeType (fieldOf p f none) ≡ textOf p (f .kind) ++ restAs k (fieldOf p f none)
+-- the type that a field names, or else its element
+module _ (s p : Str) (k : Text) (o : OptText) (e : o ≡ optTextAt s 7) where
+  pub type-named : (t : Text) → o ≡ Given t → describedAs p (Named k t) ≡ textOf p k ++ named (fieldOf p (fieldAt s) none)
+  unfolding named spaced orOption
+  type-named t a = rw (← e, a)
+
+  module _ (a : o ≡ Absent) (q : OptText) (g : q ≡ optTextAt s 10) where
+    pub element-named : (t : Text) → q ≡ Given t → describedAs p (Named k t) ≡ textOf p k ++ named (fieldOf p (fieldAt s) none)
+    unfolding named spaced orOption
+    element-named t b = rw (← e, a, ← g, b)
+
+    pub none-named : q ≡ Absent → describedAs p (Plain k) ≡ textOf p k ++ named (fieldOf p (fieldAt s) none)
+    unfolding named spaced orOption
+    none-named b = rw (← e, a, ← g, b) (sym (append-nil (textOf p k)))
+
+pub ruleset named-laws = (type-named, element-named, none-named)
+
+module _ (p s : Str) (t : Text) (x : Str) (k : Kind) (d : t ≡ textAt s 4) (e : x ≡ textOf p t) (q : k ≡ kindOf x) where
+  kind-is : k ≡ kindOf (textOf p (textAt s 4))
+  kind-is = q ∙ ap kindOf (e ∙ ap (textOf p) d)
+
+  shaped : (v : Description) (b : Bool) → describedAs p v ≡ textOf p t ++ restAs k (fieldOf p (fieldAt s) none) → b ≡ isPadding k → Shaped p s (record { described = v; padding = b })
   unfolding shapeType
-  type-is = rw (q, e)
+  shaped v b u a = record {
+    text = u ∙ ap₂ (λ (i : Text) (m : Kind). textOf p i ++ restAs m (fieldOf p (fieldAt s) none)) d kind-is;
+    padded = a ∙ ap isPadding kind-is;
+  }
 
-  pub array-described : (n : ℕ) → k ≡ K.InlineArray → n ≡ orElse (numberOf (f .count)) 0 → describedAs p (Array (f .kind) (f .element) n) ≡ shapeType (fieldOf p f none)
+  pub array-shaped : (o : OptText) (c : OptNumber) (n : ℕ) → k ≡ K.InlineArray → o ≡ optTextAt s 10 → c ≡ optNumberAt s 13 → n ≡ orElse (numberOf c) 0
+      → Shaped p s (record { described = Array t o n; padding = false })
   unfolding restAs
-  array-described n h a = rw (type-is, h, a)
+  array-shaped o c n h a b g = shaped (Array t o n) false (rw (h, g, a, b)) (rw h)
 
-  pub array2d-described : (m n : ℕ) → k ≡ K.InlineArray2d → m ≡ orElse (numberOf (f .rows)) 0 → n ≡ orElse (numberOf (f .cols)) 0
-      → describedAs p (Array2d (f .kind) (f .element) m n) ≡ shapeType (fieldOf p f none)
+  pub array2d-shaped : (o : OptText) (c i : OptNumber) (m n : ℕ) → k ≡ K.InlineArray2d → o ≡ optTextAt s 10 → c ≡ optNumberAt s 18 → m ≡ orElse (numberOf c) 0 → i ≡ optNumberAt s 23
+      → n ≡ orElse (numberOf i) 0 → Shaped p s (record { described = Array2d t o m n; padding = false })
   unfolding restAs
-  array2d-described m n h a b = rw (type-is, h, a, b)
+  array2d-shaped o c i m n h a b g j l = shaped (Array2d t o m n) false (rw (h, g, l, a, b, j)) (rw h)
 
-  module _ (h : OneOf noArray (tagOf the-type k)) where
-    pub type-described : (t : Text) → f .«type_name» ≡ Given t → describedAs p (Named (f .kind) t) ≡ shapeType (fieldOf p f none)
-    unfolding named spaced orOption
-    type-described t a = rw (type-is, rest-named k (fieldOf p f none) h, a)
+  module _ (v : Description) (g : (p : Str) → describedAs p v ≡ textOf p t ++ named (fieldOf p (fieldAt s) none)) where
+    pub padding-shaped : k ≡ K.Padding → Shaped p s (record { described = v; padding = true })
+    unfolding restAs
+    padding-shaped h = shaped v true (g p ∙ rw h) (rw h)
 
-    pub element-described : (t : Text) → f .«type_name» ≡ Absent → f .element ≡ Given t → describedAs p (Named (f .kind) t) ≡ shapeType (fieldOf p f none)
-    unfolding named spaced orOption
-    element-described t a b = rw (type-is, rest-named k (fieldOf p f none) h, a, b)
+    pub other-shaped : OneOf named-tags (tagOf the-type k) → Shaped p s (record { described = v; padding = false })
+    other-shaped h =
+        let l = plain-kind k (fieldOf p (fieldAt s) none) h in
+        shaped v false (g p ∙ ap (λ (i : Str). textOf p t ++ i) (l .rest)) (l .no-padding)
 
-    pub plain-described : f .«type_name» ≡ Absent → f .element ≡ Absent → describedAs p (Plain (f .kind)) ≡ shapeType (fieldOf p f none)
-    unfolding named spaced orOption
-    plain-described a b = rw (type-is, rest-named k (fieldOf p f none) h, a, b) (sym (append-nil (textOf p (f .kind))))
-
-pub ruleset describe-laws = (array-described, array2d-described, type-described, element-described, plain-described)
+pub ruleset shape-laws = (array-shaped, array2d-shaped, padding-shaped, other-shaped)
 
 -- the plugin key plays no part
 rest-keyless : (m : Kind) (p : Str) (f : D.Field.Field) (k : Option Key) → restAs m (fieldOf p f k) ≡ restAs m (fieldOf p f none)

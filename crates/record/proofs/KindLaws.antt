@@ -1,4 +1,4 @@
--- One entry of the table of words: it is the word, or the rest of the table decides. Words of other lengths play no part. What a test for padding tells.
+-- One entry of the table of words: it is the word, or the rest of the table decides. Words of other lengths play no part.
 use Prim.Native.Nat.{ℕ}
 use mathlib.Core.List.{List, [], _∷_}
 use mathlib.Core.Bool.{Bool, true, false, cond}
@@ -6,13 +6,10 @@ use mathlib.Core.Path.{_≡_, refl, sym, ap, _∙_}
 use lib.ListN.{length}
 use lib.Dec.{eqb}
 use borrow.Author.Tests.{eqb-false}
-use types.Run.{OneOf, miss}
-use denote.Enum.Declared.{tagOf}
 use Rattle.record.specs.Base.{Str, bytes, eqs}
 use Rattle.record.specs.declared.kind.Kind.{Kind}
-use Rattle.record.specs.declared.kind.Kind.the-variants.{Scalar, Enum, TypeAlias, Bitfield, InlineArray, InlineArray2d, CstrPtr, StructPtr, StructArrayPtr, StructPtrArrayPtr, TaggedFamPtr, SimpleFamPtr, OpaquePtr, FnPtr, Padding, Text, Other}
-use Rattle.record.specs.Kind.{Word, words, ofLength, meaning, kindOf, isPadding}
-use Rattle.record.proofs.kind.Kind.{the-type}
+use Rattle.record.specs.declared.kind.Kind.the-variants.{Other}
+use Rattle.record.specs.Kind.{Word, words, ofLength, meaning, kindOf}
 use Rattle.record.proofs.WordLaws.{same-length}
 
 module _ (w : Str) where
@@ -61,29 +58,3 @@ module _ (w : Str) where
   unfolding kindOf words bytes
   kind-of-none six four eight ten twelve fourteen seven sixteen twenty =
       none-apart w words (six, (four, (ten, (eight, (twelve, (fourteen, (eight, (ten, (sixteen, (twenty, (fourteen, (fourteen, (ten, (six, (seven, (six, tt))))))))))))))))
-
-pub padding-is : (k : Kind) → k ≡ Padding → true ≡ isPadding k
-padding-is k e = rw e
-
--- what the other arm of a match on padding knows: the tag is another's
-abbrev pub notPadding : List ℕ
-notPadding = 0 ∷ 1 ∷ 2 ∷ 3 ∷ 4 ∷ 5 ∷ 6 ∷ 7 ∷ 8 ∷ 9 ∷ 10 ∷ 11 ∷ 12 ∷ 13 ∷ 15 ∷ 16 ∷ []
-
-pub padding-not : (k : Kind) → OneOf notPadding (tagOf the-type k) → false ≡ isPadding k
-padding-not Scalar h = refl
-padding-not Enum h = refl
-padding-not TypeAlias h = refl
-padding-not Bitfield h = refl
-padding-not InlineArray h = refl
-padding-not InlineArray2d h = refl
-padding-not CstrPtr h = refl
-padding-not StructPtr h = refl
-padding-not StructArrayPtr h = refl
-padding-not StructPtrArrayPtr h = refl
-padding-not TaggedFamPtr h = refl
-padding-not SimpleFamPtr h = refl
-padding-not OpaquePtr h = refl
-padding-not FnPtr h = refl
-padding-not Padding h = absurd (miss notPadding 14 tt h)
-padding-not Text h = refl
-padding-not Other h = refl

@@ -1,8 +1,10 @@
 // How a field's type reads: shape_type of the Rust, as the parts of the text, and the text put into a buffer.
-use crate::command::Field;
 use crate::kind::Kind;
 use crate::kind::kind_of;
 use crate::operands::OptText;
+use crate::operands::opt_number_at;
+use crate::operands::opt_text_at;
+use crate::operands::text_at;
 use crate::sizes::or_else;
 use crate::text::Text;
 use crate::text::bytes_of;
@@ -14,12 +16,13 @@ ghost use mathlib.Core.Path.{_≡_};
 ghost use mathlib.Core.Option.{none};
 ghost use mathlib.Core.List.{_++_};
 ghost use Prim.Native.Nat.{_+_, _≤_};
-ghost use Rattle.record.specs.Base.{bytes};
+ghost use Rattle.record.specs.Base.{Str, bytes};
 ghost use Rattle.record.specs.Stretch.{textOf};
 ghost use Rattle.record.specs.Lists.{fieldOf};
-ghost use Rattle.record.specs.Shapes.{shapeType};
+ghost use Rattle.record.specs.Commands.{fieldAt};
+ghost use Rattle.record.specs.Shapes.{named};
 ghost use Rattle.record.specs.Write.{Puts};
-ghost use Rattle.record.specs.Describe.{elementOf, times, describedAs};
+ghost use Rattle.record.specs.Describe.{elementOf, times, describedAs, Shaped};
 
 pub enum Description {
     // A kind alone.
@@ -36,29 +39,59 @@ pub enum Description {
     Length(OptText),
 }
 
-// How a field's type reads: an array by its element and dimensions, any other kind by the type it names or else its element.
-pub fn shape_type(pool: &[u8], f: Field) -> Description
-    ensures { λ r. ⌜ describedAs (now (pool .entry)) r ≡ shapeType (fieldOf (now (pool .entry)) f none) ⌝ }
+// How a field's type reads, and whether the field is padding.
+pub struct Shape {
+    pub described: Description,
+    pub padding: bool,
+}
+
+// A kind and the type that a field names, or else its element.
+fn named_at(kind: Text, s: &[u8]) -> Description
+    ensures { λ r. ⌜ ((p : Str) → describedAs p r ≡ textOf p kind ++ named (fieldOf p (fieldAt (now (s .entry))) none)) ⌝ }
 {
-    let kind = f.kind;
-    let named = f.type_name;
-    let element = f.element;
-    let count = f.count;
-    let rows = f.rows;
-    let cols = f.cols;
+    if let OptText::Given(name) = opt_text_at(s, 7) {
+        return Description::Named(kind, name);
+    }
+    if let OptText::Given(name) = opt_text_at(s, 10) {
+        return Description::Named(kind, name);
+    }
+    Description::Plain(kind)
+}
+
+// The shape of a field, from the bytes that begin with its command. The word of the kind is looked up once for both answers.
+pub fn shape_at(pool: &[u8], s: &[u8]) -> Shape
+    ensures { λ r. ⌜ Shaped (now (pool .entry)) (now (s .entry)) r ⌝ }
+{
+    let kind = text_at(s, 4);
     match kind_of(bytes_of(pool, kind)) {
-        Kind::InlineArray => Description::Array(kind, element, or_else(count, 0)),
+        Kind::InlineArray => {
+            let element = opt_text_at(s, 10);
+            let count = or_else(opt_number_at(s, 13), 0);
+            Shape {
+                described: Description::Array(kind, element, count),
+                padding: false,
+            }
+        }
         Kind::InlineArray2d => {
-            Description::Array2d(kind, element, or_else(rows, 0), or_else(cols, 0))
+            let element = opt_text_at(s, 10);
+            let rows = or_else(opt_number_at(s, 18), 0);
+            let cols = or_else(opt_number_at(s, 23), 0);
+            Shape {
+                described: Description::Array2d(kind, element, rows, cols),
+                padding: false,
+            }
+        }
+        Kind::Padding => {
+            Shape {
+                described: named_at(kind, s),
+                padding: true,
+            }
         }
         _ => {
-            if let OptText::Given(name) = named {
-                return Description::Named(kind, name);
+            Shape {
+                described: named_at(kind, s),
+                padding: false,
             }
-            if let OptText::Given(name) = element {
-                return Description::Named(kind, name);
-            }
-            Description::Plain(kind)
         }
     }
 }

@@ -1,7 +1,7 @@
 // The kinds of a field.
 use crate::text::same;
 ghost use mathlib.Core.Path.{_≡_};
-ghost use Rattle.record.specs.Kind.{words, ofLength, meaning, kindOf, isPadding};
+ghost use Rattle.record.specs.Kind.{words, ofLength, meaning, kindOf};
 
 // What a field is; Other is a word that names no kind.
 pub enum Kind {
@@ -168,14 +168,4 @@ fn kind_of_twenty(word: &[u8]) -> Kind
         return Kind::StructPtrArrayPtr;
     }
     Kind::Other
-}
-
-// Whether a kind is padding: what a caller tests, without a match of its own.
-pub fn is_padding(k: Kind) -> bool
-    ensures { λ r. ⌜ r ≡ isPadding k ⌝ }
-{
-    if let Kind::Padding = k {
-        return true;
-    }
-    false
 }

@@ -1,53 +1,73 @@
-use Rattle.layout.proofs.SpotLaws.{spot-none, spot-field}
+use Rattle.layout.proofs.SpotLaws.{no-spot, spot-at}
 use borrow.Author.Needs.{needs}
 use Rattle.layout.proofs.spots.field_spot.Statement.{statement}
 use Rattle.layout.proofs.spots.field_spot.Tie as tie
+use Rattle.layout.proofs.spots.field_spot.Reads as reads
+use Rattle.layout.proofs.spots.field_spot.Lts as lts
+use Rattle.layout.proofs.field_sizes.size_before.Reads as size-before-reads
+use Rattle.record.proofs.command.Cursor.place.Reads as place-reads
+use Rattle.record.proofs.cut.from.Reads as from-reads
+use Rattle.record.proofs.describe.shape_at.Reads as shape-at-reads
+use Rattle.record.proofs.operands.text_at.Reads as text-at-reads
+use Rattle.record.proofs.seek.seek.Reads as seek-reads
+use Rattle.record.proofs.sizes.sum.Reads as sum-reads
 
-next-field-requires : tie.Need-next-field-requires
-next-field-requires c κs = search needs
+-- src/spots.rt:152:36
+seek-requires : tie.Need-seek-requires
+seek-requires c κs = search needs
 
-enum-known-f : tie.Need-enum-known-f
-enum-known-f c = search needs
+-- src/spots.rt:152:20
+enum-known-place : tie.Need-enum-known-place
+enum-known-place c = search needs
 
+-- src/spots.rt:153:9
 enum-told : tie.Need-enum-told
 enum-told c = search needs
 
+-- src/spots.rt:153:9
 returns : tie.Need-returns
-returns c = λ w. search spot-none
+returns c = λ w. search no-spot
 
+-- src/spots.rt:155:9
+from-requires : tie.Need-from-requires
+from-requires c κs = search needs
+
+-- src/spots.rt:156:9
+shape-at-requires : tie.Need-shape-at-requires
+shape-at-requires c κs = search needs
+
+-- src/spots.rt:158:9
 size-before-requires : tie.Need-size-before-requires
 size-before-requires c κs = search needs
 
-shape-type-requires : tie.Need-shape-type-requires
-shape-type-requires c κs = search needs
+-- src/spots.rt:161:19
+text-at-requires : tie.Need-text-at-requires
+text-at-requires c κs = search needs
 
-bytes-of-requires : tie.Need-bytes-of-requires
-bytes-of-requires c κs = search needs
+-- src/spots.rt:168:32
+place-requires : tie.Need-place-requires
+place-requires c κs = search needs
 
-kind-of-requires : tie.Need-kind-of-requires
-kind-of-requires c κs = search needs
-
-is-padding-requires : tie.Need-is-padding-requires
-is-padding-requires c κs = search needs
-
+-- src/spots.rt:169:21
 sum-requires : tie.Need-sum-requires
 sum-requires c κs = search needs
 
+-- src/spots.rt:149:1
 returns-2 : tie.Need-returns-2
-returns-2 c = λ w. search spot-field
+returns-2 c = λ w. search spot-at
 
 pub field-spot-spec : {M : Type 1} → statement M
 field-spot-spec =
     tie.close
     (tie.spec
-    next-field-requires
-    enum-known-f
+    seek-requires
+    enum-known-place
     enum-told
     returns
+    from-requires
+    shape-at-requires
     size-before-requires
-    shape-type-requires
-    bytes-of-requires
-    kind-of-requires
-    is-padding-requires
+    text-at-requires
+    place-requires
     sum-requires
     returns-2)
