@@ -35,6 +35,7 @@ use Rattle.record.proofs.Basics.{eqs→eq, eqs-refl}
 use Rattle.record.proofs.VersionedLaws.{versioned-are-roots}
 use Rattle.record.proofs.WriterLaws.{puts-exact, puts-front}
 use Rattle.record.proofs.StepLaws.{constants-over-now, constants-now}
+use Rattle.layout.specs.Room.{Room}
 use Rattle.layout.specs.Constants.{placedConstant, ConstantsTable}
 use Rattle.definition.specs.Verdicts as D
 use Rattle.definition.specs.Pass.{ensure, required, onFound}
@@ -276,8 +277,8 @@ module _ (s p b q : Str) (t : List ℕ) (i : ℕ) where
 pub ruleset placed-laws = (placed-end, placed-on, placed-stop)
 
 -- the table holds the released constants in byte order of their names
-pub table-checked : (s p b q : Str) (t x y : List ℕ) (v : Verdict) → length b ≤ 32768 → 8192 ≤ length x → 8192 ≤ length y
-    → (length b ≤ 32768 → 8192 ≤ length x → 8192 ≤ length y → ConstantsTable b q t)
+pub table-checked : (s p b q : Str) (t x y : List ℕ) (v : Verdict) → length b ≤ 32768 → Room b x → Room b y
+    → (length b ≤ 32768 → Room b x → Room b y → ConstantsTable b q t)
     → meaning p q v ≡ checkConstantsIn (structsAt s p 0) (constantsAt s p 0) (map (placedConstant b q) t) → meaning p q v ≡ checkConstants (structsAt s p 0) (constantsAt s p 0) (constantsAt b q 0)
 unfolding checkConstants
 table-checked s p b q t x y v i j k h e = e ∙ ap (checkConstantsIn (structsAt s p 0) (constantsAt s p 0)) (h i j k .constants)

@@ -24,6 +24,7 @@ ghost use Rattle.record.specs.Base.{eqs, signed};
 ghost use Rattle.record.specs.Lists.{constantOf};
 ghost use Rattle.record.specs.Steps.{structsAt, constantsAt, structFound, constantFound};
 ghost use Rattle.record.specs.Owner.{withName};
+ghost use Rattle.layout.specs.Room.{Room};
 ghost use Rattle.layout.specs.Constants.{placedConstant};
 ghost use Rattle.definition.specs.Constants.{valueText};
 ghost use Rattle.verdicts.specs.Arguments.{valueMeant};
@@ -189,7 +190,7 @@ pub(crate) fn check_constants(
     table: &mut [u32],
     scratch: &mut [u32],
 ) -> Verdict
-    requires { ⌜ (length (now past) ≤ 32768) × (8192 ≤ length (now table)) × (8192 ≤ length (now scratch)) ⌝ }
+    requires { ⌜ (length (now past) ≤ 32768) × Room (now past) (now table) × Room (now past) (now scratch) ⌝ }
     ensures { λ r. ⌜ meaning (now (pool .entry)) (now (old .entry)) r ≡ checkConstants (structsAt (now (stream .entry)) (now (pool .entry)) 0) (constantsAt (now (stream .entry)) (now (pool .entry)) 0) (constantsAt (now (past .entry)) (now (old .entry)) 0) ⌝ }
 {
     let n = constant_table(past, old, table, scratch);

@@ -1,5 +1,5 @@
 -- The handles along the stream, a table while it is filled, and the room that it needs. Assumes nothing.
-use Prim.Native.Nat.{ℕ, suc, _+_, _-_, _*_, _≤_, _<_}
+use Prim.Native.Nat.{ℕ, suc, _+_, _-_, _*_, _/_, _≤_, _<_}
 use mathlib.Core.List.{List, [], _∷_, _++_, append-assoc, append-nil}
 use mathlib.Core.Bool.{Bool, true, false, _||_, cond}
 use mathlib.Core.Path.{_≡_, refl, sym, ap, ap₂, subst, _∙_}
@@ -25,6 +25,7 @@ use Rattle.record.proofs.Stream.{step-found, along}
 use Rattle.record.proofs.ListLaws.{byteOf, listed-stop, listed-here, listed-over, listed-end}
 use Rattle.layout.proofs.Along.{four-wide, step-four}
 use Rattle.record.specs.Fill.{fronted}
+use Rattle.layout.specs.Room.{Room}
 use Rattle.layout.specs.Handles.{variantHandles, joinedHandles, familyHandles, handlesOf, familiesFrom}
 
 -- a step along the stream -------------------------------------------------------------------------------------------------
@@ -287,12 +288,12 @@ module _ (s : Str) (b : ℕ) where
       let o = place-more s at c k e b in
       omega arith)
 
-  -- they are at most 8,192
-  pub places-fit : (o : List ℕ) → length s ≤ 32768 → 8192 ≤ length o → length (placesOf s Anything b 0) ≤ length o
-  places-fit o h k = let a = places-room 0 in omega arith
+  -- four bytes of the stream are one of them at most
+  pub places-fit : (o : List ℕ) → Room s o → length (placesOf s Anything b 0) ≤ length o
+  places-fit o h = let a = places-room 0 in omega arith
 
-  pub places-few : (o t left : List ℕ) (n : ℕ) → Filling (placesOf s Anything b 0) left o t n → left ≡ [] → length s ≤ 32768 → n ≤ 8192
-  places-few o t left n f z h = let a = places-room 0 in let i = fill-count (placesOf s Anything b 0) o t n left f z in omega arith
+  pub places-few : (o t left : List ℕ) (n : ℕ) → Filling (placesOf s Anything b 0) left o t n → left ≡ [] → n ≤ length s / 4
+  places-few o t left n f z = let a = places-room 0 in let i = fill-count (placesOf s Anything b 0) o t n left f z in omega arith
 
 -- all handles -------------------------------------------------------------------------------------------------------------
 
@@ -314,12 +315,12 @@ module _ (s : Str) where
   unfolding placesOf familiesFrom handlesOf
   all-are = refl
 
-  -- a record has at most 8,192 types
-  few : length s ≤ 32768 → length (placesOf s Anything 8 0) + length (familiesFrom s 0 0) ≤ 8192
-  few h = let a = all-room 0 0 in omega arith
+  -- four bytes of the stream are one type at most
+  few : length (placesOf s Anything 8 0) + length (familiesFrom s 0 0) ≤ length s / 4
+  few = let a = all-room 0 0 in omega arith
 
-  pub families-fit : (n : ℕ) → length s ≤ 32768 → n ≡ length (placesOf s Anything 8 0) → n + length (familiesFrom s 0 0) ≤ 8192
-  families-fit n h i = let a = few h in omega arith
+  pub families-fit : (n : ℕ) → n ≡ length (placesOf s Anything 8 0) → n + length (familiesFrom s 0 0) ≤ length s / 4
+  families-fit n i = let a = few in omega arith
 
   module _ (o t : List ℕ) (n : ℕ) (i : n ≡ length (placesOf s Anything 8 0)) where
     pub all-count : (m : ℕ) → m ≡ length (familiesFrom s 0 0) → n + m ≡ length (handlesOf s)

@@ -83,8 +83,8 @@ cuts-agree a b n h k = length-take-le n a h ∙ cut-long b n k
 pub cut-small : (t : List ℕ) (n : ℕ) → n ≤ 8192 → n ≤ length t → length (take n t) ≤ 65536
 cut-small t n h k = let e = cut-long t n k in omega arith
 
-pub cut-few : (t : List ℕ) (n r : ℕ) → r ≤ length (take n t) → n ≤ 8192 → r ≤ 8192
-cut-few t n r h k = let e = length-take n t in omega arith
+pub cut-few : (t : List ℕ) (n r m : ℕ) → r ≤ length (take n t) → n ≤ m → r ≤ m
+cut-few t n r m h k = let e = length-take n t in omega arith
 
 pub kept-sorted : (key : ℕ → Str) (a b x : List ℕ) (r : ℕ) → b ≡ arranged key a → take r x ≡ lasts key b → take r x ≡ lasts key (arranged key a)
 kept-sorted key a b x r e f = f ∙ ap (lasts key) e

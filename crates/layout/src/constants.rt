@@ -4,16 +4,17 @@ use crate::table::arrange;
 use record::command::Constant;
 use record::command::constant_at;
 use record::cut::from;
-ghost use Prim.Native.Nat.{_≤_};
+ghost use Prim.Native.Nat.{_/_, _≤_};
 ghost use mathlib.Core.Path.{_≡_};
 ghost use lib.ListN.{length, take, drop};
 ghost use Rattle.record.specs.Commands.{constantAt};
+ghost use Rattle.layout.specs.Room.{Room};
 ghost use Rattle.layout.specs.Constants.{ConstantsTable};
 
 // The table, where the record is within its limit and the lent tables are long enough.
 fn fill_constants(stream: &[u8], pool: &[u8], table: &mut [u32], scratch: &mut [u32]) -> usize
-    requires { ⌜ (length (now stream) ≤ 32768) × (8192 ≤ length (now table)) × (8192 ≤ length (now scratch)) ⌝ }
-    ensures { λ r. ⌜ ConstantsTable (now (stream .entry)) (now (pool .entry)) (take r (now (table .exit))) × (r ≤ 8192) ⌝ }
+    requires { ⌜ (length (now stream) ≤ 32768) × Room (now stream) (now table) × Room (now stream) (now scratch) ⌝ }
+    ensures { λ r. ⌜ ConstantsTable (now (stream .entry)) (now (pool .entry)) (take r (now (table .exit))) × (r ≤ length (now (stream .entry)) / 4) ⌝ }
 {
     let n = fill_places(stream, 2, table);
     arrange(stream, pool, &mut table[..n], &mut scratch[..n])
@@ -21,15 +22,15 @@ fn fill_constants(stream: &[u8], pool: &[u8], table: &mut [u32], scratch: &mut [
 
 // The table of a record's constants at the front of `table`; and how many they are.
 pub fn constant_table(stream: &[u8], pool: &[u8], table: &mut [u32], scratch: &mut [u32]) -> usize
-    ensures { λ r. ⌜ (length (now (stream .entry)) ≤ 32768 → 8192 ≤ length (now (table .entry)) → 8192 ≤ length (now (scratch .entry)) → ConstantsTable (now (stream .entry)) (now (pool .entry)) (take r (now (table .exit)))) × (r ≤ length (now (table .entry))) ⌝ }
+    ensures { λ r. ⌜ (length (now (stream .entry)) ≤ 32768 → Room (now (stream .entry)) (now (table .entry)) → Room (now (stream .entry)) (now (scratch .entry)) → ConstantsTable (now (stream .entry)) (now (pool .entry)) (take r (now (table .exit)))) × (r ≤ length (now (table .entry))) ⌝ }
 {
     if 32768 < stream.len() {
         return 0;
     }
-    if table.len() < 8192 {
+    if table.len() < stream.len() / 4 {
         return 0;
     }
-    if scratch.len() < 8192 {
+    if scratch.len() < stream.len() / 4 {
         return 0;
     }
     fill_constants(stream, pool, table, scratch)

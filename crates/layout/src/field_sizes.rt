@@ -4,11 +4,12 @@ use record::seek::Between;
 use record::seek::Sought;
 use record::seek::seek;
 use record::sizes::field_size;
-ghost use Prim.Native.Nat.{_/_, _≤_};
+ghost use Prim.Native.Nat.{_/_};
 ghost use mathlib.Core.Path.{_≡_};
-ghost use lib.ListN.{length, getD, set};
+ghost use lib.ListN.{getD, set};
 ghost use Rattle.record.specs.Scalars.{scalarsOf};
 ghost use Rattle.record.specs.Reading.{rec};
+ghost use Rattle.layout.specs.Room.{SizesRoom};
 ghost use Rattle.layout.specs.FieldSizes.{SizesTable};
 
 // A field takes 33 bytes of the stream, so no two fields have one entry: the place after a field divided by 33.
@@ -33,9 +34,9 @@ pub fn size_before(sizes: &[u64], after: usize) -> u64
     sizes[entry]
 }
 
-// The sizes of all fields. A stream as long as number 8 lets pass needs 993 entries.
+// The sizes of all fields.
 pub fn fill_sizes(rows: &[u8], stream: &[u8], pool: &[u8], sizes: &mut [u64])
-    ensures { λ r. ⌜ (length (now (stream .entry)) ≤ 32768 → 993 ≤ length (now (sizes .entry)) → SizesTable (rec (now (stream .entry)) (now (pool .entry)) (scalarsOf (now (rows .entry)))) (now (sizes .exit))) ⌝ }
+    ensures { λ r. ⌜ (SizesRoom (now (stream .entry)) (now (sizes .entry)) → SizesTable (rec (now (stream .entry)) (now (pool .entry)) (scalarsOf (now (rows .entry)))) (now (sizes .exit))) ⌝ }
 {
     let mut at = 0;
     loop {

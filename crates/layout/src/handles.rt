@@ -5,12 +5,13 @@ use record::seek::Sought;
 use record::seek::after_at;
 use record::seek::passes;
 use record::seek::seek;
-ghost use Prim.Native.Nat.{_+_, _≤_};
+ghost use Prim.Native.Nat.{_+_, _/_, _≤_};
 ghost use mathlib.Core.Path.{_≡_};
 ghost use lib.ListN.{length};
 ghost use Rattle.record.specs.Fill.{fronted};
 ghost use Rattle.record.specs.Seek.{placesOf};
 ghost use Rattle.record.specs.declared.seek.Between.the-variants.{Anything};
+ghost use Rattle.layout.specs.Room.{Room};
 ghost use Rattle.layout.specs.Handles.{familiesFrom, handlesOf};
 
 // A place as a part of a handle.
@@ -23,8 +24,8 @@ fn narrow(at: usize) -> u32
 
 // The places of the commands of one number at the front of the table, the rest as it was; and how many they are.
 pub(crate) fn fill_places(stream: &[u8], number: u8, out: &mut [u32]) -> usize
-    requires { ⌜ (length (now stream) ≤ 32768) × (8192 ≤ length (now out)) ⌝ }
-    ensures { λ r. ⌜ (r ≡ length (placesOf (now (stream .entry)) Anything number 0)) × (now (out .exit) ≡ fronted (now (out .entry)) (placesOf (now (stream .entry)) Anything number 0)) × (r ≤ 8192) ⌝ }
+    requires { ⌜ (length (now stream) ≤ 32768) × Room (now stream) (now out) ⌝ }
+    ensures { λ r. ⌜ (r ≡ length (placesOf (now (stream .entry)) Anything number 0)) × (now (out .exit) ≡ fronted (now (out .entry)) (placesOf (now (stream .entry)) Anything number 0)) × (r ≤ length (now (stream .entry)) / 4) ⌝ }
 {
     let mut at = 0;
     let mut n = 0;
@@ -40,8 +41,8 @@ pub(crate) fn fill_places(stream: &[u8], number: u8, out: &mut [u32]) -> usize
 
 // The structures' handles at the front of the table, and how many they are; there is room for the families' after them.
 fn fill_structs(stream: &[u8], out: &mut [u32]) -> usize
-    requires { ⌜ (length (now stream) ≤ 32768) × (8192 ≤ length (now out)) ⌝ }
-    ensures { λ r. ⌜ (r ≡ length (placesOf (now (stream .entry)) Anything 8 0)) × (now (out .exit) ≡ fronted (now (out .entry)) (placesOf (now (stream .entry)) Anything 8 0)) × (r + length (familiesFrom (now (stream .entry)) 0 0) ≤ 8192) ⌝ }
+    requires { ⌜ (length (now stream) ≤ 32768) × Room (now stream) (now out) ⌝ }
+    ensures { λ r. ⌜ (r ≡ length (placesOf (now (stream .entry)) Anything 8 0)) × (now (out .exit) ≡ fronted (now (out .entry)) (placesOf (now (stream .entry)) Anything 8 0)) × (r + length (familiesFrom (now (stream .entry)) 0 0) ≤ length (now (stream .entry)) / 4) ⌝ }
 {
     fill_places(stream, 8, out)
 }
@@ -85,8 +86,8 @@ fn fill_families(stream: &[u8], out: &mut [u32]) -> usize
 
 // The handles of a record's types at the front of the table, the rest as it was; and how many they are.
 pub(crate) fn fill_handles(stream: &[u8], out: &mut [u32]) -> usize
-    requires { ⌜ (length (now stream) ≤ 32768) × (8192 ≤ length (now out)) ⌝ }
-    ensures { λ r. ⌜ (r ≡ length (handlesOf (now (stream .entry)))) × (now (out .exit) ≡ fronted (now (out .entry)) (handlesOf (now (stream .entry)))) × (r ≤ 8192) ⌝ }
+    requires { ⌜ (length (now stream) ≤ 32768) × Room (now stream) (now out) ⌝ }
+    ensures { λ r. ⌜ (r ≡ length (handlesOf (now (stream .entry)))) × (now (out .exit) ≡ fronted (now (out .entry)) (handlesOf (now (stream .entry)))) × (r ≤ length (now (stream .entry)) / 4) ⌝ }
 {
     let n = fill_structs(stream, out);
     let m = fill_families(stream, &mut out[n..]);

@@ -11,9 +11,10 @@ use crate::sort::keep_last;
 use crate::sort::sort_handles;
 use record::operands::OptText;
 use record::text::bytes_of;
-ghost use Prim.Native.Nat.{_≤_, _<_};
+ghost use Prim.Native.Nat.{_/_, _≤_, _<_};
 ghost use mathlib.Core.Path.{_≡_};
 ghost use lib.ListN.{length, take};
+ghost use Rattle.layout.specs.Room.{Room};
 ghost use Rattle.layout.specs.Handles.{typeName};
 ghost use Rattle.layout.specs.Fronts.{Fronts};
 ghost use Rattle.layout.specs.Names.{joined, Parts, nameOf};
@@ -86,8 +87,8 @@ pub(crate) fn type_table(
     types: &mut [u32],
     scratch: &mut [u32],
 ) -> usize
-    requires { ⌜ (length (now stream) ≤ 32768) × (8192 ≤ length (now types)) × (8192 ≤ length (now scratch)) ⌝ }
-    ensures { λ r. ⌜ TypesTable (now (stream .entry)) (now (pool .entry)) (take r (now (types .exit))) × (r ≤ 8192) ⌝ }
+    requires { ⌜ (length (now stream) ≤ 32768) × Room (now stream) (now types) × Room (now stream) (now scratch) ⌝ }
+    ensures { λ r. ⌜ TypesTable (now (stream .entry)) (now (pool .entry)) (take r (now (types .exit))) × (r ≤ length (now (stream .entry)) / 4) ⌝ }
 {
     let n = fill_handles(stream, types);
     arrange_types(stream, pool, &mut types[..n], &mut scratch[..n])

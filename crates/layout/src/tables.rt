@@ -1,11 +1,12 @@
 // The tables of a record: its types in byte order of their names, and the sizes of their fields.
 use crate::field_sizes::fill_sizes;
 use crate::table::type_table;
-ghost use Prim.Native.Nat.{_≤_};
+ghost use Prim.Native.Nat.{_/_, _≤_};
 ghost use lib.ListN.{length, take};
 ghost use Rattle.record.specs.Scalars.{scalarsOf};
 ghost use Rattle.record.specs.Reading.{rec};
 ghost use Rattle.record.specs.Read.{Exact};
+ghost use Rattle.layout.specs.Room.{Room, SizesRoom};
 ghost use Rattle.layout.specs.Tables.{Tables};
 
 // Fills the tables, where the record is within its limit and they are long enough.
@@ -17,8 +18,8 @@ fn fill_both(
     scratch: &mut [u32],
     sizes: &mut [u64],
 ) -> usize
-    requires { ⌜ (length (now stream) ≤ 32768) × (8192 ≤ length (now types)) × (8192 ≤ length (now scratch)) × (993 ≤ length (now sizes)) ⌝ }
-    ensures { λ r. ⌜ (Exact (rec (now (stream .entry)) (now (pool .entry)) (scalarsOf (now (rows .entry)))) → Tables (rec (now (stream .entry)) (now (pool .entry)) (scalarsOf (now (rows .entry)))) (take r (now (types .exit))) (now (sizes .exit))) × (r ≤ 8192) ⌝ }
+    requires { ⌜ (length (now stream) ≤ 32768) × Room (now stream) (now types) × Room (now stream) (now scratch) × SizesRoom (now stream) (now sizes) ⌝ }
+    ensures { λ r. ⌜ (Exact (rec (now (stream .entry)) (now (pool .entry)) (scalarsOf (now (rows .entry)))) → Tables (rec (now (stream .entry)) (now (pool .entry)) (scalarsOf (now (rows .entry)))) (take r (now (types .exit))) (now (sizes .exit))) × (r ≤ length (now (stream .entry)) / 4) ⌝ }
 {
     fill_sizes(rows, stream, pool, sizes);
     type_table(stream, pool, types, scratch)
@@ -33,18 +34,18 @@ pub fn fill_tables(
     scratch: &mut [u32],
     sizes: &mut [u64],
 ) -> usize
-    ensures { λ r. ⌜ (length (now (stream .entry)) ≤ 32768 → 8192 ≤ length (now (types .entry)) → 8192 ≤ length (now (scratch .entry)) → 993 ≤ length (now (sizes .entry)) → Exact (rec (now (stream .entry)) (now (pool .entry)) (scalarsOf (now (rows .entry)))) → Tables (rec (now (stream .entry)) (now (pool .entry)) (scalarsOf (now (rows .entry)))) (take r (now (types .exit))) (now (sizes .exit))) × (r ≤ length (now (types .entry))) ⌝ }
+    ensures { λ r. ⌜ (length (now (stream .entry)) ≤ 32768 → Room (now (stream .entry)) (now (types .entry)) → Room (now (stream .entry)) (now (scratch .entry)) → SizesRoom (now (stream .entry)) (now (sizes .entry)) → Exact (rec (now (stream .entry)) (now (pool .entry)) (scalarsOf (now (rows .entry)))) → Tables (rec (now (stream .entry)) (now (pool .entry)) (scalarsOf (now (rows .entry)))) (take r (now (types .exit))) (now (sizes .exit))) × (r ≤ length (now (types .entry))) ⌝ }
 {
     if 32768 < stream.len() {
         return 0;
     }
-    if types.len() < 8192 {
+    if types.len() < stream.len() / 4 {
         return 0;
     }
-    if scratch.len() < 8192 {
+    if scratch.len() < stream.len() / 4 {
         return 0;
     }
-    if sizes.len() < 993 {
+    if sizes.len() <= stream.len() / 33 {
         return 0;
     }
     fill_both(rows, stream, pool, types, scratch, sizes)

@@ -34,7 +34,7 @@ same-length-2 c = search needs
 returns : tie.Need-returns
 returns c = (
   constants-kept _ _ (search needs) _ _ (c .before .before .before .before .arrange .last .1 .1 .0) _ (c .before .before .before .before .arrange .result) (c .before .before .before .before .before .before .before .before .before .fill-places .ensures .0) (c .before .before .before .before .before .before .before .before .before .fill-places .ensures .1) (c .before .before .before .before .arrange .ensures .0) (search needs),
-  cut-few (c .before .before .before .before .before .before .before .before .before .fill-places .last .1 .1 .0) (c .before .before .before .before .before .before .before .before .before .fill-places .result) _ (c .before .before .before .before .arrange .ensures .1) (search needs),
+  cut-few (c .before .before .before .before .before .before .before .before .before .fill-places .last .1 .1 .0) (c .before .before .before .before .before .before .before .before .before .fill-places .result) _ _ (c .before .before .before .before .arrange .ensures .1) (search needs),
 )
 
 pub fill-constants-spec : {M : Type 1} → statement M

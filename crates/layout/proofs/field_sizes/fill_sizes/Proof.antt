@@ -42,7 +42,7 @@ same-length c = search needs
 
 -- src/field_sizes.rt:44:13
 returns : tie.Need-returns Inv-loop μ-loop
-returns c = λ small room. search sizing-end
+returns c = λ room. search sizing-end
 
 -- src/field_sizes.rt:46:26
 from-requires : tie.Need-from-requires Inv-loop μ-loop

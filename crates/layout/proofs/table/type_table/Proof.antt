@@ -33,7 +33,7 @@ same-length-2 c = search needs
 returns : tie.Need-returns
 returns c = (
   table-is _ _ (search needs) _ _ (c .before .before .before .before .arrange-types .last .1 .1 .0) _ (c .before .before .before .before .arrange-types .result) (c .before .before .before .before .before .before .before .before .before .fill-handles .ensures .0) (c .before .before .before .before .before .before .before .before .before .fill-handles .ensures .1) (c .before .before .before .before .arrange-types .ensures .0) (search needs),
-  cut-few (c .before .before .before .before .before .before .before .before .before .fill-handles .last .1 .0) (c .before .before .before .before .before .before .before .before .before .fill-handles .result) _ (c .before .before .before .before .arrange-types .ensures .1) (search needs),
+  cut-few (c .before .before .before .before .before .before .before .before .before .fill-handles .last .1 .0) (c .before .before .before .before .before .before .before .before .before .fill-handles .result) _ _ (c .before .before .before .before .arrange-types .ensures .1) (search needs),
 )
 
 pub type-table-spec : {M : Type 1} → statement M
