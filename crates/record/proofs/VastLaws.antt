@@ -201,7 +201,7 @@ module _ (t : Schema) (m : Family) where
   front-as-it-stands fs = refl
 
   -- the front's second field ends where the front does, and the fields after it begin there
-  front-places : (fs : List Field) → any large (places t 0 (prefix m ++ fs)) ≡ (ltb limit (discSize t m) || (ltb limit (frontEnd t m) || any large (places t (frontEnd t m) fs)))
+  pub front-places : (fs : List Field) → any large (places t 0 (prefix m ++ fs)) ≡ (ltb limit (discSize t m) || (ltb limit (frontEnd t m) || any large (places t (frontEnd t m) fs)))
   unfolding frontEnd
   front-places fs =
       let e : 0 + discSize t m ≡ discSize t m = omega arith in

@@ -1,4 +1,5 @@
 // The whole reading of a record: 8, then 7, then the commands from the front, then 9.
+use crate::bound::vast_type;
 use crate::command::Cursor;
 use crate::judge::Judged;
 use crate::letters::Letters;
@@ -6,7 +7,6 @@ use crate::letters::odd_letter;
 use crate::refusal::Refusal;
 use crate::refusal::Side;
 use crate::vast::Vast;
-use crate::vast::first_vast;
 ghost use mathlib.Core.Path.{_≡_};
 ghost use lib.ListN.{length};
 ghost use Rattle.record.specs.Scalars.{scalarsOf};
@@ -61,7 +61,7 @@ pub fn read_record(side: Side, rows: &[u8], stream: &[u8], pool: &[u8]) -> Outco
     if let Outcome::Refused(refusal, place) = read_commands(side, stream, pool) {
         return Outcome::Refused(refusal, place);
     }
-    if let Vast::VastAt(place) = first_vast(rows, stream, pool) {
+    if let Vast::VastAt(place) = vast_type(rows, stream, pool) {
         return Outcome::Refused(Refusal::Vast, place);
     }
     Outcome::Readable

@@ -32,7 +32,7 @@ ghost use Rattle.record.specs.Reading.{rec, schemaOf};
 pub const LIMIT: u64 = 4294967295;
 
 // A size as far as the limit.
-fn cap(n: u64) -> u64
+pub(crate) fn cap(n: u64) -> u64
     ensures { λ r. ⌜ r ≡ capped n ⌝ }
 {
     if n <= LIMIT { n } else { LIMIT + 1 }
@@ -57,7 +57,7 @@ pub fn sum(a: u64, b: u64) -> u64
 }
 
 // The product is judged by a quotient, so that no limit makes it overflow.
-fn product(a: u64, b: u64) -> u64
+pub(crate) fn product(a: u64, b: u64) -> u64
     ensures { λ r. ⌜ r ≡ capped (a * b) ⌝ }
 {
     if b == 0 {

@@ -6,7 +6,7 @@ use Rattle.record.proofs.read.read_record.Reads as reads
 use Rattle.record.proofs.read.read_record.Lts as lts
 use Rattle.record.proofs.letters.odd_letter.Reads as odd-letter-reads
 use Rattle.record.proofs.read.read_commands.Reads as read-commands-reads
-use Rattle.record.proofs.vast.first_vast.Reads as first-vast-reads
+use Rattle.record.proofs.bound.vast_type.Reads as vast-type-reads
 
 -- src/read.rt:53:9
 returns : tie.Need-returns
@@ -47,8 +47,8 @@ enum-told-2 : tie.Need-enum-told-2
 enum-told-2 c = search needs
 
 -- src/read.rt:64:34
-first-vast-requires : tie.Need-first-vast-requires
-first-vast-requires c κs = search needs
+vast-type-requires : tie.Need-vast-type-requires
+vast-type-requires c κs = search needs
 
 -- src/read.rt:64:25
 enum-known-place : tie.Need-enum-known-place
@@ -79,7 +79,7 @@ read-record-spec =
     enum-known-refusal
     returns-4
     enum-told-2
-    first-vast-requires
+    vast-type-requires
     enum-known-place
     returns-5
     enum-told-3
