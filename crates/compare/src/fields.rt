@@ -1,6 +1,9 @@
 // The pass over the fields: a released field keeps its place, its size and how it reads.
 use crate::layouts::find_spot;
 use crate::layouts::same_description;
+use crate::near::are_many;
+use crate::near::fill_near;
+use crate::near::near_spot;
 use layout::names::TypeName;
 use layout::names::type_name;
 use layout::spots::Spot;
@@ -12,7 +15,9 @@ use layout::table::TypeFound;
 use layout::table::find_same;
 use record::text::bytes_of;
 use verdicts::verdict::Verdict;
+ghost use Prim.Native.Nat.{_≤_};
 ghost use mathlib.Core.Path.{_≡_};
+ghost use lib.ListN.{length};
 ghost use Rattle.record.specs.Scalars.{scalarsOf};
 ghost use Rattle.record.specs.Reading.{rec};
 ghost use Rattle.record.specs.Read.{Exact};
@@ -22,8 +27,9 @@ ghost use Rattle.layout.specs.Table.{Typed};
 ghost use Rattle.layout.specs.FieldSizes.{SizesTable};
 ghost use Rattle.layout.specs.Spots.{spotOf, placesFrom, Sound};
 ghost use Rattle.layout.specs.Tables.{Tables};
-ghost use Rattle.definition.specs.Fields.{checkKept, checkPlace, checkPlaces, checkType, checkFields};
-ghost use Rattle.compare.specs.Layouts.{typesOf};
+ghost use Rattle.definition.specs.Fields.{placeIn, checkKept, checkPlace, checkPlaces, checkType, checkFields};
+ghost use Rattle.compare.specs.Layouts.{typesOf, spotFound};
+ghost use Rattle.compare.specs.Near.{Near};
 ghost use Rattle.verdicts.specs.Meaning.{meaning};
 
 // A released field against the one of its name.
@@ -60,6 +66,23 @@ fn check_kept(pool: &[u8], old: &[u8], owner: TypeName, was: Spot, is: Spot) -> 
     }
 }
 
+// The first field of that name from a cursor on, by the table of where to look.
+fn find_near(
+    rows: &[u8],
+    stream: &[u8],
+    pool: &[u8],
+    sizes: &[u64],
+    from: SpotCursor,
+    table: &[u64],
+    name: &[u8],
+) -> SpotStep
+    requires { ⌜ Sound (rec (now stream) (now pool) (scalarsOf (now rows))) (now sizes) from × Near (now stream) (now pool) (now sizes) from (now table) ⌝ }
+    ensures { λ r. ⌜ placeIn (now (name .entry)) (placesFrom (rec (now (stream .entry)) (now (pool .entry)) (scalarsOf (now (rows .entry)))) from) ≡ spotFound (now (pool .entry)) r ⌝ }
+{
+    let near = near_spot(table, from, name);
+    find_spot(rows, stream, pool, sizes, near, name)
+}
+
 // One released field against those that are now, from a cursor on; padding is held to nothing.
 fn check_place(
     rows: &[u8],
@@ -67,18 +90,19 @@ fn check_place(
     pool: &[u8],
     sizes: &[u64],
     is: SpotCursor,
+    table: &[u64],
     old: &[u8],
     owner: TypeName,
     was: Spot,
 ) -> Verdict
-    requires { ⌜ Sound (rec (now stream) (now pool) (scalarsOf (now rows))) (now sizes) is ⌝ }
+    requires { ⌜ Sound (rec (now stream) (now pool) (scalarsOf (now rows))) (now sizes) is × Near (now stream) (now pool) (now sizes) is (now table) ⌝ }
     ensures { λ r. ⌜ meaning (now (pool .entry)) (now (old .entry)) r ≡ checkPlace (nameOf (now (old .entry)) owner) (placesFrom (rec (now (stream .entry)) (now (pool .entry)) (scalarsOf (now (rows .entry)))) is) (spotOf (now (old .entry)) was) ⌝ }
 {
     if was.padding {
         return Verdict::Passed;
     }
     let name = was.name;
-    let found = find_spot(rows, stream, pool, sizes, is, bytes_of(old, name));
+    let found = find_near(rows, stream, pool, sizes, is, table, bytes_of(old, name));
     let SpotStep::ASpot(x, _) = found else {
         return Verdict::FieldGone { owner, name };
     };
@@ -87,6 +111,70 @@ fn check_place(
 
 // The released fields of a type from a cursor on against those that are now, from another on.
 fn check_places(
+    rows: &[u8],
+    stream: &[u8],
+    pool: &[u8],
+    sizes: &[u64],
+    is: SpotCursor,
+    table: &[u64],
+    past: &[u8],
+    old: &[u8],
+    widths: &[u64],
+    owner: TypeName,
+    from: SpotCursor,
+) -> Verdict
+    requires { ⌜ Sound (rec (now stream) (now pool) (scalarsOf (now rows))) (now sizes) is × Near (now stream) (now pool) (now sizes) is (now table) × Sound (rec (now past) (now old) (scalarsOf (now rows))) (now widths) from ⌝ }
+    ensures { λ r. ⌜ meaning (now (pool .entry)) (now (old .entry)) r ≡ checkPlaces (nameOf (now (old .entry)) owner) (placesFrom (rec (now (stream .entry)) (now (pool .entry)) (scalarsOf (now (rows .entry)))) is) (placesFrom (rec (now (past .entry)) (now (old .entry)) (scalarsOf (now (rows .entry)))) from) ⌝ }
+{
+    let mut cursor = from;
+    loop {
+        let SpotStep::ASpot(was, after) = next_spot(rows, past, old, widths, cursor) else {
+            return Verdict::Passed;
+        };
+        let verdict = check_place(rows, stream, pool, sizes, is, table, old, owner, was);
+        if let Verdict::Passed = verdict {
+            cursor = after;
+        } else {
+            return verdict;
+        }
+    }
+}
+
+// The same by a table that is lent.
+fn check_near(
+    rows: &[u8],
+    stream: &[u8],
+    pool: &[u8],
+    sizes: &[u64],
+    is: SpotCursor,
+    table: &mut [u64],
+    past: &[u8],
+    old: &[u8],
+    widths: &[u64],
+    owner: TypeName,
+    from: SpotCursor,
+) -> Verdict
+    requires { ⌜ Sound (rec (now stream) (now pool) (scalarsOf (now rows))) (now sizes) is × Sound (rec (now past) (now old) (scalarsOf (now rows))) (now widths) from × (1024 ≤ length (now table)) ⌝ }
+    ensures { λ r. ⌜ meaning (now (pool .entry)) (now (old .entry)) r ≡ checkPlaces (nameOf (now (old .entry)) owner) (placesFrom (rec (now (stream .entry)) (now (pool .entry)) (scalarsOf (now (rows .entry)))) is) (placesFrom (rec (now (past .entry)) (now (old .entry)) (scalarsOf (now (rows .entry)))) from) ⌝ }
+{
+    fill_near(stream, pool, sizes, is, table);
+    check_places(
+        rows,
+        stream,
+        pool,
+        sizes,
+        is,
+        table,
+        past,
+        old,
+        widths,
+        owner,
+        from,
+    )
+}
+
+// The same for a type of many fields.
+fn check_many(
     rows: &[u8],
     stream: &[u8],
     pool: &[u8],
@@ -101,18 +189,65 @@ fn check_places(
     requires { ⌜ Sound (rec (now stream) (now pool) (scalarsOf (now rows))) (now sizes) is × Sound (rec (now past) (now old) (scalarsOf (now rows))) (now widths) from ⌝ }
     ensures { λ r. ⌜ meaning (now (pool .entry)) (now (old .entry)) r ≡ checkPlaces (nameOf (now (old .entry)) owner) (placesFrom (rec (now (stream .entry)) (now (pool .entry)) (scalarsOf (now (rows .entry)))) is) (placesFrom (rec (now (past .entry)) (now (old .entry)) (scalarsOf (now (rows .entry)))) from) ⌝ }
 {
-    let mut cursor = from;
-    loop {
-        let SpotStep::ASpot(was, after) = next_spot(rows, past, old, widths, cursor) else {
-            return Verdict::Passed;
-        };
-        let verdict = check_place(rows, stream, pool, sizes, is, old, owner, was);
-        if let Verdict::Passed = verdict {
-            cursor = after;
-        } else {
-            return verdict;
-        }
+    let mut table = [0u64; 1024];
+    check_near(
+        rows,
+        stream,
+        pool,
+        sizes,
+        is,
+        &mut table,
+        past,
+        old,
+        widths,
+        owner,
+        from,
+    )
+}
+
+// The same for any type: a table costs more than it saves where the fields are few.
+fn check_any(
+    rows: &[u8],
+    stream: &[u8],
+    pool: &[u8],
+    sizes: &[u64],
+    is: SpotCursor,
+    past: &[u8],
+    old: &[u8],
+    widths: &[u64],
+    owner: TypeName,
+    from: SpotCursor,
+) -> Verdict
+    requires { ⌜ Sound (rec (now stream) (now pool) (scalarsOf (now rows))) (now sizes) is × Sound (rec (now past) (now old) (scalarsOf (now rows))) (now widths) from ⌝ }
+    ensures { λ r. ⌜ meaning (now (pool .entry)) (now (old .entry)) r ≡ checkPlaces (nameOf (now (old .entry)) owner) (placesFrom (rec (now (stream .entry)) (now (pool .entry)) (scalarsOf (now (rows .entry)))) is) (placesFrom (rec (now (past .entry)) (now (old .entry)) (scalarsOf (now (rows .entry)))) from) ⌝ }
+{
+    if are_many(stream, is) {
+        return check_many(
+            rows,
+            stream,
+            pool,
+            sizes,
+            is,
+            past,
+            old,
+            widths,
+            owner,
+            from,
+        );
     }
+    check_places(
+        rows,
+        stream,
+        pool,
+        sizes,
+        is,
+        &sizes[..0],
+        past,
+        old,
+        widths,
+        owner,
+        from,
+    )
 }
 
 // The fields of a released type against those of a current one, by the handles of the types.
@@ -133,7 +268,7 @@ fn check_layout(
     let owner = type_name(past, other);
     let is = first_spot(stream, handle);
     let from = first_spot(past, other);
-    check_places(
+    check_any(
         rows,
         stream,
         pool,

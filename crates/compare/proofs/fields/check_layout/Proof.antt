@@ -12,8 +12,8 @@ first-spot-requires c κs = search needs
 first-spot-requires-2 : tie.Need-first-spot-requires-2
 first-spot-requires-2 c κs = search needs
 
-check-places-requires : tie.Need-check-places-requires
-check-places-requires c κs = (search cursor-sound, search cursor-sound)
+check-any-requires : tie.Need-check-any-requires
+check-any-requires c κs = (search cursor-sound, search cursor-sound)
 
 returns : tie.Need-returns
 returns c = search layout-fields
@@ -25,5 +25,5 @@ check-layout-spec =
     type-name-requires
     first-spot-requires
     first-spot-requires-2
-    check-places-requires
+    check-any-requires
     returns)

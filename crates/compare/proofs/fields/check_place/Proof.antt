@@ -9,8 +9,8 @@ returns c = search place-padding
 bytes-of-requires : tie.Need-bytes-of-requires
 bytes-of-requires c κs = search needs
 
-find-spot-requires : tie.Need-find-spot-requires
-find-spot-requires c κs = search needs
+find-near-requires : tie.Need-find-near-requires
+find-near-requires c κs = search needs
 
 enum-known-found : tie.Need-enum-known-found
 enum-known-found c = search needs
@@ -33,7 +33,7 @@ check-place-spec =
     (tie.spec
     returns
     bytes-of-requires
-    find-spot-requires
+    find-near-requires
     enum-known-found
     enum-told
     returns-2
