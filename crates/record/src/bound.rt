@@ -25,12 +25,6 @@ ghost use Rattle.record.specs.Reading.{rec};
 ghost use Rattle.record.specs.Vast.{firstVast};
 ghost use Rattle.record.specs.Bound.{sumSizes, unitAt, fieldBound, boundAt, totalOf};
 
-fn byte(b: u8) -> u64
-    ensures { λ r. ⌜ r ≡ b ⌝ }
-{
-    b as u64
-}
-
 // A size that no scalar of the table is larger than: the sum of all.
 fn scalar_bound(rows: &[u8]) -> u64
     ensures { λ r. ⌜ r ≡ capped (sumSizes (scalarsOf (now (rows .entry)))) ⌝ }
@@ -38,7 +32,7 @@ fn scalar_bound(rows: &[u8]) -> u64
     let mut total = 0;
     let mut at = 0;
     while 9 <= rows.len() - at {
-        total = sum(total, byte(rows[at + 8]));
+        total = sum(total, le::wide(rows[at + 8]));
         if LIMIT < total {
             return LIMIT + 1;
         }

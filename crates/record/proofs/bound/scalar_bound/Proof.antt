@@ -6,7 +6,7 @@ use Rattle.record.proofs.bound.scalar_bound.Statement.{statement}
 use Rattle.record.proofs.bound.scalar_bound.Tie as tie
 use Rattle.record.proofs.bound.scalar_bound.Reads as reads
 use Rattle.record.proofs.bound.scalar_bound.Lts as lts
-use Rattle.record.proofs.bound.byte.Reads as byte-reads
+use Rattle.record.proofs.le.wide.Reads as wide-reads
 use Rattle.record.proofs.sizes.sum.Reads as sum-reads
 
 abbrev Inv-loop : tie.InvT-loop
@@ -24,16 +24,16 @@ sub-loop : tie.Need-sub-loop Inv-loop μ-loop
 sub-loop c = search needs
 
 -- src/bound.rt:41:38
-add-byte : tie.Need-add-byte Inv-loop μ-loop
-add-byte c = search needs
+add-wide : tie.Need-add-wide Inv-loop μ-loop
+add-wide c = search needs
 
 -- src/bound.rt:41:33
-shared-slice-read-byte : tie.Need-shared-slice-read-byte Inv-loop μ-loop
-shared-slice-read-byte c = search needs
+shared-slice-read-wide : tie.Need-shared-slice-read-wide Inv-loop μ-loop
+shared-slice-read-wide c = search needs
 
 -- src/bound.rt:41:28
-byte-requires : tie.Need-byte-requires Inv-loop μ-loop
-byte-requires c κs = search needs
+wide-requires : tie.Need-wide-requires Inv-loop μ-loop
+wide-requires c κs = search needs
 
 -- src/bound.rt:41:9
 sum-requires : tie.Need-sum-requires Inv-loop μ-loop
@@ -57,7 +57,7 @@ loop-less c = search needs
 
 -- src/bound.rt:40:5
 loop-again : tie.Need-loop-again Inv-loop μ-loop
-loop-again c = words-more (c .before .before .before .before .before .before .before .args .rows .now) (c .before .before .before .before .before .loop .total) (c .before .before .before .before .before .loop .at) (c .before .before .before .before .before .loop .inv) (search needs) _ _ (c .before .before .byte .ensures) (c .before .sum .ensures) (search needs)
+loop-again c = words-more (c .before .before .before .before .before .before .before .args .rows .now) (c .before .before .before .before .before .loop .total) (c .before .before .before .before .before .loop .at) (c .before .before .before .before .before .loop .inv) (search needs) _ _ (c .before .before .wide .ensures .0) (c .before .sum .ensures) (search needs)
 
 -- src/bound.rt:35:1
 returns-2 : tie.Need-returns-2 Inv-loop μ-loop
@@ -71,9 +71,9 @@ scalar-bound-spec =
     μ-loop
     loop-holds
     sub-loop
-    add-byte
-    shared-slice-read-byte
-    byte-requires
+    add-wide
+    shared-slice-read-wide
+    wide-requires
     sum-requires
     add-result
     returns
