@@ -4,18 +4,16 @@ use mathlib.Core.List.{List, [], _∷_}
 use mathlib.Core.Bool.{Bool, true, false}
 use mathlib.Core.Path.{_≡_, refl, sym, ap, _∙_}
 use native.Mathlib.Omega.{arith}
-use native.Mathlib.Nat.{min-le-left}
-use lib.ListN.{length, take, drop, getD, length-take}
-use lib.Seq.{getD-take, getD-drop}
-use borrow.Author.Tests.{le-leb, lt-leb}
+use native.Mathlib.Nat.{min-le-left, min-comm}
+use native.Mathlib.Numerals.{add-one}
+use lib.ListN.{length, take, drop, getD, length-take, length-drop, drop-of-length-le}
+use lib.Seq.{getD-take, getD-drop, drop-cons, length-take-le}
+use borrow.Author.Tests.{le-leb, lt-leb, eq-eqb, ne-eqb}
 use Rattle.record.specs.Base.{Str, bytes, eqs, find}
 use Rattle.record.specs.Cut.{placeOf, beforeByte}
 use Rattle.record.specs.Scalars.{Scalar, beforeZero, scalarAt, scalarsFrom, scalarsAt, scalarsOf, scalarIn, primSize, builtIn, builtInRows}
 use Rattle.record.proofs.Basics.{eqs→eq}
-
-pub row-word-is : (s : Str) (at : ℕ) (a b x : Str) → a ≡ drop at s → b ≡ take 8 a → x ≡ beforeByte 0 b → x ≡ beforeZero (take 8 (drop at s))
-unfolding beforeZero
-row-word-is s at a b x p q h = rw (← p, ← q) h
+use Rattle.record.proofs.WordLaws.{same-length}
 
 -- a row is of no word that ends in another byte
 pub row-other : (s w : Str) (at : ℕ) → 0 < length w → length w ≤ 8 → (getD s (at + length w - 1) 0 ≡ getD w (length w - 1) 0 → ⊥) → false ≡ eqs (beforeZero (take 8 (drop at s))) w
@@ -41,8 +39,58 @@ row-other s w at p q h = go (eqs (take (placeOf 0 (take 8 (drop at s))) (take 8 
     go true e = absurd (h (last (eqs→eq (take (placeOf 0 cut) cut) w e)))
     go false e = refl
 
-pub row-same : (s w x : Str) (at : ℕ) (r : Bool) → x ≡ beforeZero (take 8 (drop at s)) → r ≡ eqs x w → r ≡ eqs (beforeZero (take 8 (drop at s))) w
-row-same s w x at r e h = rw (← e) h
+pub row-short : (s w : Str) (at : ℕ) → 8 < length w → false ≡ eqs (beforeZero (take 8 (drop at s))) w
+unfolding beforeZero beforeByte
+row-short s w at h =
+    same-length (take (placeOf 0 (take 8 (drop at s))) (take 8 (drop at s))) w
+    (λ e.
+    let l : length (take (placeOf 0 (take 8 (drop at s))) (take 8 (drop at s))) ≤ length (take 8 (drop at s)) = rw (length-take, min-comm (placeOf 0 (take 8 (drop at s))) (length (take 8 (drop at s)))) (min-le-left (length (take 8 (drop at s))) (placeOf 0 (take 8 (drop at s)))) in
+    let m : length (take 8 (drop at s)) ≤ 8 = rw length-take (min-le-left 8 (length (drop at s))) in
+    omega arith)
+
+-- a row against a word, one byte at a time
+module _ (s : Str) (at : ℕ) (room : at + 9 ≤ length s) where
+  abbrev row : Str
+  row = take 8 (drop at s)
+
+  row-cell : (i : ℕ) → i < 8 → drop i row ≡ getD s (at + i) 0 ∷ drop (suc i) row
+  row-cell i l =
+      let n : length row ≡ 8 = length-take-le 8 (drop at s) (rw length-drop (omega arith)) in
+      drop-cons row i 0 (omega arith) ∙ ap (λ (x : ℕ). x ∷ drop (suc i) row) (getD-take 8 (drop at s) i 0 l ∙ getD-drop at s i 0)
+
+  module _ (w : Str) (q : length w ≤ 8) (i : ℕ) where
+    module _ (p : i < length w) where
+      pub row-zero : getD s (at + i) 0 ≡ 0 → eqs (beforeZero (drop i row)) (drop i w) ≡ false
+      unfolding beforeZero beforeByte placeOf eqs
+      row-zero e = rw (row-cell i (omega arith), drop-cons w i 0 p, e)
+
+      module _ (z : getD s (at + i) 0 ≡ 0 → ⊥) where
+        pub row-differs : (getD s (at + i) 0 ≡ getD w i 0 → ⊥) → eqs (beforeZero (drop i row)) (drop i w) ≡ false
+        unfolding beforeZero beforeByte placeOf eqs
+        row-differs e = rw (row-cell i (omega arith), drop-cons w i 0 p, ne-eqb (getD s (at + i) 0) 0 z, ne-eqb (getD s (at + i) 0) (getD w i 0) e)
+
+        pub row-next : getD s (at + i) 0 ≡ getD w i 0 → eqs (beforeZero (drop i row)) (drop i w) ≡ eqs (beforeZero (drop (i + 1) row)) (drop (i + 1) w)
+        unfolding beforeZero beforeByte placeOf eqs
+        row-next e = rw (add-one, row-cell i (omega arith), drop-cons w i 0 p, ne-eqb (getD s (at + i) 0) 0 z, eq-eqb (getD s (at + i) 0) (getD w i 0) e)
+
+    module _ (p : length w ≤ i) where
+      pub row-full : length w ≡ 8 → eqs (beforeZero (drop i row)) (drop i w) ≡ true
+      unfolding beforeZero beforeByte placeOf eqs
+      row-full e =
+          let n : length row ≤ i = rw (length-take-le 8 (drop at s) (rw length-drop (omega arith))) (omega arith) in
+          rw (drop-of-length-le row {i = i} n, drop-of-length-le w {i = i} p)
+
+      module _ (l : i ≤ length w) (n : length w ≡ 8 → ⊥) where
+        here : getD s (at + length w) 0 ≡ getD s (at + i) 0
+        here = let e : length w ≡ i = omega arith in ap (λ (k : ℕ). getD s (at + k) 0) e
+
+        pub row-ended : getD s (at + length w) 0 ≡ 0 → eqs (beforeZero (drop i row)) (drop i w) ≡ true
+        unfolding beforeZero beforeByte placeOf eqs
+        row-ended e = rw (row-cell i (omega arith), drop-of-length-le w {i = i} p, sym here ∙ e)
+
+        pub row-longer : (getD s (at + length w) 0 ≡ 0 → ⊥) → eqs (beforeZero (drop i row)) (drop i w) ≡ false
+        unfolding beforeZero beforeByte placeOf eqs
+        row-longer e = rw (row-cell i (omega arith), drop-of-length-le w {i = i} p, ne-eqb (getD s (at + i) 0) 0 (λ z. e (here ∙ z)))
 
 -- more rows than bytes change nothing
 enough : (s : Str) (n m at : ℕ) → length s ≤ n + at → length s ≤ m + at → scalarsFrom n s at ≡ scalarsFrom m s at

@@ -1,35 +1,50 @@
 // Scalar words: a table of bytes, rows of nine. A row is a word, filled up with zeros to eight bytes, and its size.
-use crate::cut::before_byte;
-use crate::cut::from;
-use crate::cut::upto;
-use crate::text::same;
 ghost use Prim.Native.Nat.{_+_, _≤_};
 ghost use mathlib.Core.Path.{_≡_};
 ghost use lib.ListN.{length, take, drop};
 ghost use Rattle.record.specs.Base.{eqs};
 ghost use Rattle.record.specs.Scalars.{beforeZero, scalarsOf, primSize, builtInRows};
 
-// The word of the row at a place.
-pub(crate) fn row_word(rows: &[u8], at: usize) -> &[u8]
-    ensures { λ r. ⌜ now r ≡ beforeZero (take 8 (drop at (now (rows .entry)))) ⌝ }
+// Whether the row at a place is of a word of at most eight bytes: no byte of the word is 0 or another than the row's, and the row's word ends there.
+fn row_spells(rows: &[u8], at: usize, word: &[u8]) -> bool
+    requires { ⌜ (at + 9 ≤ length (now rows)) × (length (now word) ≤ 8) ⌝ }
+    ensures { λ r. ⌜ r ≡ eqs (beforeZero (take 8 (drop at (now (rows .entry))))) (now (word .entry)) ⌝ }
 {
-    before_byte(upto(from(rows, at), 8), 0)
+    let n = word.len();
+    let mut i = 0;
+    while i < n {
+        if rows[at + i] == 0 {
+            return false;
+        }
+        if rows[at + i] != word[i] {
+            return false;
+        }
+        i += 1;
+    }
+    if n == 8 {
+        return true;
+    }
+    if rows[at + n] != 0 {
+        return false;
+    }
+    true
 }
 
-// Whether the row at a place is of a word. The last byte of a short word tells most rows from it.
+// Whether the row at a place is of a word. The last byte of the word tells most rows from it.
 fn row_is(rows: &[u8], at: usize, word: &[u8]) -> bool
     requires { ⌜ at + 9 ≤ length (now rows) ⌝ }
     ensures { λ r. ⌜ r ≡ eqs (beforeZero (take 8 (drop at (now (rows .entry))))) (now (word .entry)) ⌝ }
 {
     let n = word.len();
+    if 8 < n {
+        return false;
+    }
     if 0 < n {
-        if n <= 8 {
-            if rows[at + n - 1] != word[n - 1] {
-                return false;
-            }
+        if rows[at + n - 1] != word[n - 1] {
+            return false;
         }
     }
-    same(row_word(rows, at), word)
+    row_spells(rows, at, word)
 }
 
 // A byte as a size. A function, because a cast of a byte in place asks a proof that it fits.
