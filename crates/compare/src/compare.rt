@@ -150,11 +150,12 @@ fn check_layouts(
     shipped: &[u32],
     widths: &[u64],
     marks: &mut [u8],
+    index: &mut [u16],
     cover: &mut [u32],
     current: Text,
     copy: OptText,
 ) -> Verdict
-    requires { ⌜ Tables (rec (now stream) (now pool) (scalarsOf (now rows))) (now types) (now sizes) × Tables (rec (now past) (now old) (scalarsOf (now rows))) (now shipped) (now widths) × (length (now stream) ≤ length (now marks)) × (length (now types) ≤ length (now cover)) ⌝ }
+    requires { ⌜ Tables (rec (now stream) (now pool) (scalarsOf (now rows))) (now types) (now sizes) × Tables (rec (now past) (now old) (scalarsOf (now rows))) (now shipped) (now widths) × (length (now stream) ≤ length (now marks)) × (length (now types) ≤ length (now cover)) × (length (now stream) ≤ 32768) × (4938 ≤ length (now index)) ⌝ }
     ensures { λ r. ⌜ meaning (now (pool .entry)) (now (old .entry)) r ≡ ((checkFields (typesOf (rec (now (stream .entry)) (now (pool .entry)) (scalarsOf (now (rows .entry))))) (typesOf (rec (now (past .entry)) (now (old .entry)) (scalarsOf (now (rows .entry))))) then checkStandalone (familiesAt (now (stream .entry)) (now (pool .entry)) 0) (familiesAt (now (past .entry)) (now (old .entry)) 0) (typesOf (rec (now (stream .entry)) (now (pool .entry)) (scalarsOf (now (rows .entry))))) (typesOf (rec (now (past .entry)) (now (old .entry)) (scalarsOf (now (rows .entry)))))) then checkGenerations (textOf (now (pool .entry)) current) (optOf (now (old .entry)) copy) (versionsAt (now (stream .entry)) (now (pool .entry)) 0) (typesAt (now (stream .entry)) (now (pool .entry))) (constantsAt (now (stream .entry)) (now (pool .entry)) 0) (constantsAt (now (past .entry)) (now (old .entry)) 0) (changedTypes (rec (now (stream .entry)) (now (pool .entry)) (scalarsOf (now (rows .entry)))) (rec (now (past .entry)) (now (old .entry)) (scalarsOf (now (rows .entry)))))) ⌝ }
 {
     let verdict = check_types(rows, stream, pool, types, sizes, past, old, shipped, widths);
@@ -170,6 +171,7 @@ fn check_layouts(
             shipped,
             widths,
             marks,
+            index,
             cover,
             current,
             copy,
@@ -197,6 +199,7 @@ fn check_tables(
     let mut widths = [0u64; 993];
     let mut shipped = [0u32; 8192];
     let mut marks = [0u8; 32768];
+    let mut index = [0u16; 4938];
     let n = fill_tables(rows, stream, pool, types, scratch, &mut sizes);
     let m = fill_tables(rows, past, old, &mut shipped, scratch, &mut widths);
     check_layouts(
@@ -210,6 +213,7 @@ fn check_tables(
         &shipped[..m],
         &widths,
         &mut marks,
+        &mut index,
         scratch,
         current,
         copy,

@@ -15,9 +15,9 @@ use Rattle.record.specs.Schema.{Struct}
 use Rattle.record.specs.Lists.{optOf, structOf}
 use Rattle.record.specs.Steps.{structsAt, fieldsAt, structFound}
 use Rattle.record.specs.Owner.{Types, hasSlot, structInSlot, withName, rootsIn, ownershipOrder, roots, ownerOf, Leads, here, along, First, now, later}
-use Rattle.record.specs.References.{typesAt, structCommandsAt, commandFound, InSlot}
+use Rattle.record.specs.References.{typesAt, HasSlot, structCommandsAt, commandFound, InSlot}
 use Rattle.record.specs.Marks.{referenceAt, targetAt}
-use Rattle.record.specs.Ownership.{Within, Resolved, OwnerMarks, OwnersMarked, MarkedName, NamedBy, Claims, OwnerIn, withStretch, stretchesIn, ownedBy, stretchOf, ownerAt, Answered, OwnerFound}
+use Rattle.record.specs.Ownership.{Within, Resolved, OwnerMarks, Known, OwnersMarked, OwnerBy, MarkedName, NamedBy, Claims, OwnerIn, withStretch, stretchesIn, ownedBy, stretchOf, ownerAt, Answered, OwnerFound}
 use Rattle.record.specs.declared.text.Text.{Text}
 use Rattle.record.specs.declared.operands.OptText.{OptText}
 use Rattle.record.specs.declared.command as D
@@ -80,13 +80,16 @@ Nobody≢Owned : {t : Text} → Nobody ≡ Owned t → ⊥
 Nobody≢Owned e = let z : _≡_ {A = ℕ} 0 1 = cc in omega arith
 
 module _ (s p : Str) (m : List ℕ) (n slot : Str) (mark : ℕ) (r : StructStep) (i : InSlot s p slot r) where
-  pub owner-none : r ≡ NoStruct → OwnerIn s p m n slot mark Nobody
-  owner-none e = record {
+  nobody-there : r ≡ NoStruct → OwnerIn s p m n slot mark Nobody
+  nobody-there e = record {
     filled = r;
     fills = i;
     owned = λ t g. absurd (Nobody≢Owned g);
     nobody = λ g root k h c. let z : _≡_ {A = ℕ} 0 1 = cc in omega arith;
   }
+
+  pub owner-none : (x : List ℕ) → r ≡ NoStruct → OwnerBy s p m x n slot mark Nobody
+  owner-none x e = record { by = λ j. nobody-there e }
 
   module _ (root : D.Struct.Struct) (k : Cursor) (e : r ≡ AStruct root k) (x : Str) (b : Bool) (text : x ≡ textOf p (root .name)) (same : b ≡ eqs x n) where
     claimed : Claims s p m n mark root → OwnerIn s p m n slot mark (Owned (root .name))
@@ -108,8 +111,8 @@ module _ (s p : Str) (m : List ℕ) (n slot : Str) (mark : ℕ) (r : StructStep)
         other : (y : D.Struct.Struct) (j : Cursor) → r ≡ AStruct y j → y ≡ root
         other y j h = let g : AStruct y j ≡ AStruct root k = sym h ∙ e in cc
 
-    pub owner-own : b ≡ true → OwnerIn s p m n slot mark (Owned (root .name))
-    owner-own h = claimed (inl (sym text ∙ eqs→eq x n (sym same ∙ h)))
+    pub owner-own : (z : List ℕ) → b ≡ true → OwnerBy s p m z n slot mark (Owned (root .name))
+    owner-own z h = record { by = λ j. claimed (inl (sym text ∙ eqs→eq x n (sym same ∙ h))) }
 
     module _ (d : b ≡ false) where
       differ : textOf p (root .name) ≡ n → ⊥
@@ -123,19 +126,21 @@ module _ (s p : Str) (m : List ℕ) (n slot : Str) (mark : ℕ) (r : StructStep)
       unfolding targetAt
       free g = entered-is (typesAt s p) (referenceAt s p (g .place)) n (g .leads)
 
-      module _ (f : Bool) (slotted : f ≡ hasSlot (typesAt s p) n) where
-        pub owner-slotted : f ≡ true → OwnerIn s p m n slot mark Nobody
-        owner-slotted h = unclaimed (neither (λ g. false≢true (sym (free g .1) ∙ sym slotted ∙ h)))
+      module _ (z : List ℕ) (f : Bool) (slotted : HasSlot s p z n f) where
+        pub owner-slotted : f ≡ true → OwnerBy s p m z n slot mark Nobody
+        owner-slotted h = record { by = λ j. unclaimed (neither (λ g. false≢true (sym (free g .1) ∙ sym (slotted .is j) ∙ h))) }
 
         module _ (v : Bool) (told : MarkedName s p m n mark v) (h : f ≡ false) where
-          pub owner-named : v ≡ true → OwnerIn s p m n slot mark (Owned (root .name))
+          pub owner-named : v ≡ true → OwnerBy s p m z n slot mark (Owned (root .name))
           unfolding targetAt
           owner-named y =
               let g = told .yes y in
-              claimed (inr (record { place = g .place; inside = g .inside; is = g .is; leads = is-entered (typesAt s p) _ n (g .name) (sym slotted ∙ h) }))
+              record {
+                by = λ j. claimed (inr (record { place = g .place; inside = g .inside; is = g .is; leads = is-entered (typesAt s p) _ n (g .name) (sym (slotted .is j) ∙ h) }));
+              }
 
-          pub owner-not : v ≡ false → OwnerIn s p m n slot mark Nobody
-          owner-not y = unclaimed (neither (λ g. told .never y (record { place = g .place; inside = g .inside; is = g .is; name = free g .0 })))
+          pub owner-not : v ≡ false → OwnerBy s p m z n slot mark Nobody
+          owner-not y = record { by = λ j. unclaimed (neither (λ g. told .never y (record { place = g .place; inside = g .inside; is = g .is; name = free g .0 }))) }
 
 pub ruleset owner-in-laws = (owner-none, owner-own, owner-slotted, owner-named, owner-not)
 
@@ -296,7 +301,13 @@ module _ (s p n : Str) where
       owns = owner-is-first (typesAt s p) n (textOf p t) .1 (a .first t refl)
 
   -- the three slots, one after the other
-  module _ (m : List ℕ) (g : OwnerMarks s p m) (a : Owner) (one : OwnerIn s p m n (bytes "metadata") 1 a) where
+  module _ (m x : List ℕ) (known : Known s p m x) (a : Owner) (first : OwnerBy s p m x n (bytes "metadata") 1 a) where
+    g : OwnerMarks s p m
+    g = known .marks
+
+    one : OwnerIn s p m n (bytes "metadata") 1 a
+    one = first .by (known .index)
+
     none-first : Within s p m 0 n → ⊥
     none-first h = h .marked (let l = h .most in omega arith)
 
@@ -304,7 +315,10 @@ module _ (s p n : Str) where
     unfolding ownershipOrder
     answer-first t e = answered (Owned t) (root-taken m (bytes "metadata") 0 (g .metadata) a one _ t e)
 
-    module _ (e : a ≡ Nobody) (b : Owner) (two : OwnerIn s p m n (bytes "runtime") 2 b) where
+    module _ (e : a ≡ Nobody) (b : Owner) (second : OwnerBy s p m x n (bytes "runtime") 2 b) where
+      two : OwnerIn s p m n (bytes "runtime") 2 b
+      two = second .by (known .index)
+
       none-second : Within s p m 1 n → ⊥
       none-second = none-so-far m (bytes "metadata") 0 (g .metadata) a one none-first e
 
@@ -315,7 +329,10 @@ module _ (s p n : Str) where
       unfolding ownershipOrder
       answer-second t h = answered (Owned t) (past-first _ (Owned t) (root-taken m (bytes "runtime") 1 (g .runtime) b two _ t h))
 
-      module _ (h : b ≡ Nobody) (c : Owner) (three : OwnerIn s p m n (bytes "info") 3 c) where
+      module _ (h : b ≡ Nobody) (c : Owner) (third : OwnerBy s p m x n (bytes "info") 3 c) where
+        three : OwnerIn s p m n (bytes "info") 3 c
+        three = third .by (known .index)
+
         last : (r : Owner) → c ≡ r → AnswerIn s p n (bytes "info" ∷ []) r
         last Nobody y =
             root-left m (bytes "info") 2 (g .info) c three (none-so-far m (bytes "runtime") 1 (g .runtime) b two none-second h) y [] Nobody answer-end
@@ -327,9 +344,9 @@ module _ (s p n : Str) where
 
 -- the call ---------------------------------------------------------------------------------------------------------------
 
-module _ (room : ℕ) (s p n : Str) where
-  pub found-beyond : room < length s → OwnerFound room s p n Nobody
+module _ (s p n : Str) where
+  pub found-beyond : 32768 < length s → OwnerFound 32768 s p n Nobody
   found-beyond h = record { within = λ l. absurd (omega arith); beyond = λ l. refl }
 
-  pub found-within : (r : Owner) (before after : List ℕ) → room ≡ length before → length s ≤ room → OwnersMarked s p before after → (OwnerMarks s p after → Answered s p n r) → OwnerFound room s p n r
-  found-within r before after e h f a = record { within = λ l. a (f .within (rw (← e) h)); beyond = λ l. absurd (omega arith) }
+  pub found-within : (r : Owner) (before room after x : List ℕ) → 32768 ≤ length before → 4938 ≤ length room → length s ≤ 32768 → OwnersMarked s p before room after x → (Known s p after x → Answered s p n r) → OwnerFound 32768 s p n r
+  found-within r before room after x e i h f a = record { within = λ l. a (f .within (omega arith) h i); beyond = λ l. absurd (omega arith) }

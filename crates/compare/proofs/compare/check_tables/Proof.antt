@@ -40,10 +40,13 @@ slice-aggregate-check-layouts-4 c = search needs
 slice-aggregate-check-layouts-5 : tie.Need-slice-aggregate-check-layouts-5
 slice-aggregate-check-layouts-5 c = search needs
 
+slice-aggregate-check-layouts-6 : tie.Need-slice-aggregate-check-layouts-6
+slice-aggregate-check-layouts-6 c = search needs
+
 check-layouts-requires : tie.Need-check-layouts-requires
 check-layouts-requires c κs =
-    let now = c .before .before .before .before .before .before .before .before .before .before .before .before .before .before .before .before .before .before .before .fill-tables .ensures .0 (search needs) (search needs) (search needs) (search needs) (c .before .before .before .before .before .before .before .before .before .before .before .before .before .before .before .before .before .before .before .before .before .before .before .before .before .before .before .before .before .before .pre .1) in
-    (now, c .before .before .before .before .before .before .before .before .before .before .fill-tables2 .ensures .0 (search needs) (search needs) (search needs) (search needs) (c .before .before .before .before .before .before .before .before .before .before .before .before .before .before .before .before .before .before .before .before .before .before .before .before .before .before .before .before .before .before .pre .3), search needs, omega (arith, now .few))
+    let now = c .before .before .before .before .before .before .before .before .before .before .before .before .before .before .before .before .before .before .before .before .fill-tables .ensures .0 (search needs) (search needs) (search needs) (search needs) (c .before .before .before .before .before .before .before .before .before .before .before .before .before .before .before .before .before .before .before .before .before .before .before .before .before .before .before .before .before .before .before .pre .1) in
+    (now, c .before .before .before .before .before .before .before .before .before .before .before .fill-tables2 .ensures .0 (search needs) (search needs) (search needs) (search needs) (c .before .before .before .before .before .before .before .before .before .before .before .before .before .before .before .before .before .before .before .before .before .before .before .before .before .before .before .before .before .before .before .pre .3), search needs, omega (arith, now .few), search needs, search needs)
 
 same-length : tie.Need-same-length
 same-length c = search needs
@@ -70,6 +73,7 @@ check-tables-spec =
     slice-aggregate-check-layouts-3
     slice-aggregate-check-layouts-4
     slice-aggregate-check-layouts-5
+    slice-aggregate-check-layouts-6
     check-layouts-requires
     same-length
     same-length-2
