@@ -4,7 +4,7 @@ use mathlib.Core.List.{List, [], _∷_}
 use mathlib.Core.Option.{Option, none, some}
 use mathlib.Core.Bool.{Bool, true, false}
 use mathlib.Core.Logic.{_⊎_}
-use Prim.Native.Nat.{ℕ, _≤_, _<_}
+use Prim.Native.Nat.{ℕ, _+_, _≤_, _<_}
 use lib.ListN.{length, getD}
 use Rattle.record.specs.Base.{Str, bytes, eqs, find}
 use Rattle.record.specs.Stretch.{textOf}
@@ -65,6 +65,11 @@ pub record OwnersMarked (s p : Str) (before room after x : List ℕ) : Type 0 wh
   pub beyond : length before < length s → (after ≡ before) × (x ≡ room)
 
 -- answers ----------------------------------------------------------------------------------------------------------------
+
+-- eight marks from a place on are there, and none is set
+pub record EightClear (m : List ℕ) (i : ℕ) (r : Bool) : Type 0 where
+  pub room : r ≡ true → i + 8 ≤ length m
+  pub clear : r ≡ true → (q : ℕ) → i ≤ q → q < i + 8 → getD m q 0 ≡ 0
 
 -- a field with this mark refers to the name
 pub record Referred (s p : Str) (m : List ℕ) (mark : ℕ) (n : Str) : Type 0 where
