@@ -16,7 +16,7 @@ use Rattle.record.specs.Stretch.{textOf}
 use Rattle.record.specs.Scalars.{Scalar}
 use Rattle.record.specs.Owner.{Types, ownerOf}
 use Rattle.record.specs.References.{typesAt}
-use Rattle.record.specs.Ownership.{OwnerMarks}
+use Rattle.record.specs.Ownership.{Known}
 use Rattle.record.specs.Reading.{Rec, rec, schemaOf}
 use Rattle.layout.specs.Layout.{TypeLayout, types, typeIn}
 use Rattle.layout.specs.Handles.{typeName, layoutOf}
@@ -276,11 +276,11 @@ module _ (s p b q : Str) (w : List Scalar) (t m₀ m : List ℕ) (i h : ℕ) (la
     unfolding coverMeant coverFor layoutOf
     covering-same g = covering-next 0 last (rw (← f, g)) (c .known)
 
-    pub covering-changed : (n : ℕ) (marks : List ℕ) → y ≡ false → OwnerMarks s p marks
-        → (OwnerMarks s p marks → Knows s p last → coverMeant p n ≡ coverIn (typesAt s p) (owning (typeName s p h)))
+    pub covering-changed : (n : ℕ) (marks index : List ℕ) → y ≡ false → Known s p marks index
+        → (Known s p marks index → Knows s p last → coverMeant p n ≡ coverIn (typesAt s p) (owning (typeName s p h)))
         → Covering (rec s p w) (rec b q w) t m₀ (set m i n) (i + 1) (Entry h n)
     unfolding coverFor layoutOf
-    covering-changed n marks g o k = let d = k o (c .known) in covering-next n (Entry h n) (rw (← f, g) d) d
+    covering-changed n marks index g o k = let d = k o (c .known) in covering-next n (Entry h n) (rw (← f, g) d) d
 
 -- the pass asks the table ----------------------------------------------------------------------------------------------------
 

@@ -17,7 +17,7 @@ use Rattle.record.specs.Write.{Puts}
 use Rattle.record.specs.Schema as M
 use Rattle.record.specs.Steps.{familiesAt, FamiliesFrom}
 use Rattle.record.specs.References.{typesAt}
-use Rattle.record.specs.Ownership.{OwnerMarks, Answered, ownerMeant}
+use Rattle.record.specs.Ownership.{Known, Answered, ownerMeant}
 use Rattle.record.specs.declared.text.Text.{Text}
 use Rattle.record.specs.declared.command.Cursor.{Cursor}
 use Rattle.record.specs.declared.command.Family.{Family}
@@ -135,9 +135,9 @@ module _ (s p : Str) where
       → t ≡ eqs (owning (typeName s p g)) (owning (typeName s p h))
   owning-same g h n o x y t e f i l e₂ f₂ i₂ l₂ u v z = z ∙ ap₂ eqs (owning-read g n x e f i l u) (owning-read h o y e₂ f₂ i₂ l₂ v)
 
-  pub entry-read : (h : ℕ) (n : TypeName) {a a' : Str} {m : ℕ} (x : Str) (marks : List ℕ) (r : ℕ) → n ≡ stretchesOf s h → Puts a 0 (nameOf p n) a' m → m ≤ 0 + 512 → length a ≡ 512
-      → x ≡ owning (take m a') → (OwnerMarks s p marks → coverMeant p r ≡ coverIn (typesAt s p) x) → OwnerMarks s p marks → coverMeant p r ≡ coverIn (typesAt s p) (owning (typeName s p h))
-  entry-read h n x marks r e f k l g c o = c o ∙ ap (coverIn (typesAt s p)) (owning-read h n x e f k l g)
+  pub entry-read : (h : ℕ) (n : TypeName) {a a' : Str} {m : ℕ} (x : Str) (marks index : List ℕ) (r : ℕ) → n ≡ stretchesOf s h → Puts a 0 (nameOf p n) a' m → m ≤ 0 + 512 → length a ≡ 512
+      → x ≡ owning (take m a') → (Known s p marks index → coverMeant p r ≡ coverIn (typesAt s p) x) → Known s p marks index → coverMeant p r ≡ coverIn (typesAt s p) (owning (typeName s p h))
+  entry-read h n x marks index r e f k l g c o = c o ∙ ap (coverIn (typesAt s p)) (owning-read h n x e f k l g)
 
 -- families that stand alone --------------------------------------------------------------------------------------------------
 
@@ -185,7 +185,7 @@ module _ (s p n : Str) (b : Bool) (e : b ≡ standsAlone (familiesAt s p 0) n) w
   unfolding coverMeant coverIn
   entry-alone t = rw (← e, t)
 
-  module _ (t : b ≡ false) (marks : List ℕ) (o : OwnerMarks s p marks) (r : Owner) (a : OwnerMarks s p marks → Answered s p n r) where
+  module _ (t : b ≡ false) (marks index : List ℕ) (o : Known s p marks index) (r : Owner) (a : Known s p marks index → Answered s p n r) where
     pub entry-nobody : r ≡ Nobody → coverMeant p 1 ≡ coverIn (typesAt s p) n
     unfolding coverMeant coverIn
     entry-nobody m = rw (← e, t) (ap some (ap (ownerMeant p) (sym m) ∙ a o .owner))
@@ -197,9 +197,9 @@ module _ (s p n : Str) (b : Bool) (e : b ≡ standsAlone (familiesAt s p 0) n) w
 pub ruleset named-laws = (entry-alone, entry-nobody, entry-owned)
 
 module _ (s p : Str) (last : Last) (h : ℕ) where
-  pub after-other : (marks : List ℕ) (r : ℕ) → (OwnerMarks s p marks → coverMeant p r ≡ coverIn (typesAt s p) (owning (typeName s p h))) → OwnerMarks s p marks
+  pub after-other : (marks index : List ℕ) (r : ℕ) → (Known s p marks index → coverMeant p r ≡ coverIn (typesAt s p) (owning (typeName s p h))) → Known s p marks index
       → coverMeant p r ≡ coverIn (typesAt s p) (owning (typeName s p h))
-  after-other marks r f o = f o
+  after-other marks index r f o = f o
 
   pub after-same : (g n : ℕ) (b : Bool) → last ≡ Entry g n → Knows s p last → b ≡ eqs (owning (typeName s p g)) (owning (typeName s p h)) → b ≡ true
       → coverMeant p n ≡ coverIn (typesAt s p) (owning (typeName s p h))

@@ -151,11 +151,12 @@ fn check_layouts(
     shipped: &[u32],
     widths: &[u64],
     marks: &mut [u8],
+    index: &mut [u16],
     cover: &mut [u32],
     current: Text,
     copy: OptText,
 ) -> Verdict
-    requires { ⌜ Tables (rec (now stream) (now pool) (scalarsOf (now rows))) (now types) (now sizes) × Tables (rec (now past) (now old) (scalarsOf (now rows))) (now shipped) (now widths) × (length (now stream) ≤ length (now marks)) × (length (now types) ≤ length (now cover)) ⌝ }
+    requires { ⌜ Tables (rec (now stream) (now pool) (scalarsOf (now rows))) (now types) (now sizes) × Tables (rec (now past) (now old) (scalarsOf (now rows))) (now shipped) (now widths) × (length (now stream) ≤ length (now marks)) × (length (now types) ≤ length (now cover)) × (length (now stream) ≤ 32768) × (4938 ≤ length (now index)) ⌝ }
     ensures { λ r. ⌜ meaning (now (pool .entry)) (now (old .entry)) r ≡ ((checkFields (typesOf (rec (now (stream .entry)) (now (pool .entry)) (scalarsOf (now (rows .entry))))) (typesOf (rec (now (past .entry)) (now (old .entry)) (scalarsOf (now (rows .entry))))) then checkStandalone (familiesAt (now (stream .entry)) (now (pool .entry)) 0) (familiesAt (now (past .entry)) (now (old .entry)) 0) (typesOf (rec (now (stream .entry)) (now (pool .entry)) (scalarsOf (now (rows .entry))))) (typesOf (rec (now (past .entry)) (now (old .entry)) (scalarsOf (now (rows .entry)))))) then checkGenerations (textOf (now (pool .entry)) current) (optOf (now (old .entry)) copy) (versionsAt (now (stream .entry)) (now (pool .entry)) 0) (typesAt (now (stream .entry)) (now (pool .entry))) (constantsAt (now (stream .entry)) (now (pool .entry)) 0) (constantsAt (now (past .entry)) (now (old .entry)) 0) (changedTypes (rec (now (stream .entry)) (now (pool .entry)) (scalarsOf (now (rows .entry)))) (rec (now (past .entry)) (now (old .entry)) (scalarsOf (now (rows .entry)))))) ⌝ }
 {
     let verdict = check_types(rows, stream, pool, types, sizes, past, old, shipped, widths);
@@ -171,6 +172,7 @@ fn check_layouts(
             shipped,
             widths,
             marks,
+            index,
             cover,
             current,
             copy,
@@ -191,11 +193,12 @@ fn check_tables(
     shipped: &mut [u32],
     widths: &mut [u64],
     marks: &mut [u8],
+    index: &mut [u16],
     scratch: &mut [u32],
     current: Text,
     copy: OptText,
 ) -> Verdict
-    requires { ⌜ (length (now stream) ≤ 32768) × Exact (rec (now stream) (now pool) (scalarsOf (now rows))) × (length (now past) ≤ 32768) × Exact (rec (now past) (now old) (scalarsOf (now rows))) × Room (now stream) (now types) × Room (now stream) (now scratch) × SizesRoom (now stream) (now sizes) × Room (now past) (now shipped) × Room (now past) (now scratch) × SizesRoom (now past) (now widths) × (length (now stream) ≤ length (now marks)) ⌝ }
+    requires { ⌜ (length (now stream) ≤ 32768) × Exact (rec (now stream) (now pool) (scalarsOf (now rows))) × (length (now past) ≤ 32768) × Exact (rec (now past) (now old) (scalarsOf (now rows))) × Room (now stream) (now types) × Room (now stream) (now scratch) × SizesRoom (now stream) (now sizes) × Room (now past) (now shipped) × Room (now past) (now scratch) × SizesRoom (now past) (now widths) × (length (now stream) ≤ length (now marks)) × (4938 ≤ length (now index)) ⌝ }
     ensures { λ r. ⌜ meaning (now (pool .entry)) (now (old .entry)) r ≡ ((checkFields (typesOf (rec (now (stream .entry)) (now (pool .entry)) (scalarsOf (now (rows .entry))))) (typesOf (rec (now (past .entry)) (now (old .entry)) (scalarsOf (now (rows .entry))))) then checkStandalone (familiesAt (now (stream .entry)) (now (pool .entry)) 0) (familiesAt (now (past .entry)) (now (old .entry)) 0) (typesOf (rec (now (stream .entry)) (now (pool .entry)) (scalarsOf (now (rows .entry))))) (typesOf (rec (now (past .entry)) (now (old .entry)) (scalarsOf (now (rows .entry)))))) then checkGenerations (textOf (now (pool .entry)) current) (optOf (now (old .entry)) copy) (versionsAt (now (stream .entry)) (now (pool .entry)) 0) (typesAt (now (stream .entry)) (now (pool .entry))) (constantsAt (now (stream .entry)) (now (pool .entry)) 0) (constantsAt (now (past .entry)) (now (old .entry)) 0) (changedTypes (rec (now (stream .entry)) (now (pool .entry)) (scalarsOf (now (rows .entry)))) (rec (now (past .entry)) (now (old .entry)) (scalarsOf (now (rows .entry)))))) ⌝ }
 {
     let n = fill_tables(rows, stream, pool, types, scratch, sizes);
@@ -211,6 +214,7 @@ fn check_tables(
         &shipped[..m],
         widths,
         marks,
+        index,
         scratch,
         current,
         copy,
@@ -229,11 +233,12 @@ fn check_lent(
     shipped: &mut [u32],
     widths: &mut [u64],
     marks: &mut [u8],
+    index: &mut [u16],
     scratch: &mut [u32],
     current: Text,
     copy: OptText,
 ) -> Verdict
-    requires { ⌜ (length (now stream) ≤ 32768) × Exact (rec (now stream) (now pool) (scalarsOf (now rows))) × (length (now past) ≤ 32768) × Exact (rec (now past) (now old) (scalarsOf (now rows))) × Room (now stream) (now types) × Room (now stream) (now scratch) × SizesRoom (now stream) (now sizes) × Room (now past) (now shipped) × Room (now past) (now scratch) × SizesRoom (now past) (now widths) × (length (now stream) ≤ length (now marks)) × Room (now past) (now types) ⌝ }
+    requires { ⌜ (length (now stream) ≤ 32768) × Exact (rec (now stream) (now pool) (scalarsOf (now rows))) × (length (now past) ≤ 32768) × Exact (rec (now past) (now old) (scalarsOf (now rows))) × Room (now stream) (now types) × Room (now stream) (now scratch) × SizesRoom (now stream) (now sizes) × Room (now past) (now shipped) × Room (now past) (now scratch) × SizesRoom (now past) (now widths) × (length (now stream) ≤ length (now marks)) × Room (now past) (now types) × (4938 ≤ length (now index)) ⌝ }
     ensures { λ r. ⌜ meaning (now (pool .entry)) (now (old .entry)) r ≡ ((checkReleaseOrder (textOf (now (pool .entry)) current) (optOf (now (old .entry)) copy) then checkFirstReleases (textOf (now (pool .entry)) current) (optOf (now (old .entry)) copy) (constantsAt (now (stream .entry)) (now (pool .entry)) 0) (constantsAt (now (past .entry)) (now (old .entry)) 0) (enumsAt (now (stream .entry)) (now (pool .entry)) 0) (enumsAt (now (past .entry)) (now (old .entry)) 0) (pluginKeys (structsAt (now (stream .entry)) (now (pool .entry)) 0) (unstoredAt (now (stream .entry)) (now (pool .entry)) 0)) (pluginKeys (structsAt (now (past .entry)) (now (old .entry)) 0) (unstoredAt (now (past .entry)) (now (old .entry)) 0))) then (checkConstants (structsAt (now (stream .entry)) (now (pool .entry)) 0) (constantsAt (now (stream .entry)) (now (pool .entry)) 0) (constantsAt (now (past .entry)) (now (old .entry)) 0) then checkEnums (enumsAt (now (stream .entry)) (now (pool .entry)) 0) (enumsAt (now (past .entry)) (now (old .entry)) 0)) then (checkBitfields (bitfieldsAt (now (stream .entry)) (now (pool .entry)) 0) (bitfieldsAt (now (past .entry)) (now (old .entry)) 0) then checkBitfieldReleases (textOf (now (pool .entry)) current) (bitfieldsAt (now (stream .entry)) (now (pool .entry)) 0) (bitfieldsAt (now (past .entry)) (now (old .entry)) 0)) then ((checkFields (typesOf (rec (now (stream .entry)) (now (pool .entry)) (scalarsOf (now (rows .entry))))) (typesOf (rec (now (past .entry)) (now (old .entry)) (scalarsOf (now (rows .entry))))) then checkStandalone (familiesAt (now (stream .entry)) (now (pool .entry)) 0) (familiesAt (now (past .entry)) (now (old .entry)) 0) (typesOf (rec (now (stream .entry)) (now (pool .entry)) (scalarsOf (now (rows .entry))))) (typesOf (rec (now (past .entry)) (now (old .entry)) (scalarsOf (now (rows .entry)))))) then checkGenerations (textOf (now (pool .entry)) current) (optOf (now (old .entry)) copy) (versionsAt (now (stream .entry)) (now (pool .entry)) 0) (typesAt (now (stream .entry)) (now (pool .entry))) (constantsAt (now (stream .entry)) (now (pool .entry)) 0) (constantsAt (now (past .entry)) (now (old .entry)) 0) (changedTypes (rec (now (stream .entry)) (now (pool .entry)) (scalarsOf (now (rows .entry)))) (rec (now (past .entry)) (now (old .entry)) (scalarsOf (now (rows .entry))))))) ⌝ }
 {
     let verdict = check_declared(stream, pool, past, old, current, copy, types, scratch);
@@ -249,6 +254,7 @@ fn check_lent(
             shipped,
             widths,
             marks,
+            index,
             scratch,
             current,
             copy,
@@ -275,6 +281,7 @@ fn check_long(
     let mut shipped = [0u32; 8192];
     let mut widths = [0u64; 993];
     let mut marks = [0u8; 32768];
+    let mut index = [0u16; 4938];
     let mut scratch = [0u32; 8192];
     check_lent(
         rows,
@@ -287,6 +294,7 @@ fn check_long(
         &mut shipped,
         &mut widths,
         &mut marks,
+        &mut index,
         &mut scratch,
         current,
         copy,
@@ -311,6 +319,7 @@ fn check_short(
     let mut shipped = [0u32; 512];
     let mut widths = [0u64; 63];
     let mut marks = [0u8; 2048];
+    let mut index = [0u16; 4938];
     let mut scratch = [0u32; 512];
     check_lent(
         rows,
@@ -323,6 +332,7 @@ fn check_short(
         &mut shipped,
         &mut widths,
         &mut marks,
+        &mut index,
         &mut scratch,
         current,
         copy,

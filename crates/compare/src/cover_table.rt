@@ -13,7 +13,7 @@ ghost use Prim.Native.Nat.{_≤_};
 ghost use mathlib.Core.Path.{_≡_};
 ghost use lib.ListN.{length, getD};
 ghost use Rattle.record.specs.Scalars.{scalarsOf};
-ghost use Rattle.record.specs.Ownership.{OwnerMarks};
+ghost use Rattle.record.specs.Ownership.{Known};
 ghost use Rattle.record.specs.Reading.{rec, schemaOf};
 ghost use Rattle.record.specs.Read.{Exact};
 ghost use Rattle.layout.specs.Layout.{types, typeIn};
@@ -63,7 +63,7 @@ fn unchanged(
     )
 }
 
-// Fills the table, where the marks are those of the owners.
+// Fills the table, where the marks are those of the owners and the index is the record's.
 pub(crate) fn fill_cover(
     rows: &[u8],
     stream: &[u8],
@@ -75,9 +75,10 @@ pub(crate) fn fill_cover(
     shipped: &[u32],
     widths: &[u64],
     marks: &[u8],
+    index: &[u16],
     cover: &mut [u32],
 )
-    requires { ⌜ Tables (rec (now stream) (now pool) (scalarsOf (now rows))) (now types) (now sizes) × Tables (rec (now past) (now old) (scalarsOf (now rows))) (now shipped) (now widths) × OwnerMarks (now stream) (now pool) (now marks) × (length (now types) ≤ length (now cover)) ⌝ }
+    requires { ⌜ Tables (rec (now stream) (now pool) (scalarsOf (now rows))) (now types) (now sizes) × Tables (rec (now past) (now old) (scalarsOf (now rows))) (now shipped) (now widths) × Known (now stream) (now pool) (now marks) (now index) × (length (now types) ≤ length (now cover)) ⌝ }
     ensures { λ _. ⌜ CoverTable (rec (now (stream .entry)) (now (pool .entry)) (scalarsOf (now (rows .entry)))) (rec (now (past .entry)) (now (old .entry)) (scalarsOf (now (rows .entry)))) (now (types .entry)) (now (cover .exit)) ⌝ }
 {
     let mut last = Last::NoLast;
@@ -88,7 +89,7 @@ pub(crate) fn fill_cover(
             cover[i] = 0;
             i += 1;
         } else {
-            let entry = entry_after(stream, pool, marks, last, h);
+            let entry = entry_after(stream, pool, marks, index, last, h);
             cover[i] = entry;
             last = Last::Entry(h, entry);
             i += 1;

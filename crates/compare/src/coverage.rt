@@ -20,7 +20,7 @@ ghost use Rattle.record.specs.Base.{eqs};
 ghost use Rattle.record.specs.Stretch.{textOf};
 ghost use Rattle.record.specs.Steps.{familiesAt};
 ghost use Rattle.record.specs.References.{typesAt};
-ghost use Rattle.record.specs.Ownership.{OwnerMarks};
+ghost use Rattle.record.specs.Ownership.{Known};
 ghost use Rattle.layout.specs.Handles.{typeName};
 ghost use Rattle.definition.specs.Coverage.{owning, standsAlone};
 ghost use Rattle.compare.specs.CoverTable.{colonsFirst, oneFamily, coverIn, coverMeant, Packed, Knows};
@@ -115,25 +115,25 @@ fn packed(root: Text) -> u32
 }
 
 // The entry of a changed type, by its name before the first "::".
-fn entry_named(stream: &[u8], pool: &[u8], marks: &[u8], name: &[u8]) -> u32
-    ensures { λ r. ⌜ (OwnerMarks (now (stream .entry)) (now (pool .entry)) (now (marks .entry)) → coverMeant (now (pool .entry)) r ≡ coverIn (typesAt (now (stream .entry)) (now (pool .entry))) (now (name .entry))) ⌝ }
+fn entry_named(stream: &[u8], pool: &[u8], marks: &[u8], index: &[u16], name: &[u8]) -> u32
+    ensures { λ r. ⌜ (Known (now (stream .entry)) (now (pool .entry)) (now (marks .entry)) (now (index .entry)) → coverMeant (now (pool .entry)) r ≡ coverIn (typesAt (now (stream .entry)) (now (pool .entry))) (now (name .entry))) ⌝ }
 {
     if stands_alone(stream, pool, name) {
         return 0;
     }
-    let Owner::Owned(root) = owner_among(stream, pool, marks, name) else {
+    let Owner::Owned(root) = owner_among(stream, pool, marks, index, name) else {
         return 1;
     };
     packed(root)
 }
 
 // The entry of a changed type.
-fn entry_of(stream: &[u8], pool: &[u8], marks: &[u8], handle: u32) -> u32
-    ensures { λ r. ⌜ (OwnerMarks (now (stream .entry)) (now (pool .entry)) (now (marks .entry)) → coverMeant (now (pool .entry)) r ≡ coverIn (typesAt (now (stream .entry)) (now (pool .entry))) (owning (typeName (now (stream .entry)) (now (pool .entry)) handle))) ⌝ }
+fn entry_of(stream: &[u8], pool: &[u8], marks: &[u8], index: &[u16], handle: u32) -> u32
+    ensures { λ r. ⌜ (Known (now (stream .entry)) (now (pool .entry)) (now (marks .entry)) (now (index .entry)) → coverMeant (now (pool .entry)) r ≡ coverIn (typesAt (now (stream .entry)) (now (pool .entry))) (owning (typeName (now (stream .entry)) (now (pool .entry)) handle))) ⌝ }
 {
     let mut name = [0u8; 512];
     let n = put_name(&mut name, 0, pool, type_name(stream, handle));
-    entry_named(stream, pool, marks, before_colons(&name[..n]))
+    entry_named(stream, pool, marks, index, before_colons(&name[..n]))
 }
 
 // The changed type before, by its handle, and its entry.
@@ -143,14 +143,21 @@ pub enum Last {
 }
 
 // The entry of a changed type, taken over from the one before where both have one name before the first "::": an owner is sought once.
-pub(crate) fn entry_after(stream: &[u8], pool: &[u8], marks: &[u8], last: Last, handle: u32) -> u32
-    ensures { λ r. ⌜ (OwnerMarks (now (stream .entry)) (now (pool .entry)) (now (marks .entry)) → Knows (now (stream .entry)) (now (pool .entry)) last → coverMeant (now (pool .entry)) r ≡ coverIn (typesAt (now (stream .entry)) (now (pool .entry))) (owning (typeName (now (stream .entry)) (now (pool .entry)) handle))) ⌝ }
+pub(crate) fn entry_after(
+    stream: &[u8],
+    pool: &[u8],
+    marks: &[u8],
+    index: &[u16],
+    last: Last,
+    handle: u32,
+) -> u32
+    ensures { λ r. ⌜ (Known (now (stream .entry)) (now (pool .entry)) (now (marks .entry)) (now (index .entry)) → Knows (now (stream .entry)) (now (pool .entry)) last → coverMeant (now (pool .entry)) r ≡ coverIn (typesAt (now (stream .entry)) (now (pool .entry))) (owning (typeName (now (stream .entry)) (now (pool .entry)) handle))) ⌝ }
 {
     let Last::Entry(before, entry) = last else {
-        return entry_of(stream, pool, marks, handle);
+        return entry_of(stream, pool, marks, index, handle);
     };
     if same_owning(stream, pool, before, handle) {
         return entry;
     }
-    entry_of(stream, pool, marks, handle)
+    entry_of(stream, pool, marks, index, handle)
 }

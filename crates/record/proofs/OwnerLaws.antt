@@ -4,22 +4,28 @@ use mathlib.Core.List.{List, [], _∷_}
 use mathlib.Core.Option.{Option, none, some}
 use mathlib.Core.Bool.{Bool, true, false, false≢true}
 use mathlib.Core.Logic.{inl, inr}
-use Prim.Native.Nat.{ℕ, suc, _+_, _≤_, _<_}
+use Prim.Native.Nat.{ℕ, suc, _+_, _-_, _≤_, _<_}
 use native.Mathlib.Omega.{arith}
-use lib.ListN.{length, getD, List·getD-eq-default}
+use lib.ListN.{length, getD, drop, List·getD-eq-default}
 use lib.Dec.{eqb, leb, ltb}
 use borrow.Author.Tests.{eqb-true, eqb-false, leb-true, leb-false, ltb-true, ltb-false}
 use Rattle.record.specs.Base.{Str, bytes, eqs, isText, find}
 use Rattle.record.specs.Stretch.{textOf}
-use Rattle.record.specs.Schema.{Struct}
-use Rattle.record.specs.Lists.{optOf, structOf}
+use Rattle.record.specs.Schema.{Field, Struct}
+use Rattle.record.specs.Le.{u16At, u32At, u64At}
+use Rattle.record.specs.Operands.{textAt, optTextAt}
+use Rattle.record.specs.Commands.{fieldAt}
+use Rattle.record.specs.Kind.{kindOf}
+use Rattle.record.specs.Lists.{optOf, fieldOf, structOf}
 use Rattle.record.specs.Steps.{structsAt, fieldsAt, structFound}
-use Rattle.record.specs.Owner.{Types, hasSlot, structInSlot, withName, rootsIn, ownershipOrder, roots, ownerOf, Leads, here, along, First, now, later}
-use Rattle.record.specs.References.{typesAt, structCommandsAt, commandFound, InSlot}
+use Rattle.record.specs.Owner.{Types, referenced, referencedAs, hasSlot, structInSlot, withName, rootsIn, ownershipOrder, roots, ownerOf, Leads, here, along, First, now, later}
+use Rattle.record.specs.References.{typesAt, HasSlot, structCommandsAt, commandFound, InSlot}
 use Rattle.record.specs.Marks.{referenceAt, targetAt}
-use Rattle.record.specs.Ownership.{Within, Resolved, OwnerMarks, OwnersMarked, MarkedName, NamedBy, Claims, OwnerIn, withStretch, stretchesIn, ownedBy, stretchOf, ownerAt, Answered, OwnerFound}
+use Rattle.record.specs.Ownership.{Within, Resolved, OwnerMarks, Known, OwnersMarked, EightClear, OwnerBy, MarkedName, NamedBy, Claims, OwnerIn, withStretch, stretchesIn, ownedBy, stretchOf, ownerAt, Answered, OwnerFound}
 use Rattle.record.specs.declared.text.Text.{Text}
 use Rattle.record.specs.declared.operands.OptText.{OptText}
+use Rattle.record.specs.declared.kind.Kind.{Kind}
+use Rattle.record.specs.declared.kind.Kind.the-variants as K
 use Rattle.record.specs.declared.command as D
 use Rattle.record.specs.declared.command.Cursor.{Cursor}
 use Rattle.record.specs.declared.lists.StructStep.{StructStep}
@@ -64,15 +70,95 @@ module _ (s p : Str) (m : List ℕ) (n : Str) (mark : ℕ) where
     pub none-ends : length m ≤ i → MarkedName s p m n mark false
     none-ends l = record { yes = λ e. absurd (false≢true e); never = λ e r. let j = r .inside in h .below (r .place) (omega arith) (r .is) (r .name) }
 
-    module _ (o : OptText) (b : Bool) (found : optOf p o ≡ referenceAt s p i) (is : b ≡ isText (optOf p o) n) where
+    -- eight at once
+    pub none-eight : (v : Bool) → 0 < mark → EightClear m i v → v ≡ true → NoneTo s p m n mark (i + 8)
+    none-eight v real c y = record { below = λ q l. go q l (ltb q i) refl }
+      where
+        go : (q : ℕ) → q < i + 8 → (b : Bool) → ltb q i ≡ b → getD m q 0 ≡ mark → referenceAt s p q ≡ some n → ⊥
+        go q l true e g t = h .below q (ltb-true q i e) g t
+        go q l false e g t = let z = c .clear y q (ltb-false q i e) l in omega arith
+
+    module _ (b : Bool) (is : b ≡ isText (referenceAt s p i) n) where
       pub none-other : b ≡ false → NoneTo s p m n mark (i + 1)
-      none-other e = step (λ g t. false≢true (sym e ∙ is ∙ is-text (optOf p o) n (found ∙ t)))
+      none-other e = step (λ g t. false≢true (sym e ∙ is ∙ is-text (referenceAt s p i) n t))
 
       pub one-found : i < length m → getD m i 0 ≡ mark → b ≡ true → MarkedName s p m n mark true
       one-found l g e = record {
-        yes = λ z. record { place = i; inside = l; is = g; name = sym found ∙ text-is (optOf p o) n (sym is ∙ e) };
+        yes = λ z. record { place = i; inside = l; is = g; name = text-is (referenceAt s p i) n (sym is ∙ e) };
         never = λ z. absurd (false≢true (sym z));
       }
+
+-- bytes of a number that is 0
+module _ (m : List ℕ) (q : ℕ) where
+  zero-two : (a : ℕ) → u16At m a ≡ 0 → a ≤ q → q < a + 2 → getD m q 0 ≡ 0
+  unfolding u16At
+  zero-two a z l h = go (eqb q a) refl
+    where
+      go : (b : Bool) → eqb q a ≡ b → getD m q 0 ≡ 0
+      go true e = subst (λ (x : ℕ). getD m x 0 ≡ 0) (sym (eqb-true q a e)) (omega arith)
+      go false e =
+          let n = eqb-false q a e in
+          let k : a + 1 ≡ q = omega arith in
+          subst (λ (x : ℕ). getD m x 0 ≡ 0) k (omega arith)
+
+  zero-four : (a : ℕ) → u32At m a ≡ 0 → a ≤ q → q < a + 4 → getD m q 0 ≡ 0
+  unfolding u32At
+  zero-four a z l h = go (ltb q (a + 2)) refl
+    where
+      go : (b : Bool) → ltb q (a + 2) ≡ b → getD m q 0 ≡ 0
+      go true e = zero-two a (omega arith) l (ltb-true q (a + 2) e)
+      go false e = zero-two (a + 2) (omega arith) (ltb-false q (a + 2) e) (omega arith)
+
+  zero-eight : (a : ℕ) → u64At m a ≡ 0 → a ≤ q → q < a + 8 → getD m q 0 ≡ 0
+  unfolding u64At
+  zero-eight a z l h = go (ltb q (a + 4)) refl
+    where
+      go : (b : Bool) → ltb q (a + 4) ≡ b → getD m q 0 ≡ 0
+      go true e = zero-four a (omega arith) l (ltb-true q (a + 4) e)
+      go false e = zero-four (a + 4) (omega arith) (ltb-false q (a + 4) e) (omega arith)
+
+module _ (m : List ℕ) (i : ℕ) where
+  pub eight-not : EightClear m i false
+  eight-not = record { room = λ e. absurd (false≢true e); clear = λ e. absurd (false≢true e) }
+
+  pub eight-there : (w : ℕ) → w ≡ u64At m i → 8 ≤ length m → i ≤ length m - 8 → EightClear m i (eqb w 0)
+  eight-there w e l k = record { room = λ y. omega arith; clear = λ y q a b. zero-eight m q i (sym e ∙ eqb-true w 0 y) a b }
+
+pub ruleset eight-laws = (eight-not, eight-there)
+
+-- a field refers to no name that is neither its type's nor its element's
+either : (k : Kind) (f : Field) (n : Str) → isText (f .typ) n ≡ false → isText (f .element) n ≡ false → isText (referencedAs k f) n ≡ false
+unfolding referencedAs isText
+either K.Scalar f n a b = refl
+either K.Enum f n a b = refl
+either K.TypeAlias f n a b = refl
+either K.Bitfield f n a b = refl
+either K.InlineArray f n a b = refl
+either K.InlineArray2d f n a b = refl
+either K.CstrPtr f n a b = refl
+either K.StructPtr f n a b = a
+either K.StructArrayPtr f n a b = b
+either K.StructPtrArrayPtr f n a b = b
+either K.TaggedFamPtr f n a b = a
+either K.SimpleFamPtr f n a b = a
+either K.OpaquePtr f n a b = refl
+either K.FnPtr f n a b = refl
+either K.Padding f n a b = refl
+either K.Text f n a b = refl
+either K.Other f n a b = refl
+
+module _ (s p n : Str) (i : ℕ) where
+  pub refers-so : (o : OptText) (b : Bool) → optOf p o ≡ referenceAt s p i → b ≡ isText (optOf p o) n → b ≡ isText (referenceAt s p i) n
+  refers-so o b e f = f ∙ ap (λ (x : Option Str). isText x n) e
+
+  pub refers-not : (y : Str) (o u : OptText) (a b : Bool) → y ≡ drop i s → o ≡ optTextAt y 7 → a ≡ isText (optOf p o) n → a ≡ false → u ≡ optTextAt y 10 → b ≡ isText (optOf p u) n → b ≡ false → false ≡ isText (referenceAt s p i) n
+  unfolding referenceAt referenced
+  refers-not y o u a b d e f g h j k =
+      sym (either (kindOf (textOf p (textAt (drop i s) 4))) (fieldOf p (fieldAt (drop i s)) none) n
+      (ap (λ (x : OptText). isText (optOf p x) n) (ap (λ (x : Str). optTextAt x 7) (sym d) ∙ sym e) ∙ sym f ∙ g)
+      (ap (λ (x : OptText). isText (optOf p x) n) (ap (λ (x : Str). optTextAt x 10) (sym d) ∙ sym h) ∙ sym j ∙ k))
+
+pub ruleset refers-laws = (refers-so, refers-not)
 
 -- what the marks say of one root -----------------------------------------------------------------------------------------
 
@@ -80,13 +166,16 @@ Nobody≢Owned : {t : Text} → Nobody ≡ Owned t → ⊥
 Nobody≢Owned e = let z : _≡_ {A = ℕ} 0 1 = cc in omega arith
 
 module _ (s p : Str) (m : List ℕ) (n slot : Str) (mark : ℕ) (r : StructStep) (i : InSlot s p slot r) where
-  pub owner-none : r ≡ NoStruct → OwnerIn s p m n slot mark Nobody
-  owner-none e = record {
+  nobody-there : r ≡ NoStruct → OwnerIn s p m n slot mark Nobody
+  nobody-there e = record {
     filled = r;
     fills = i;
     owned = λ t g. absurd (Nobody≢Owned g);
     nobody = λ g root k h c. let z : _≡_ {A = ℕ} 0 1 = cc in omega arith;
   }
+
+  pub owner-none : (x : List ℕ) → r ≡ NoStruct → OwnerBy s p m x n slot mark Nobody
+  owner-none x e = record { by = λ j. nobody-there e }
 
   module _ (root : D.Struct.Struct) (k : Cursor) (e : r ≡ AStruct root k) (x : Str) (b : Bool) (text : x ≡ textOf p (root .name)) (same : b ≡ eqs x n) where
     claimed : Claims s p m n mark root → OwnerIn s p m n slot mark (Owned (root .name))
@@ -108,8 +197,8 @@ module _ (s p : Str) (m : List ℕ) (n slot : Str) (mark : ℕ) (r : StructStep)
         other : (y : D.Struct.Struct) (j : Cursor) → r ≡ AStruct y j → y ≡ root
         other y j h = let g : AStruct y j ≡ AStruct root k = sym h ∙ e in cc
 
-    pub owner-own : b ≡ true → OwnerIn s p m n slot mark (Owned (root .name))
-    owner-own h = claimed (inl (sym text ∙ eqs→eq x n (sym same ∙ h)))
+    pub owner-own : (z : List ℕ) → b ≡ true → OwnerBy s p m z n slot mark (Owned (root .name))
+    owner-own z h = record { by = λ j. claimed (inl (sym text ∙ eqs→eq x n (sym same ∙ h))) }
 
     module _ (d : b ≡ false) where
       differ : textOf p (root .name) ≡ n → ⊥
@@ -123,19 +212,21 @@ module _ (s p : Str) (m : List ℕ) (n slot : Str) (mark : ℕ) (r : StructStep)
       unfolding targetAt
       free g = entered-is (typesAt s p) (referenceAt s p (g .place)) n (g .leads)
 
-      module _ (f : Bool) (slotted : f ≡ hasSlot (typesAt s p) n) where
-        pub owner-slotted : f ≡ true → OwnerIn s p m n slot mark Nobody
-        owner-slotted h = unclaimed (neither (λ g. false≢true (sym (free g .1) ∙ sym slotted ∙ h)))
+      module _ (z : List ℕ) (f : Bool) (slotted : HasSlot s p z n f) where
+        pub owner-slotted : f ≡ true → OwnerBy s p m z n slot mark Nobody
+        owner-slotted h = record { by = λ j. unclaimed (neither (λ g. false≢true (sym (free g .1) ∙ sym (slotted .is j) ∙ h))) }
 
         module _ (v : Bool) (told : MarkedName s p m n mark v) (h : f ≡ false) where
-          pub owner-named : v ≡ true → OwnerIn s p m n slot mark (Owned (root .name))
+          pub owner-named : v ≡ true → OwnerBy s p m z n slot mark (Owned (root .name))
           unfolding targetAt
           owner-named y =
               let g = told .yes y in
-              claimed (inr (record { place = g .place; inside = g .inside; is = g .is; leads = is-entered (typesAt s p) _ n (g .name) (sym slotted ∙ h) }))
+              record {
+                by = λ j. claimed (inr (record { place = g .place; inside = g .inside; is = g .is; leads = is-entered (typesAt s p) _ n (g .name) (sym (slotted .is j) ∙ h) }));
+              }
 
-          pub owner-not : v ≡ false → OwnerIn s p m n slot mark Nobody
-          owner-not y = unclaimed (neither (λ g. told .never y (record { place = g .place; inside = g .inside; is = g .is; name = free g .0 })))
+          pub owner-not : v ≡ false → OwnerBy s p m z n slot mark Nobody
+          owner-not y = record { by = λ j. unclaimed (neither (λ g. told .never y (record { place = g .place; inside = g .inside; is = g .is; name = free g .0 }))) }
 
 pub ruleset owner-in-laws = (owner-none, owner-own, owner-slotted, owner-named, owner-not)
 
@@ -296,7 +387,13 @@ module _ (s p n : Str) where
       owns = owner-is-first (typesAt s p) n (textOf p t) .1 (a .first t refl)
 
   -- the three slots, one after the other
-  module _ (m : List ℕ) (g : OwnerMarks s p m) (a : Owner) (one : OwnerIn s p m n (bytes "metadata") 1 a) where
+  module _ (m x : List ℕ) (known : Known s p m x) (a : Owner) (first : OwnerBy s p m x n (bytes "metadata") 1 a) where
+    g : OwnerMarks s p m
+    g = known .marks
+
+    one : OwnerIn s p m n (bytes "metadata") 1 a
+    one = first .by (known .index)
+
     none-first : Within s p m 0 n → ⊥
     none-first h = h .marked (let l = h .most in omega arith)
 
@@ -304,7 +401,10 @@ module _ (s p n : Str) where
     unfolding ownershipOrder
     answer-first t e = answered (Owned t) (root-taken m (bytes "metadata") 0 (g .metadata) a one _ t e)
 
-    module _ (e : a ≡ Nobody) (b : Owner) (two : OwnerIn s p m n (bytes "runtime") 2 b) where
+    module _ (e : a ≡ Nobody) (b : Owner) (second : OwnerBy s p m x n (bytes "runtime") 2 b) where
+      two : OwnerIn s p m n (bytes "runtime") 2 b
+      two = second .by (known .index)
+
       none-second : Within s p m 1 n → ⊥
       none-second = none-so-far m (bytes "metadata") 0 (g .metadata) a one none-first e
 
@@ -315,7 +415,10 @@ module _ (s p n : Str) where
       unfolding ownershipOrder
       answer-second t h = answered (Owned t) (past-first _ (Owned t) (root-taken m (bytes "runtime") 1 (g .runtime) b two _ t h))
 
-      module _ (h : b ≡ Nobody) (c : Owner) (three : OwnerIn s p m n (bytes "info") 3 c) where
+      module _ (h : b ≡ Nobody) (c : Owner) (third : OwnerBy s p m x n (bytes "info") 3 c) where
+        three : OwnerIn s p m n (bytes "info") 3 c
+        three = third .by (known .index)
+
         last : (r : Owner) → c ≡ r → AnswerIn s p n (bytes "info" ∷ []) r
         last Nobody y =
             root-left m (bytes "info") 2 (g .info) c three (none-so-far m (bytes "runtime") 1 (g .runtime) b two none-second h) y [] Nobody answer-end
@@ -327,9 +430,9 @@ module _ (s p n : Str) where
 
 -- the call ---------------------------------------------------------------------------------------------------------------
 
-module _ (room : ℕ) (s p n : Str) where
-  pub found-beyond : room < length s → OwnerFound room s p n Nobody
+module _ (s p n : Str) where
+  pub found-beyond : 32768 < length s → OwnerFound 32768 s p n Nobody
   found-beyond h = record { within = λ l. absurd (omega arith); beyond = λ l. refl }
 
-  pub found-within : (r : Owner) (before after : List ℕ) → room ≡ length before → length s ≤ room → OwnersMarked s p before after → (OwnerMarks s p after → Answered s p n r) → OwnerFound room s p n r
-  found-within r before after e h f a = record { within = λ l. a (f .within (rw (← e) h)); beyond = λ l. absurd (omega arith) }
+  pub found-within : (r : Owner) (before room after x : List ℕ) → 32768 ≤ length before → 4938 ≤ length room → length s ≤ 32768 → OwnersMarked s p before room after x → (Known s p after x → Answered s p n r) → OwnerFound 32768 s p n r
+  found-within r before room after x e i h f a = record { within = λ l. a (f .within (omega arith) h i); beyond = λ l. absurd (omega arith) }

@@ -16,7 +16,8 @@ use Rattle.record.specs.Lists.{aVariant, optOf, fieldOf, variantOf, list
 use Rattle.record.specs.Steps.{keysAt, fieldKeyAt, fieldsAt, structsAt, variantsAt, familiesAt, structIn, structFound, familyIn, familyFound}
 use Rattle.record.specs.Seek.{SoughtFrom}
 use Rattle.record.specs.Owner.{Types, referenced, hasSlot, variantFields, fieldsIn, typeFields}
-use Rattle.record.specs.References.{typesAt, Refers, structPlaced, familyPlaced, PlaceNamed}
+use Rattle.record.specs.Index.{Indexed, structPlaced, familyPlaced, PlaceNamed, Declared}
+use Rattle.record.specs.References.{typesAt, Refers, HasSlot}
 use Rattle.record.specs.Marks.{between, bodyAt, bodyLeft, PlacesFrom, referenceAt, entered, targetAt}
 use Rattle.record.specs.declared.text.Text.{Text}
 use Rattle.record.specs.declared.operands.OptText.{OptText}
@@ -66,19 +67,19 @@ module _ (s p : Str) where
       go false false true a c h = h
       go false false false a c h = refl
 
-module _ (s p n : Str) (r : Sought) (found : PlaceNamed s p n 8 r) where
+module _ (s p : Str) (x : List ℕ) (i : Indexed s p x) (n : Str) (r : Sought) (found : Declared s p x 8 n r) where
   pub body-struct : (a k : ℕ) (c : Cursor) → r ≡ At a k → c ≡ place k → typeFields (typesAt s p) n ≡ bodyAt false s p (c .at)
   unfolding typeFields fieldsIn bodyAt fieldsAt fields
-  body-struct a k c m h = rw (h, found .struct refl, m)
+  body-struct a k c m h = rw (h, found .named i .struct refl, m)
 
-  module _ (q : Sought) (found' : PlaceNamed s p n 9 q) (m : r ≡ Nowhere) where
+  module _ (q : Sought) (found' : Declared s p x 9 n q) (m : r ≡ Nowhere) where
     pub body-family : (a k : ℕ) (c : Cursor) → q ≡ At a k → c ≡ place k → typeFields (typesAt s p) n ≡ bodyAt true s p (c .at)
     unfolding typeFields fieldsIn bodyAt fieldsAt variantsAt one
-    body-family a k c g h = rw (h, found .struct refl, m, found' .family refl, g) (family-fields s p (commandsAt s k))
+    body-family a k c g h = rw (h, found .named i .struct refl, m, found' .named i .family refl, g) (family-fields s p (commandsAt s k))
 
     pub body-none : (c : Cursor) → c ≡ place (length s) → q ≡ Nowhere → typeFields (typesAt s p) n ≡ bodyAt false s p (c .at)
     unfolding typeFields fieldsIn bodyAt listed
-    body-none c h g = rw (h, found .struct refl, m, found' .family refl, g, commands-stop s (length s) (sym (step-end s (length s) (omega arith))))
+    body-none c h g = rw (h, found .named i .struct refl, m, found' .named i .family refl, g, commands-stop s (length s) (sym (step-end s (length s) (omega arith))))
 
 pub ruleset body-laws = (body-struct, body-family, body-none)
 
@@ -124,11 +125,11 @@ module _ (s p : Str) (q : ℕ) where
     unfolding targetAt entered
     target-none m = ap (λ (x : OptText). entered (typesAt s p) (optOf p x)) (sym m) ∙ ap (entered (typesAt s p)) found
 
-    module _ (t : Text) (w : Str) (b : Bool) (m : r ≡ Given t) (e : w ≡ textOf p t) (slot : b ≡ hasSlot (typesAt s p) w) where
+    module _ (x : List ℕ) (i : Indexed s p x) (t : Text) (w : Str) (b : Bool) (m : r ≡ Given t) (e : w ≡ textOf p t) (slot : HasSlot s p x w b) where
       step : cond b none (some (textOf p t)) ≡ targetAt s p q
       unfolding targetAt entered
       step =
-          ap (λ (x : Bool). cond x none (some (textOf p t))) (slot ∙ ap (hasSlot (typesAt s p)) e)
+          ap (λ (x : Bool). cond x none (some (textOf p t))) (slot .is i ∙ ap (hasSlot (typesAt s p)) e)
           ∙ ap (λ (x : OptText). entered (typesAt s p) (optOf p x)) (sym m) ∙ ap (entered (typesAt s p)) found
 
       pub target-slotted : b ≡ true → optOf p Absent ≡ targetAt s p q

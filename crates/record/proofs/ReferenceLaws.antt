@@ -12,13 +12,14 @@ use Rattle.record.specs.Base.{Str, eqs, isText, isSome}
 use Rattle.record.specs.Stretch.{textOf}
 use Rattle.record.specs.Schema.{Field, Key, Struct}
 use Rattle.record.specs.Kind.{kindOf}
-use Rattle.record.specs.Operands.{textAt, optTextAt}
-use Rattle.record.specs.Commands.{place, structAt, familyAt}
-use Rattle.record.specs.Lists.{optOf, fieldOf, structOf, familyOf}
+use Rattle.record.specs.Operands.{optTextAt}
+use Rattle.record.specs.Commands.{place, structAt}
+use Rattle.record.specs.Lists.{optOf, fieldOf, structOf}
 use Rattle.record.specs.Seek.{SoughtFrom}
-use Rattle.record.specs.Steps.{structsAt, fieldsAt, variantsAt, familiesAt, structIn, familyIn}
+use Rattle.record.specs.Index.{Indexed, Declared}
+use Rattle.record.specs.Steps.{structsAt, fieldsAt}
 use Rattle.record.specs.Owner.{referenced, referencedAs, structInSlot, slotted, hasSlot}
-use Rattle.record.specs.References.{typesAt, Refers, structPlaced, familyPlaced, PlaceNamed, slotIn, structCommandsAt, commandInSlot, InSlot}
+use Rattle.record.specs.References.{typesAt, Refers, HasSlot, structCommandsAt, commandInSlot, InSlot}
 use Rattle.record.specs.declared.operands.OptText.{OptText}
 use Rattle.record.specs.declared.operands.OptText.the-variants.{Absent, Given}
 use Rattle.record.specs.declared.text.Text.{Text}
@@ -34,7 +35,7 @@ use Rattle.record.specs.declared.lists.StructStep.the-variants.{NoStruct
 use Rattle.record.proofs.kind.Kind.{the-type as kinds}
 use Rattle.record.proofs.ListLaws.{find-none, find-hit, find-miss}
 use Rattle.record.proofs.SeekLaws.{listed-none, listed-some}
-use Rattle.record.proofs.StepLaws.{structs-none, structs-found, families-none, families-found}
+use Rattle.record.proofs.StepLaws.{structs-none, structs-found}
 
 -- referenced_type --------------------------------------------------------------------------------------------------------
 
@@ -127,81 +128,27 @@ pub referenced-key : (p : Str) (f : D.Field.Field) (k j : Option Key) → refere
 unfolding referenced
 referenced-key p f k j = key-free (kindOf (textOf p (f .kind))) _ _ refl refl
 
--- find_place --------------------------------------------------------------------------------------------------------------
+-- has_slot ---------------------------------------------------------------------------------------------------------------
 
--- neither a structure nor a family before a place has the name
-pub record Unnamed (s p n : Str) (b at : ℕ) : Type 0 where
-  pub struct : b ≡ 8 → structIn n (structsAt s p 0) ≡ structIn n (structsAt s p at)
-  pub family : b ≡ 9 → familyIn n (familiesAt s p 0) ≡ familyIn n (familiesAt s p at)
+module _ (s p : Str) (x : List ℕ) (n : Str) (r : Sought) (found : Declared s p x 8 n r) where
+  pub slot-none : r ≡ Nowhere → HasSlot s p x n false
+  unfolding hasSlot slotted
+  slot-none m = record { is = λ i. rw (found .named i .struct refl, m) }
 
-pub unnamed-start : (s p n : Str) (b : ℕ) → Unnamed s p n b 0
-unnamed-start s p n b = record { struct = λ h. refl; family = λ h. refl }
+  module _ (a k : ℕ) (y : Str) (o : OptText) (m : r ≡ At a k) (d : y ≡ drop a s) (e : o ≡ optTextAt y 4) where
+    has : (v : OptText) → o ≡ v → (i : Indexed s p x) → isSome (optOf p v) ≡ hasSlot (typesAt s p) n
+    unfolding hasSlot slotted
+    has v h i = ap (λ (z : OptText). isSome (optOf p z)) (sym h ∙ e ∙ ap (λ (z : Str). optTextAt z 4) d) ∙ sym (rw (found .named i .struct refl, m))
 
-module _ (s p n : Str) (b at : ℕ) (u : Unnamed s p n b at) (r : Sought) (i : SoughtFrom s Anything b at r) where
-  taken : (c : ℕ) → b ≡ c → SoughtFrom s Anything c at r
-  taken c h = subst (λ (x : ℕ). SoughtFrom s Anything x at r) h i
+    pub slot-absent : o ≡ Absent → HasSlot s p x n false
+    unfolding isSome
+    slot-absent h = record { is = λ i. has Absent h i }
 
-  pub named-none : r ≡ Nowhere → PlaceNamed s p n b Nowhere
-  unfolding structIn familyIn
-  named-none m = record {
-    struct = λ h. u .struct h ∙ find-none _ (structsAt s p at) (structs-none s at r (taken 8 h) m .list p);
-    family = λ h. u .family h ∙ find-none _ (familiesAt s p at) (families-none s at r (taken 9 h) m .list p);
-  }
+    pub slot-given : (t : Text) → o ≡ Given t → HasSlot s p x n true
+    unfolding isSome
+    slot-given t h = record { is = λ i. has (Given t) h i }
 
-  module _ (a k : ℕ) (m : r ≡ At a k) (y x : Str) (t : Text) (v : Bool) (d : y ≡ drop a s) (e : t ≡ textAt y 1) (f : x ≡ textOf p t) (g : v ≡ eqs x n) where
-    own : eqs (textOf p (textAt (drop a s) 1)) n ≡ v
-    own = sym (g ∙ ap (λ (z : Str). eqs z n) (f ∙ ap (textOf p) (e ∙ ap (λ (z : Str). textAt z 1) d)))
-
-    struct-here : b ≡ 8 → structsAt s p at ≡ structOf p (structAt (drop a s)) (fieldsAt s p k) ∷ structsAt s p k
-    struct-here h = structs-found s at r (taken 8 h) a k m (drop a s) (structAt (drop a s)) (place k) refl refl refl .list p
-
-    family-here : b ≡ 9 → familiesAt s p at ≡ familyOf p (familyAt (drop a s)) (fieldsAt s p k) (variantsAt s p k) ∷ familiesAt s p k
-    family-here h = families-found s at r (taken 9 h) a k m (drop a s) (familyAt (drop a s)) (place k) refl refl refl .list p
-
-    pub named-hit : v ≡ true → PlaceNamed s p n b (At a k)
-    unfolding structIn familyIn
-    named-hit z = record {
-      struct = λ h. u .struct h ∙ find-hit _ (structsAt s p at) _ _ (struct-here h) (own ∙ z);
-      family = λ h. u .family h ∙ find-hit _ (familiesAt s p at) _ _ (family-here h) (own ∙ z);
-    }
-
-    pub named-miss : v ≡ false → Unnamed s p n b k
-    unfolding structIn familyIn
-    named-miss z = record {
-      struct = λ h. u .struct h ∙ find-miss _ (structsAt s p at) _ _ (struct-here h) (own ∙ z);
-      family = λ h. u .family h ∙ find-miss _ (familiesAt s p at) _ _ (family-here h) (own ∙ z);
-    }
-
-pub ruleset named-laws = (named-none, named-hit, named-miss)
-
--- slot_of, has_slot ------------------------------------------------------------------------------------------------------
-
-module _ (s p n : Str) (r : Sought) (found : PlaceNamed s p n 8 r) where
-  pub slot-none : r ≡ Nowhere → optOf p Absent ≡ slotIn (structIn n (structsAt s p 0))
-  unfolding slotIn
-  slot-none m = rw (found .struct refl, m)
-
-  pub slot-there : (a k : ℕ) (y : Str) (o : OptText) → r ≡ At a k → y ≡ drop a s → o ≡ optTextAt y 4 → optOf p o ≡ slotIn (structIn n (structsAt s p 0))
-  unfolding slotIn
-  slot-there a k y o m d e = rw (found .struct refl, m, e, d)
-
-pub ruleset slot-laws = (slot-none, slot-there)
-
-slot-is : (o : Option Struct) → isSome (slotIn o) ≡ slotted o
-unfolding slotIn slotted isSome
-slot-is none = refl
-slot-is (some t) = refl
-
-module _ (s p n : Str) (r : OptText) (found : optOf p r ≡ slotIn (structIn n (structsAt s p 0))) where
-  pub slot-absent : r ≡ Absent → false ≡ hasSlot (typesAt s p) n
-  unfolding hasSlot isSome
-  slot-absent m = ap (λ (x : OptText). isSome (optOf p x)) (sym m) ∙ ap isSome found ∙ slot-is (structIn n (structsAt s p 0))
-
-  pub slot-given : (t : Text) → r ≡ Given t → true ≡ hasSlot (typesAt s p) n
-  unfolding hasSlot isSome
-  slot-given t m = ap (λ (x : OptText). isSome (optOf p x)) (sym m) ∙ ap isSome found ∙ slot-is (structIn n (structsAt s p 0))
-
-pub ruleset has-slot-laws = (slot-absent, slot-given)
+pub ruleset has-slot-laws = (slot-none, slot-absent, slot-given)
 
 -- is_text ----------------------------------------------------------------------------------------------------------------
 

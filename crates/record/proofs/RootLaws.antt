@@ -13,6 +13,7 @@ use Rattle.record.specs.Schema.{Struct}
 use Rattle.record.specs.Lists.{structOf}
 use Rattle.record.specs.Steps.{structsAt, fieldsAt, structFound}
 use Rattle.record.specs.Owner.{structInSlot, Leads, here, along}
+use Rattle.record.specs.Index.{Indexed}
 use Rattle.record.specs.References.{typesAt, InSlot}
 use Rattle.record.specs.Marks.{targetAt, Clear, Full, Fresh, Walked, TypeWalked}
 use Rattle.record.specs.Ownership.{Through, Claimed, Within, Resolved, OwnerMarks, OwnersMarked}
@@ -103,21 +104,27 @@ module _ (s p : Str) where
       complete n f (inl h) = record { place = f .place; leads = f .leads; marked = marked-stays s p w (f .place) (f .marked); most = let g = f .most in omega arith }
       complete n f (inr g) = absurd (f .marked (g .was))
 
-  pub marks-short : (before : List ℕ) → length before < length s → OwnersMarked s p before before
-  marks-short before h = record { within = λ l. absurd (omega arith); beyond = λ l. refl }
+  pub marks-short : (before room : List ℕ) → length before < length s → OwnersMarked s p before room before room
+  marks-short before room h = record { within = λ l. absurd (omega arith); beyond = λ l. (refl, refl) }
 
-  pub marks-filled : (before a b c d : List ℕ) → length s ≤ length before → Clear a → Claimed s p 1 (bytes "metadata") a b → Claimed s p 2 (bytes "runtime") b c → Claimed s p 3 (bytes "info") c d → OwnersMarked s p before d
-  marks-filled before a b c d h clear one two three = record { within = λ l. marks; beyond = λ l. absurd (omega arith) }
+  pub index-short : (before room : List ℕ) → length s ≤ length before → length room < 4938 → OwnersMarked s p before room before room
+  index-short before room i h = record { within = λ l k j. absurd (omega arith); beyond = λ l. absurd (omega arith) }
+
+  pub stream-long : (before room : List ℕ) → length s ≤ length before → 32768 < length s → OwnersMarked s p before room before room
+  stream-long before room i h = record { within = λ l k j. absurd (omega arith); beyond = λ l. absurd (omega arith) }
+
+  pub marks-filled : (before room after x : List ℕ) → length s ≤ length before → Indexed s p x → OwnerMarks s p after → OwnersMarked s p before room after x
+  marks-filled before room after x h index marks = record { within = λ l i j. record { marks = marks; index = index }; beyond = λ l. absurd (omega arith) }
+
+  pub roots-marked : (a b c d : List ℕ) → Clear a → Claimed s p 1 (bytes "metadata") a b → Claimed s p 2 (bytes "runtime") b c → Claimed s p 3 (bytes "info") c d → OwnerMarks s p d
+  roots-marked a b c d clear one two three = record {
+    metadata = resolved-stays (omega arith) (three .walked) (resolved-stays (omega arith) (two .walked) (resolved-next (settled-none clear) one));
+    runtime = resolved-stays (omega arith) (three .walked) (resolved-next first two);
+    info = resolved-next second three;
+  }
     where
       first : Settled s p b 1
       first = settled-next (settled-none clear) one
 
       second : Settled s p c 2
       second = settled-next first two
-
-      marks : OwnerMarks s p d
-      marks = record {
-        metadata = resolved-stays (omega arith) (three .walked) (resolved-stays (omega arith) (two .walked) (resolved-next (settled-none clear) one));
-        runtime = resolved-stays (omega arith) (three .walked) (resolved-next first two);
-        info = resolved-next second three;
-      }

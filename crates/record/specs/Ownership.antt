@@ -4,12 +4,13 @@ use mathlib.Core.List.{List, [], _∷_}
 use mathlib.Core.Option.{Option, none, some}
 use mathlib.Core.Bool.{Bool, true, false}
 use mathlib.Core.Logic.{_⊎_}
-use Prim.Native.Nat.{ℕ, _≤_, _<_}
+use Prim.Native.Nat.{ℕ, _+_, _≤_, _<_}
 use lib.ListN.{length, getD}
 use Rattle.record.specs.Base.{Str, bytes, eqs, find}
 use Rattle.record.specs.Stretch.{textOf}
 use Rattle.record.specs.Schema.{Struct}
 use Rattle.record.specs.Steps.{structsAt}
+use Rattle.record.specs.Index.{Indexed}
 use Rattle.record.specs.Owner.{structInSlot, ownershipOrder, ownerOf, Edge, Leads}
 use Rattle.record.specs.References.{typesAt, structCommandsAt, commandInSlot, InSlot}
 use Rattle.record.specs.Marks.{targetAt, referenceAt, Full, Walked}
@@ -53,12 +54,22 @@ pub record OwnerMarks (s p : Str) (m : List ℕ) : Type 0 where
   pub runtime : Resolved s p m 2 (bytes "runtime")
   pub info : Resolved s p m 3 (bytes "info")
 
--- marks that were filled: the record's where there is one for each byte of the stream, else as they were
-pub record OwnersMarked (s p : Str) (before after : List ℕ) : Type 0 where
-  pub within : length s ≤ length before → OwnerMarks s p after
-  pub beyond : length before < length s → after ≡ before
+-- what was lent to the walks: the marks and the index of the record
+pub record Known (s p : Str) (m x : List ℕ) : Type 0 where
+  pub marks : OwnerMarks s p m
+  pub index : Indexed s p x
+
+-- marks and an index that were filled: the record's where there is room, else as they were
+pub record OwnersMarked (s p : Str) (before room after x : List ℕ) : Type 0 where
+  pub within : length s ≤ length before → length s ≤ 32768 → 4938 ≤ length room → Known s p after x
+  pub beyond : length before < length s → (after ≡ before) × (x ≡ room)
 
 -- answers ----------------------------------------------------------------------------------------------------------------
+
+-- eight marks from a place on are there, and none is set
+pub record EightClear (m : List ℕ) (i : ℕ) (r : Bool) : Type 0 where
+  pub room : r ≡ true → i + 8 ≤ length m
+  pub clear : r ≡ true → (q : ℕ) → i ≤ q → q < i + 8 → getD m q 0 ≡ 0
 
 -- a field with this mark refers to the name
 pub record Referred (s p : Str) (m : List ℕ) (mark : ℕ) (n : Str) : Type 0 where
@@ -96,6 +107,10 @@ pub record OwnerIn (s p : Str) (m : List ℕ) (n slot : Str) (mark : ℕ) (r : O
   pub fills : InSlot s p slot filled
   pub owned : (t : Text) → r ≡ Owned t → Takes s p m n mark filled t
   pub nobody : r ≡ Nobody → (root : D.Struct.Struct) (after : Cursor) → filled ≡ AStruct root after → Claims s p m n mark root → ⊥
+
+-- the same where the index is the record's
+pub record OwnerBy (s p : Str) (m x : List ℕ) (n slot : Str) (mark : ℕ) (r : Owner) : Type 0 where
+  pub by : Indexed s p x → OwnerIn s p m n slot mark r
 
 -- the names of the structures that fill these slots, as the stretches that their commands give
 unfoldable pub withStretch : Option D.Struct.Struct → List Text → List Text

@@ -3,18 +3,18 @@
 use mathlib.Core.Path.{_≡_}
 use mathlib.Core.List.{List}
 use mathlib.Core.Option.{Option, none, some}
+use mathlib.Core.Bool.{Bool}
 use Prim.Native.Nat.{ℕ}
 use lib.ListN.{drop}
 use Rattle.record.specs.Base.{Str, isText, find}
-use Rattle.record.specs.Schema.{Key, Struct, Family}
-use Rattle.record.specs.Commands.{structAt, familyAt, commandsAt}
-use Rattle.record.specs.Lists.{optOf, fieldOf, structOf, familyOf, listed, anything}
-use Rattle.record.specs.Steps.{fieldsAt, structsAt, variantsAt, familiesAt, structIn, familyIn, structFound}
-use Rattle.record.specs.Owner.{Types, referenced, structInSlot}
+use Rattle.record.specs.Schema.{Key, Struct}
+use Rattle.record.specs.Commands.{structAt, commandsAt}
+use Rattle.record.specs.Lists.{optOf, fieldOf, listed, anything}
+use Rattle.record.specs.Steps.{structsAt, familiesAt, structFound}
+use Rattle.record.specs.Index.{Indexed}
+use Rattle.record.specs.Owner.{Types, referenced, hasSlot, structInSlot}
 use Rattle.record.specs.declared.operands.OptText.{OptText}
 use Rattle.record.specs.declared.command as D
-use Rattle.record.specs.declared.seek.Sought.{Sought}
-use Rattle.record.specs.declared.seek.Sought.the-variants.{Nowhere, At}
 use Rattle.record.specs.declared.lists.StructStep.{StructStep}
 use Rattle.record.specs.declared.lists.StructStep.the-variants.{NoStruct, AStruct}
 
@@ -26,24 +26,9 @@ typesAt s p = record { structs = structsAt s p 0; families = familiesAt s p 0 }
 pub record Refers (p : Str) (f : D.Field.Field) (r : OptText) : Type 0 where
   pub name : (k : Option Key) → optOf p r ≡ referenced (fieldOf p f k)
 
--- the structure and the family at a place, with the place after the command
-abbrev pub structPlaced : Str → Str → Sought → Option Struct
-structPlaced s p Nowhere = none
-structPlaced s p (At a k) = some (structOf p (structAt (drop a s)) (fieldsAt s p k))
-
-abbrev pub familyPlaced : Str → Str → Sought → Option Family
-familyPlaced s p Nowhere = none
-familyPlaced s p (At a k) = some (familyOf p (familyAt (drop a s)) (fieldsAt s p k) (variantsAt s p k))
-
--- the answer is the place of the first structure of a name, asked for by 8, or of the first family, asked for by 9
-pub record PlaceNamed (s p n : Str) (b : ℕ) (r : Sought) : Type 0 where
-  pub struct : b ≡ 8 → structIn n (structsAt s p 0) ≡ structPlaced s p r
-  pub family : b ≡ 9 → familyIn n (familiesAt s p 0) ≡ familyPlaced s p r
-
--- the slot text of a structure that is there
-unfoldable pub slotIn : Option Struct → Option Str
-slotIn none = none
-slotIn (some t) = t .slot
+-- the answer, where the index is the record's: whether the first structure of a name has slot text
+pub record HasSlot (s p : Str) (x : List ℕ) (n : Str) (r : Bool) : Type 0 where
+  pub is : Indexed s p x → r ≡ hasSlot (typesAt s p) n
 
 -- the commands of the structures from a place on
 unfoldable pub structCommandsAt : Str → ℕ → List D.Struct.Struct

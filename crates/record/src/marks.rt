@@ -3,9 +3,10 @@
 use crate::command::Cursor;
 use crate::command::field_at;
 use crate::cut;
+use crate::index::fill_index;
+use crate::index::find_declared;
 use crate::lists::StructStep;
 use crate::operands::OptText;
-use crate::references::find_place;
 use crate::references::has_slot;
 use crate::references::referenced_type;
 use crate::references::struct_in_slot;
@@ -14,13 +15,14 @@ use crate::seek::Sought;
 use crate::seek::seek;
 use crate::text::bytes_of;
 ghost use mathlib.Core.Path.{_≡_};
-ghost use Prim.Native.Nat.{_<_};
+ghost use Prim.Native.Nat.{_≤_, _<_};
 ghost use lib.ListN.{length};
 ghost use Rattle.record.specs.Lists.{optOf};
 ghost use Rattle.record.specs.Owner.{typeFields};
+ghost use Rattle.record.specs.Index.{Indexed};
 ghost use Rattle.record.specs.References.{typesAt};
 ghost use Rattle.record.specs.Marks.{between, bodyAt, PlacesFrom, referenceAt, targetAt, Clear, Ready, TypeWalked, FieldWalked};
-ghost use Rattle.record.specs.Ownership.{Claimed, OwnersMarked};
+ghost use Rattle.record.specs.Ownership.{Claimed, OwnerMarks, OwnersMarked};
 
 // Where the fields of a type begin, and whether variants stand between them.
 struct Body {
@@ -30,16 +32,17 @@ struct Body {
 
 // The fields of the first structure of a name, else of the first family. A name that nobody declares has none: its fields begin where the
 // stream ends.
-fn type_fields(stream: &[u8], pool: &[u8], name: &[u8]) -> Body
+fn type_fields(stream: &[u8], pool: &[u8], index: &[u16], name: &[u8]) -> Body
+    requires { ⌜ Indexed (now stream) (now pool) (now index) ⌝ }
     ensures { λ r. ⌜ typeFields (typesAt (now (stream .entry)) (now (pool .entry))) (now (name .entry)) ≡ bodyAt (r .family) (now (stream .entry)) (now (pool .entry)) (r .from .at) ⌝ }
 {
-    if let Sought::At(_, after) = find_place(stream, pool, 8, name) {
+    if let Sought::At(_, after) = find_declared(stream, pool, index, 8, name) {
         return Body {
             from: Cursor::place(after),
             family: false,
         };
     }
-    if let Sought::At(_, after) = find_place(stream, pool, 9, name) {
+    if let Sought::At(_, after) = find_declared(stream, pool, index, 9, name) {
         return Body {
             from: Cursor::place(after),
             family: true,
@@ -86,46 +89,47 @@ pub fn reference_at(stream: &[u8], pool: &[u8], place: usize) -> OptText
 }
 
 // The name that the field at a place leads to: no structure with slot text.
-fn target_at(stream: &[u8], pool: &[u8], place: usize) -> OptText
+fn target_at(stream: &[u8], pool: &[u8], index: &[u16], place: usize) -> OptText
+    requires { ⌜ Indexed (now stream) (now pool) (now index) ⌝ }
     ensures { λ r. ⌜ optOf (now (pool .entry)) r ≡ targetAt (now (stream .entry)) (now (pool .entry)) place ⌝ }
 {
     let OptText::Given(name) = reference_at(stream, pool, place) else {
         return OptText::Absent;
     };
-    if has_slot(stream, pool, bytes_of(pool, name)) {
+    if has_slot(stream, pool, index, bytes_of(pool, name)) {
         return OptText::Absent;
     }
     OptText::Given(name)
 }
 
 // Visits a field that has no mark: marks it, and visits the type that it names.
-fn walk_field(stream: &[u8], pool: &[u8], marks: &mut [u8], place: usize, mark: u8)
-    requires { ⌜ Ready (now stream) (now marks) mark × (place < length (now stream)) ⌝ }
+fn walk_field(stream: &[u8], pool: &[u8], index: &[u16], marks: &mut [u8], place: usize, mark: u8)
+    requires { ⌜ Ready (now stream) (now marks) mark × (place < length (now stream)) × Indexed (now stream) (now pool) (now index) ⌝ }
     ensures { λ _. ⌜ FieldWalked (now (stream .entry)) (now (pool .entry)) mark place (now (marks .entry)) (now (marks .exit)) ⌝ }
 {
     if marks[place] != 0 {
         return;
     }
     marks[place] = mark;
-    let OptText::Given(name) = target_at(stream, pool, place) else {
+    let OptText::Given(name) = target_at(stream, pool, index, place) else {
         return;
     };
-    walk_type(stream, pool, marks, bytes_of(pool, name), mark);
+    walk_type(stream, pool, index, marks, bytes_of(pool, name), mark);
 }
 
 // Visits the fields of a type.
-fn walk_type(stream: &[u8], pool: &[u8], marks: &mut [u8], name: &[u8], mark: u8)
-    requires { ⌜ Ready (now stream) (now marks) mark ⌝ }
+fn walk_type(stream: &[u8], pool: &[u8], index: &[u16], marks: &mut [u8], name: &[u8], mark: u8)
+    requires { ⌜ Ready (now stream) (now marks) mark × Indexed (now stream) (now pool) (now index) ⌝ }
     ensures { λ _. ⌜ TypeWalked (now (stream .entry)) (now (pool .entry)) mark (now (name .entry)) (now (marks .entry)) (now (marks .exit)) ⌝ }
 {
-    let body = type_fields(stream, pool, name);
+    let body = type_fields(stream, pool, index, name);
     let family = body.family;
     let mut cursor = body.from;
     loop {
         let PlaceStep::APlace(place, after) = next_place(stream, cursor, family) else {
             return;
         };
-        walk_field(stream, pool, marks, place, mark);
+        walk_field(stream, pool, index, marks, place, mark);
         cursor = after;
     }
 }
@@ -142,26 +146,41 @@ fn clear(marks: &mut [u8])
 }
 
 // Marks what the structure in a slot leads to and no earlier root has taken.
-fn mark_root(stream: &[u8], pool: &[u8], marks: &mut [u8], slot: &[u8], mark: u8)
-    requires { ⌜ Ready (now stream) (now marks) mark ⌝ }
+fn mark_root(stream: &[u8], pool: &[u8], index: &[u16], marks: &mut [u8], slot: &[u8], mark: u8)
+    requires { ⌜ Ready (now stream) (now marks) mark × Indexed (now stream) (now pool) (now index) ⌝ }
     ensures { λ _. ⌜ Claimed (now (stream .entry)) (now (pool .entry)) mark (now (slot .entry)) (now (marks .entry)) (now (marks .exit)) ⌝ }
 {
     let StructStep::AStruct(root, _) = struct_in_slot(stream, pool, slot) else {
         return;
     };
     let name = root.name;
-    walk_type(stream, pool, marks, bytes_of(pool, name), mark);
+    walk_type(stream, pool, index, marks, bytes_of(pool, name), mark);
 }
 
 // Marks each field that a root leads to by the number of the first such root.
-pub fn mark_owners(stream: &[u8], pool: &[u8], marks: &mut [u8])
-    ensures { λ _. ⌜ OwnersMarked (now (stream .entry)) (now (pool .entry)) (now (marks .entry)) (now (marks .exit)) ⌝ }
+fn mark_roots(stream: &[u8], pool: &[u8], index: &[u16], marks: &mut [u8])
+    requires { ⌜ (length (now stream) ≤ length (now marks)) × Indexed (now stream) (now pool) (now index) ⌝ }
+    ensures { λ _. ⌜ OwnerMarks (now (stream .entry)) (now (pool .entry)) (now (marks .exit)) ⌝ }
+{
+    clear(marks);
+    mark_root(stream, pool, index, marks, b"metadata", 1);
+    mark_root(stream, pool, index, marks, b"runtime", 2);
+    mark_root(stream, pool, index, marks, b"info", 3);
+}
+
+// Fills the index of a record, and marks its fields by the roots that lead to them.
+pub fn mark_owners(stream: &[u8], pool: &[u8], marks: &mut [u8], index: &mut [u16])
+    ensures { λ _. ⌜ OwnersMarked (now (stream .entry)) (now (pool .entry)) (now (marks .entry)) (now (index .entry)) (now (marks .exit)) (now (index .exit)) ⌝ }
 {
     if marks.len() < stream.len() {
         return;
     }
-    clear(marks);
-    mark_root(stream, pool, marks, b"metadata", 1);
-    mark_root(stream, pool, marks, b"runtime", 2);
-    mark_root(stream, pool, marks, b"info", 3);
+    if index.len() < 4938 {
+        return;
+    }
+    if 32768 < stream.len() {
+        return;
+    }
+    fill_index(stream, pool, index);
+    mark_roots(stream, pool, index, marks);
 }

@@ -3,12 +3,12 @@ use crate::command::Cursor;
 use crate::command::Field;
 use crate::command::struct_at;
 use crate::cut;
+use crate::index::find_declared;
 use crate::kind::Kind;
 use crate::kind::kind_of;
 use crate::lists::StructStep;
 use crate::operands::OptText;
 use crate::operands::opt_text_at;
-use crate::operands::text_at;
 use crate::seek::Between;
 use crate::seek::Sought;
 use crate::seek::seek;
@@ -17,9 +17,7 @@ use crate::text::same;
 ghost use mathlib.Core.Path.{_≡_};
 ghost use Rattle.record.specs.Base.{isText};
 ghost use Rattle.record.specs.Lists.{optOf};
-ghost use Rattle.record.specs.Steps.{structsAt, structIn};
-ghost use Rattle.record.specs.Owner.{hasSlot};
-ghost use Rattle.record.specs.References.{typesAt, Refers, slotIn, PlaceNamed, InSlot};
+ghost use Rattle.record.specs.References.{Refers, HasSlot, InSlot};
 
 // The name that a field refers to, by its kind.
 pub fn referenced_type(pool: &[u8], f: Field) -> OptText
@@ -34,39 +32,14 @@ pub fn referenced_type(pool: &[u8], f: Field) -> OptText
     }
 }
 
-// The place of the first structure (8) or family (9) of a name, and the place after its command. Nothing else of it is read, which keeps the frames
-// of the walks over types small.
-pub(crate) fn find_place(stream: &[u8], pool: &[u8], number: u8, name: &[u8]) -> Sought
-    ensures { λ r. ⌜ PlaceNamed (now (stream .entry)) (now (pool .entry)) (now (name .entry)) number r ⌝ }
-{
-    let mut at = 0;
-    loop {
-        let Sought::At(place, after) = seek(stream, at, number, Between::Anything) else {
-            return Sought::Nowhere;
-        };
-        let own = text_at(cut::from(stream, place), 1);
-        if same(bytes_of(pool, own), name) {
-            return Sought::At(place, after);
-        }
-        at = after;
-    }
-}
-
-// The slot text of the first structure of a name.
-pub fn slot_of(stream: &[u8], pool: &[u8], name: &[u8]) -> OptText
-    ensures { λ r. ⌜ optOf (now (pool .entry)) r ≡ slotIn (structIn (now (name .entry)) (structsAt (now (stream .entry)) (now (pool .entry)) 0)) ⌝ }
-{
-    let Sought::At(place, _) = find_place(stream, pool, 8, name) else {
-        return OptText::Absent;
-    };
-    opt_text_at(cut::from(stream, place), 4)
-}
-
 // Whether the first structure of a name has slot text, whatever it says.
-pub fn has_slot(stream: &[u8], pool: &[u8], name: &[u8]) -> bool
-    ensures { λ r. ⌜ r ≡ hasSlot (typesAt (now (stream .entry)) (now (pool .entry))) (now (name .entry)) ⌝ }
+pub fn has_slot(stream: &[u8], pool: &[u8], index: &[u16], name: &[u8]) -> bool
+    ensures { λ r. ⌜ HasSlot (now (stream .entry)) (now (pool .entry)) (now (index .entry)) (now (name .entry)) r ⌝ }
 {
-    let slot = slot_of(stream, pool, name);
+    let Sought::At(place, _) = find_declared(stream, pool, index, 8, name) else {
+        return false;
+    };
+    let slot = opt_text_at(cut::from(stream, place), 4);
     let OptText::Given(_) = slot else {
         return false;
     };

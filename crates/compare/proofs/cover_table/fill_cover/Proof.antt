@@ -8,11 +8,11 @@ use Rattle.compare.proofs.cover_table.fill_cover.Statement.{statement}
 use Rattle.compare.proofs.cover_table.fill_cover.Tie as tie
 
 abbrev Inv-loop : tie.InvT-loop
-Inv-loop rows stream pool types sizes past old shipped widths marks cover₀ last₀ i₀ cover last i =
+Inv-loop rows stream pool types sizes past old shipped widths marks index cover₀ last₀ i₀ cover last i =
     Covering (rec stream pool (scalarsOf rows)) (rec past old (scalarsOf rows)) types cover₀ cover i last
 
 abbrev μ-loop : tie.MeasureT-loop
-μ-loop rows stream pool types sizes past old shipped widths marks cover₀ last₀ i₀ cover last i =
+μ-loop rows stream pool types sizes past old shipped widths marks index cover₀ last₀ i₀ cover last i =
     length types - i
 
 loop-holds : tie.Need-loop-holds Inv-loop μ-loop

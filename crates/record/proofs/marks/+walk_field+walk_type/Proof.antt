@@ -19,26 +19,26 @@ use Rattle.record.proofs.text.bytes_of.Reads as bytes-of-reads
 use Rattle.record.proofs.marks.+walk_field+walk_type.{statement}
 use Rattle.record.proofs.marks.+walk_field+walk_type.Tie.{close}
 
-abbrev μ-walk-field : Measures 3 walk-field-kinds.ps ℕ
-μ-walk-field κs a = 2 * unseen (a .1 .1 .0 .now)
+abbrev μ-walk-field : Measures 4 walk-field-kinds.ps ℕ
+μ-walk-field κs a = 2 * unseen (a .1 .1 .1 .0 .now)
 
-abbrev μ-walk-type : Measures 4 walk-type-kinds.ps ℕ
-μ-walk-type κs a = 2 * unseen (a .1 .1 .0 .now) + 1
+abbrev μ-walk-type : Measures 5 walk-type-kinds.ps ℕ
+μ-walk-type κs a = 2 * unseen (a .1 .1 .1 .0 .now) + 1
 
-abbrev walk-field-at : ℕ → In 3 walk-field-kinds.ps
+abbrev walk-field-at : ℕ → In 4 walk-field-kinds.ps
 walk-field-at t =
-    and 3 walk-field-kinds.ps (is 3 walk-field-kinds.ps μ-walk-field t) walk-field.Pre
+    and 4 walk-field-kinds.ps (is 4 walk-field-kinds.ps μ-walk-field t) walk-field.Pre
 
-abbrev walk-field-below : ℕ → In 3 walk-field-kinds.ps
+abbrev walk-field-below : ℕ → In 4 walk-field-kinds.ps
 walk-field-below t =
-    and 3 walk-field-kinds.ps (falls 3 walk-field-kinds.ps _<_ μ-walk-field t) walk-field.Pre
+    and 4 walk-field-kinds.ps (falls 4 walk-field-kinds.ps _<_ μ-walk-field t) walk-field.Pre
 
-abbrev walk-type-at : ℕ → In 4 walk-type-kinds.ps
-walk-type-at t = and 4 walk-type-kinds.ps (is 4 walk-type-kinds.ps μ-walk-type t) walk-type.Pre
+abbrev walk-type-at : ℕ → In 5 walk-type-kinds.ps
+walk-type-at t = and 5 walk-type-kinds.ps (is 5 walk-type-kinds.ps μ-walk-type t) walk-type.Pre
 
-abbrev walk-type-below : ℕ → In 4 walk-type-kinds.ps
+abbrev walk-type-below : ℕ → In 5 walk-type-kinds.ps
 walk-type-below t =
-    and 4 walk-type-kinds.ps (falls 4 walk-type-kinds.ps _<_ μ-walk-type t) walk-type.Pre
+    and 5 walk-type-kinds.ps (falls 5 walk-type-kinds.ps _<_ μ-walk-type t) walk-type.Pre
 
 -- src/marks.rt:122:8
 walk-field-slice-read-if1 : (t : ℕ) → walk-field-lts.Need-slice-read-if1 (
@@ -148,7 +148,7 @@ walk-field-walk-type-requires : (t : ℕ) → walk-field-lts.Need-walk-type-requ
   walk-type-below t,
   walk-type.Post,
 ) (walk-field-at t) walk-field.Post
-walk-field-walk-type-requires t c κs = (search field-less, search field-ready)
+walk-field-walk-type-requires t c κs = (search field-less, (search field-ready, search needs))
 
 -- src/marks.rt:118:1
 walk-field-same-length-2 : (t : ℕ) → walk-field-lts.Need-same-length-2 (
@@ -173,10 +173,10 @@ walk-field-returns-3 : (t : ℕ) → walk-field-lts.Need-returns-3 (
 walk-field-returns-3 t c = search field-laws
 
 abbrev walk-type-Inv-loop : walk-type-lts.InvT-loop
-walk-type-Inv-loop stream pool marks₀ name mark family cursor₀ marks cursor = Going stream pool mark name marks₀ marks (bodyAt family stream pool (cursor .at))
+walk-type-Inv-loop stream pool index marks₀ name mark family cursor₀ marks cursor = Going stream pool mark name marks₀ marks (bodyAt family stream pool (cursor .at))
 
 abbrev walk-type-μ-loop : walk-type-lts.MeasureT-loop
-walk-type-μ-loop stream pool marks₀ name mark family cursor₀ marks cursor = length stream - cursor .at
+walk-type-μ-loop stream pool index marks₀ name mark family cursor₀ marks cursor = length stream - cursor .at
 
 -- src/marks.rt:137:9
 walk-type-type-fields-requires : (t : ℕ) → walk-type-lts.Need-type-fields-requires (
@@ -264,7 +264,7 @@ walk-type-walk-field-requires : (t : ℕ) → walk-type-lts.Need-walk-field-requ
   walk-field-below t,
   walk-field.Post,
 ) (walk-type-at t) walk-type.Post walk-type-Inv-loop walk-type-μ-loop
-walk-type-walk-field-requires t c κs = (search going-less, (search going-ready, search place-inside))
+walk-type-walk-field-requires t c κs = (search going-less, (search going-ready, search place-inside, search needs))
 
 -- src/marks.rt:140:5
 walk-type-loop-less : (t : ℕ) → walk-type-lts.Need-loop-less (

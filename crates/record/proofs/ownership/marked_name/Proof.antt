@@ -1,13 +1,13 @@
 use Prim.Native.Nat.{_-_}
 use lib.ListN.{length}
-use Rattle.record.proofs.OwnerLaws.{NoneTo, none-yet, none-marked, none-ends, none-other, one-found}
+use Rattle.record.proofs.OwnerLaws.{NoneTo, none-yet, none-eight, none-marked, none-ends, none-other, one-found}
 use borrow.Author.Needs.{needs}
 use Rattle.record.proofs.ownership.marked_name.Statement.{statement}
 use Rattle.record.proofs.ownership.marked_name.Tie as tie
 use Rattle.record.proofs.ownership.marked_name.Reads as reads
 use Rattle.record.proofs.ownership.marked_name.Lts as lts
-use Rattle.record.proofs.marks.reference_at.Reads as reference-at-reads
-use Rattle.record.proofs.references.is_text.Reads as is-text-reads
+use Rattle.record.proofs.ownership.eight_clear.Reads as eight-clear-reads
+use Rattle.record.proofs.ownership.refers_to.Reads as refers-to-reads
 
 abbrev Inv-loop : tie.InvT-loop
 Inv-loop stream pool marks name mark place₀ place = NoneTo stream pool marks name mark place
@@ -15,51 +15,63 @@ Inv-loop stream pool marks name mark place₀ place = NoneTo stream pool marks n
 abbrev μ-loop : tie.MeasureT-loop
 μ-loop stream pool marks name mark place₀ place = length marks - place
 
--- src/ownership.rt:25:5
+-- src/ownership.rt:60:5
 loop-holds : tie.Need-loop-holds Inv-loop μ-loop
 loop-holds c = search none-yet
 
--- src/ownership.rt:26:12
-shared-slice-read-if1 : tie.Need-shared-slice-read-if1 Inv-loop μ-loop
-shared-slice-read-if1 c = search needs
+-- src/ownership.rt:61:12
+eight-clear-requires : tie.Need-eight-clear-requires Inv-loop μ-loop
+eight-clear-requires c κs = search needs
 
--- src/ownership.rt:27:13
+-- src/ownership.rt:62:13
 add-place : tie.Need-add-place Inv-loop μ-loop
 add-place c = search needs
 
--- src/ownership.rt:25:5
+-- src/ownership.rt:60:5
 loop-less : tie.Need-loop-less Inv-loop μ-loop
 loop-less c = search needs
 
--- src/ownership.rt:25:5
+-- src/ownership.rt:60:5
 loop-again : tie.Need-loop-again Inv-loop μ-loop
-loop-again c = search none-marked
+loop-again c = search none-eight
 
--- src/ownership.rt:30:26
-reference-at-requires : tie.Need-reference-at-requires Inv-loop μ-loop
-reference-at-requires c κs = search needs
+-- src/ownership.rt:65:12
+shared-slice-read-if2 : tie.Need-shared-slice-read-if2 Inv-loop μ-loop
+shared-slice-read-if2 c = search needs
 
--- src/ownership.rt:30:12
-is-text-requires : tie.Need-is-text-requires Inv-loop μ-loop
-is-text-requires c κs = search needs
-
--- src/ownership.rt:31:13
-returns : tie.Need-returns Inv-loop μ-loop
-returns c = search one-found
-
--- src/ownership.rt:33:9
+-- src/ownership.rt:66:13
 add-place-2 : tie.Need-add-place-2 Inv-loop μ-loop
 add-place-2 c = search needs
 
--- src/ownership.rt:25:5
+-- src/ownership.rt:60:5
 loop-less-2 : tie.Need-loop-less-2 Inv-loop μ-loop
 loop-less-2 c = search needs
 
--- src/ownership.rt:25:5
+-- src/ownership.rt:60:5
 loop-again-2 : tie.Need-loop-again-2 Inv-loop μ-loop
-loop-again-2 c = none-other _ _ _ _ _ _ (c .before .before .before .before .before .before .loop .inv) (c .before .before .reference-at .result) _ (c .before .before .reference-at .ensures) (c .before .is-text .ensures) (c .if2 .left)
+loop-again-2 c = search none-marked
 
--- src/ownership.rt:21:1
+-- src/ownership.rt:69:12
+refers-to-requires : tie.Need-refers-to-requires Inv-loop μ-loop
+refers-to-requires c κs = search needs
+
+-- src/ownership.rt:70:13
+returns : tie.Need-returns Inv-loop μ-loop
+returns c = search one-found
+
+-- src/ownership.rt:72:9
+add-place-3 : tie.Need-add-place-3 Inv-loop μ-loop
+add-place-3 c = search needs
+
+-- src/ownership.rt:60:5
+loop-less-3 : tie.Need-loop-less-3 Inv-loop μ-loop
+loop-less-3 c = search needs
+
+-- src/ownership.rt:60:5
+loop-again-3 : tie.Need-loop-again-3 Inv-loop μ-loop
+loop-again-3 c = none-other _ _ _ _ _ _ (c .before .before .before .before .before .before .before .loop .inv) _ (c .before .refers-to .ensures) (c .if3 .left)
+
+-- src/ownership.rt:55:1
 returns-2 : tie.Need-returns-2 Inv-loop μ-loop
 returns-2 c = search none-ends
 
@@ -70,14 +82,17 @@ marked-name-spec =
     Inv-loop
     μ-loop
     loop-holds
-    shared-slice-read-if1
+    eight-clear-requires
     add-place
     loop-less
     loop-again
-    reference-at-requires
-    is-text-requires
-    returns
+    shared-slice-read-if2
     add-place-2
     loop-less-2
     loop-again-2
+    refers-to-requires
+    returns
+    add-place-3
+    loop-less-3
+    loop-again-3
     returns-2)

@@ -7,26 +7,37 @@ use Rattle.record.proofs.ownership.owner_by.Lts as lts
 use Rattle.record.proofs.marks.mark_owners.Reads as mark-owners-reads
 use Rattle.record.proofs.ownership.owner_among.Reads as owner-among-reads
 
--- src/ownership.rt:76:9
+-- src/ownership.rt:78:9
 returns : tie.Need-returns
 returns c = search found-beyond
 
--- src/ownership.rt:78:5
+-- src/ownership.rt:80:5
 mark-owners-requires : tie.Need-mark-owners-requires
 mark-owners-requires c κs = search needs
 
--- src/ownership.rt:79:5
+-- src/ownership.rt:81:5
 owner-among-requires : tie.Need-owner-among-requires
 owner-among-requires c κs = search needs
 
--- src/ownership.rt:72:1
+-- src/ownership.rt:73:1
 same-length : tie.Need-same-length
 same-length c = search needs
 
--- src/ownership.rt:72:1
+-- src/ownership.rt:73:1
+same-length-2 : tie.Need-same-length-2
+same-length-2 c = search needs
+
+-- src/ownership.rt:73:1
 returns-2 : tie.Need-returns-2
 returns-2 c = search found-within
 
 pub owner-by-spec : {M : Type 1} → statement M
 owner-by-spec =
-    tie.close (tie.spec returns mark-owners-requires owner-among-requires same-length returns-2)
+    tie.close
+    (tie.spec
+    returns
+    mark-owners-requires
+    owner-among-requires
+    same-length
+    same-length-2
+    returns-2)

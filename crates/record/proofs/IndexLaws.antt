@@ -1,0 +1,533 @@
+-- The index of a record while it is filled, and the way along the places of one number. Assumes nothing.
+use Prim.Native.Nat.{ℕ, zero, suc, _+_, _-_, _*_, _/_, _%_, _≤_, _<_}
+use mathlib.Core.Path.{_≡_, refl, sym, ap, subst, _∙_}
+use mathlib.Core.List.{List, [], _∷_}
+use mathlib.Core.Option.{Option, none, some}
+use mathlib.Core.Bool.{Bool, true, false, _&&_, cond, false≢true}
+use native.Mathlib.Omega.{arith}
+use borrow.Author.Tests.{eq-eqb, ne-eqb, eqb-true, eqb-false, lt-ltb, le-ltb, ltb-false}
+use lib.Dec.{eqb, ltb}
+use lib.ListN.{length, getD, set, drop, length-set, List·getD-eq-default}
+use lib.Seq.{getD-set-same, getD-set-other}
+use Rattle.record.specs.Base.{Str, bytes, eqs, find}
+use Rattle.record.specs.Stretch.{textOf}
+use Rattle.record.specs.Operands.{textAt}
+use Rattle.record.specs.Commands.{operands, wide, widths, widthWith, widthOf, stepAt, commandsAt}
+use Rattle.record.specs.Lists.{anything, listed, aliases, enums, values, bitfields, members, structs, fields, families, variants}
+use Rattle.record.specs.Steps.{valuesAt, membersAt, fieldsAt, variantsAt, aliasesAt, enumsAt, bitfieldsAt, structsAt, familiesAt, aliasIn, enumIn, bitfieldIn, structIn, familyIn}
+use Rattle.record.specs.Seek.{afterAt}
+use Rattle.record.specs.Index.{hashOf, declaredName, declares, isNamed, onto, declaring, declaredPlaces, keyAt, putAt, latest, Linked, Chained, Indexed, hitIn, linkBefore, Headless, FirstNamed, soughtAt, aliasPlaced, enumPlaced, bitfieldPlaced, structPlaced, familyPlaced, PlaceNamed, Declared}
+use Rattle.record.specs.declared.text.Text.{Text}
+use Rattle.record.specs.declared.command.Cursor.{Cursor}
+use Rattle.record.specs.declared.command.Command.{Command}
+use Rattle.record.specs.declared.command.Step.the-variants.{Next, Stop}
+use Rattle.record.specs.declared.seek.Sought.{Sought}
+use Rattle.record.specs.declared.seek.Sought.the-variants.{Nowhere, At}
+use Rattle.record.proofs.Basics.{eqs→eq}
+use Rattle.record.proofs.Stream.{step-found, along, commands-stop, commands-next}
+use Rattle.record.proofs.ListLaws.{byteOf, byte-is, listed-stop, listed-here, listed-over, find-none, find-hit, find-miss}
+use Rattle.record.proofs.SeekLaws.{Stepped, stepped, ended-there}
+
+-- names ------------------------------------------------------------------------------------------------------------------
+
+module _ (x : Str) where
+  pub hash-short : (a b : ℕ) → length x < 3 → a ≡ getD x 0 0 → b ≡ getD x 1 0 → (length x + a + 10 * b) % 256 ≡ hashOf x
+  unfolding hashOf
+  hash-short a b h e f = rw (lt-ltb (length x) 3 h, e, f)
+
+  pub hash-long : (a b c : ℕ) → 3 ≤ length x → a ≡ getD x (length x - 1) 0 → b ≡ getD x (length x - 2) 0 → c ≡ getD x (length x - 3) 0 → (a + 10 * b + 100 * c) % 256 ≡ hashOf x
+  unfolding hashOf
+  hash-long a b c h e f g = rw (le-ltb (length x) 3 h, e, f, g)
+
+  pub hash-below : hashOf x < 256
+  unfolding hashOf
+  hash-below = go (ltb (length x) 3)
+    where
+      go : (t : Bool) → cond t ((length x + getD x 0 0 + 10 * getD x 1 0) % 256) ((getD x (length x - 1) 0 + 10 * getD x (length x - 2) 0 + 100 * getD x (length x - 3) 0) % 256) < 256
+      go true = omega arith
+      go false = omega arith
+
+pub ruleset hash-laws = (hash-short, hash-long)
+
+pub named-there : (s p : Str) (at : ℕ) (y n : Str) (t : Text) → y ≡ drop at s → t ≡ textAt y 1 → n ≡ textOf p t → n ≡ declaredName s p at
+unfolding declaredName
+named-there s p at y n t d e f = f ∙ ap (textOf p) (e ∙ ap (λ (z : Str). textAt z 1) d)
+
+module _ (b : ℕ) where
+  pub declares-struct : b ≡ 8 → true ≡ declares b
+  unfolding declares
+  declares-struct e = rw e
+
+  pub declares-family : b ≡ 9 → true ≡ declares b
+  unfolding declares
+  declares-family e = rw e
+
+  pub declares-alias : b ≡ 3 → true ≡ declares b
+  unfolding declares
+  declares-alias e = rw e
+
+  pub declares-enum : b ≡ 4 → true ≡ declares b
+  unfolding declares
+  declares-enum e = rw e
+
+  pub declares-bits : (b ≡ 8 → ⊥) → (b ≡ 9 → ⊥) → (b ≡ 3 → ⊥) → (b ≡ 4 → ⊥) → eqb b 6 ≡ declares b
+  unfolding declares
+  declares-bits h i j k = rw (ne-eqb b 8 h, ne-eqb b 9 i, ne-eqb b 3 j, ne-eqb b 4 k)
+
+  -- such a command takes seven bytes at least
+  declares-wide : declares b ≡ true → 7 ≤ widthOf b
+  unfolding declares widthOf widthWith operands widths wide bytes
+  declares-wide e = go (eqb b 8) (eqb b 9) (eqb b 3) (eqb b 4) (eqb b 6) refl refl refl refl refl e
+    where
+      of : (k : ℕ) → eqb b k ≡ true → 7 ≤ widthOf k → 7 ≤ widthOf b
+      of k h l = subst (λ (x : ℕ). 7 ≤ widthOf x) (sym (eqb-true b k h)) l
+
+      go : (v w x y z : Bool) → eqb b 8 ≡ v → eqb b 9 ≡ w → eqb b 3 ≡ x → eqb b 4 ≡ y → eqb b 6 ≡ z → cond v true (cond w true (cond x true (cond y true z))) ≡ true → 7 ≤ widthOf b
+      go true w x y z h i j k l q = of 8 h (omega arith)
+      go false true x y z h i j k l q = of 9 i (omega arith)
+      go false false true y z h i j k l q = of 3 j (omega arith)
+      go false false false true z h i j k l q = of 4 k (omega arith)
+      go false false false false true h i j k l q = of 6 l (omega arith)
+      go false false false false false h i j k l q = absurd (false≢true q)
+
+pub ruleset declares-laws = (declares-struct, declares-family, declares-alias, declares-enum, declares-bits)
+
+module _ (s p : Str) (b at : ℕ) (n : Str) (y : ℕ) (e : y ≡ getD s at 0) where
+  pub named-other : (y ≡ b → ⊥) → false ≡ isNamed s p b n at
+  unfolding isNamed
+  named-other h = rw (← e, ne-eqb y b h)
+
+  pub named-same : y ≡ b → (w : Str) (v : Bool) → w ≡ declaredName s p at → v ≡ eqs w n → v ≡ isNamed s p b n at
+  unfolding isNamed
+  named-same h w v f g = rw (← e, eq-eqb y b h) (g ∙ ap (λ (z : Str). eqs z n) f)
+
+pub ruleset is-named-laws = (named-other, named-same)
+
+-- a command of the name has the name's number
+other-number : (s p : Str) (b : ℕ) (n : Str) (at : ℕ) → eqb (keyAt s p at) (hashOf n) ≡ false → isNamed s p b n at ≡ false
+unfolding isNamed keyAt
+other-number s p b n at h = go (eqb (getD s at 0) b) (eqs (declaredName s p at) n) refl
+  where
+    go : (v w : Bool) → eqs (declaredName s p at) n ≡ w → v && w ≡ false
+    go true true e = absurd (eqb-false _ _ h (ap hashOf (eqs→eq _ _ e)))
+    go true false e = refl
+    go false w e = refl
+
+-- an index while it is filled --------------------------------------------------------------------------------------------
+
+module _ (key : ℕ → ℕ) where
+  linked-above : (x : List ℕ) (top to : ℕ) (l : List ℕ) → top ≤ to → Linked x key top l → Linked x key to l
+  unfolding Linked
+  linked-above x top to [] h i = tt
+  linked-above x top to (q ∷ l) h i = let a = i .0 in (omega arith, i .1, i .2)
+
+  -- numbers elsewhere may change
+  linked-same : (x y : List ℕ) (at top : ℕ) (l : List ℕ) → top ≤ at → ((q : ℕ) → q + 7 ≤ at → getD y (256 + q / 7) 0 ≡ getD x (256 + q / 7) 0) → Linked x key top l → Linked y key top l
+  unfolding Linked
+  linked-same x y at top [] h f i = tt
+  linked-same x y at top (q ∷ l) h f i = let a = i .0 in (a, f q (omega arith) ∙ i .1, linked-same x y at q l (omega arith) f (i .2))
+
+  latest-below : (x : List ℕ) (h top : ℕ) (l : List ℕ) → Linked x key top l → latest key h l ≤ top
+  unfolding Linked latest
+  latest-below x h top [] i = omega arith
+  latest-below x h top (q ∷ l) i = go (eqb (key q) h) (let a = i .0 in let r = latest-below x h q l (i .2) in r)
+    where
+      go : (b : Bool) → latest key h l ≤ q → cond b (suc q) (latest key h l) ≤ top
+      go true r = let a = i .0 in omega arith
+      go false r = let a = i .0 in omega arith
+
+  module _ (x : List ℕ) (at to h : ℕ) (l : List ℕ) (c : Chained x key at l) (small : h < 256) (is : h ≡ key at) (room : 256 + at / 7 < length x) (on : at + 7 ≤ to) where
+    was : ℕ
+    was = getD x h 0
+
+    one : List ℕ
+    one = set x (256 + at / 7) was
+
+    two : List ℕ
+    two = set one h (at + 1)
+
+    elsewhere : (q : ℕ) → (q ≡ h → ⊥) → (q ≡ 256 + at / 7 → ⊥) → getD two q 0 ≡ getD x q 0
+    unfolding one two
+    elsewhere q i j = getD-set-other one h q (at + 1) 0 i ∙ getD-set-other x (256 + at / 7) q was 0 j
+
+    chained-two : Chained two key to (at ∷ l)
+    unfolding Linked latest one two was
+    chained-two = record {
+      heads = λ g b. go g b (eqb (key at) g) refl;
+      linked = (
+        on,
+        getD-set-other one h (256 + at / 7) (at + 1) 0 (λ e. omega arith) ∙ getD-set-same x (256 + at / 7) was 0 room ∙ c .heads h small ∙ ap (λ (k : ℕ). latest key k l) is,
+        linked-same x two at at l (omega arith) (λ q e. elsewhere (256 + q / 7) (λ f. omega arith) (λ f. omega arith)) (c .linked),
+      );
+    }
+      where
+        go : (g : ℕ) → g < 256 → (b : Bool) → eqb (key at) g ≡ b → getD two g 0 ≡ cond b (suc at) (latest key g l)
+        go g b true e =
+            let k : h ≡ g = is ∙ eqb-true (key at) g e in
+            let n = length-set x (256 + at / 7) was in
+            ap (λ (q : ℕ). getD two q 0) (sym k) ∙ getD-set-same one h (at + 1) 0 (omega arith) ∙ (let z : at + 1 ≡ suc at = omega arith in z)
+        go g b false e = elsewhere g (λ f. eqb-false (key at) g e (sym is ∙ sym f)) (λ f. omega arith) ∙ c .heads g b
+
+    chained-put : Chained (set (set x (256 + at / 7) (getD x h 0)) h (at + 1)) key to (at ∷ l)
+    unfolding one two was
+    chained-put = chained-two
+
+module _ (s p : Str) (x : List ℕ) (at : ℕ) where
+  declaring-is : declaring s at ≡ true → declares (getD s at 0) ≡ true
+  unfolding declaring
+  declaring-is w = w
+
+  key-below : keyAt s p at < 256
+  unfolding keyAt
+  key-below = hash-below (declaredName s p at)
+
+  put-is : declaring s at ≡ true → putAt s p x at ≡ set (set x (256 + at / 7) (getD x (keyAt s p at) 0)) (keyAt s p at) (at + 1)
+  unfolding putAt
+  put-is w = rw w
+
+  put-not : declaring s at ≡ false → putAt s p x at ≡ x
+  unfolding putAt
+  put-not w = rw w
+
+  module _ (y : ℕ) (v : Bool) (i : y ≡ getD s at 0) (d : v ≡ declares y) where
+    declaring-so : declaring s at ≡ v
+    unfolding declaring
+    declaring-so = sym (d ∙ ap declares i)
+
+    pub put-over : v ≡ false → x ≡ putAt s p x at
+    put-over w = sym (put-not (declaring-so ∙ w))
+
+    pub put-there : v ≡ true → (u : Str) (h : ℕ) (to : List ℕ) → u ≡ declaredName s p at → h ≡ hashOf u → to ≡ set (set x (256 + at / 7) (getD x h 0)) h (at + 1) → to ≡ putAt s p x at
+    unfolding keyAt
+    put-there w u h to a b q = q ∙ ap (λ (k : ℕ). set (set x (256 + at / 7) (getD x k 0)) k (at + 1)) (b ∙ ap hashOf a) ∙ sym (put-is (declaring-so ∙ w))
+
+pub ruleset put-laws = (put-over, put-there)
+
+-- the places before one are in the index
+pub record Filling (s p : Str) (before x : List ℕ) (at : ℕ) : Type 0 where
+  pub places : List ℕ
+  pub same-length : length x ≡ length before
+  pub room : 4938 ≤ length x
+  pub inside : at ≤ length s
+  pub left : onto (declaring s) (commandsAt s at) places ≡ declaredPlaces s
+  pub chained : Chained x (keyAt s p) at places
+
+-- no number leads anywhere below i
+pub record HeadlessTo (before x : List ℕ) (i : ℕ) : Type 0 where
+  pub same-length : length x ≡ length before
+  pub below : (h : ℕ) → h < i → getD x h 0 ≡ 0
+
+pub headless-start : (x : List ℕ) → HeadlessTo x x 0
+headless-start x = record { same-length = refl; below = λ h l. absurd (omega arith) }
+
+module _ (before x : List ℕ) (i : ℕ) (c : HeadlessTo before x i) where
+  pub headless-length : 256 ≤ length before → 256 ≤ length x
+  headless-length h = let e = c .same-length in omega arith
+
+  pub headless-on : i < 256 → 256 ≤ length before → HeadlessTo before (set x i 0) (i + 1)
+  headless-on h r = record { same-length = length-set x i 0 ∙ c .same-length; below = λ q l. go q l (eqb q i) refl }
+    where
+      go : (q : ℕ) → q < i + 1 → (b : Bool) → eqb q i ≡ b → getD (set x i 0) q 0 ≡ 0
+      go q l true e = subst (λ (z : ℕ). getD (set x i 0) z 0 ≡ 0) (sym (eqb-true q i e)) (getD-set-same x i 0 0 (let k = c .same-length in omega arith))
+      go q l false e =
+          let ne = eqb-false q i e in
+          getD-set-other x i q 0 0 ne ∙ c .below q (let z : (q ≡ i → ⊥) = ne in omega arith)
+
+  pub headless-end : 256 ≤ i → Headless before x
+  headless-end h = record { same-length = c .same-length; none = λ q l. c .below q (omega arith) }
+
+pub ruleset headless-laws = (headless-start, headless-on, headless-end)
+
+module _ (s p : Str) (before x : List ℕ) where
+  pub fill-start : Headless before x → 4938 ≤ length before → Filling s p x x 0
+  unfolding declaredPlaces latest Linked
+  fill-start c r = record { places = []; same-length = refl; room = let e = c .same-length in omega arith; inside = omega arith; left = refl; chained = record { heads = c .none; linked = tt } }
+
+  module _ (at : ℕ) (f : Filling s p before x at) (n : ℕ) (e : n ≡ afterAt s at) where
+    pub fill-end : n ≡ 0 → Indexed s p x
+    unfolding onto
+    fill-end z =
+        let l : f .places ≡ declaredPlaces s = sym (ap (λ (q : List ℕ). onto (declaring s) q (f .places)) (commands-stop s at (ended-there s at n e z))) ∙ f .left in
+        record {
+          chained = subst (Chained x (keyAt s p) (length s)) l
+              (record { heads = f .chained .heads; linked = linked-above (keyAt s p) x at (length s) (f .places) (f .inside) (f .chained .linked) });
+        }
+
+    module _ (z : n ≡ 0 → ⊥) where
+      t : Stepped s at n
+      t = stepped s at n e z
+
+      on : at + widthOf (getD s at 0) ≡ n
+      on = sym (step-found s at (t .command) (t .cursor) (t .step) .wide) ∙ t .to
+
+      within : n ≤ length s
+      within = let g = step-found s at (t .command) (t .cursor) (t .step) .within in let k = t .to in omega arith
+
+      before-it : at < n
+      before-it = let g = step-found s at (t .command) (t .cursor) (t .step) .on in let k = t .to in omega arith
+
+      list : onto (declaring s) (commandsAt s n) (cond (declaring s at) (at ∷ f .places) (f .places)) ≡ declaredPlaces s
+      unfolding onto
+      list =
+          ap (λ (q : List ℕ). onto (declaring s) q (f .places)) (sym (commands-next s at (t .command) (t .cursor) (t .step) ∙ ap (λ (k : ℕ). at ∷ commandsAt s k) (t .to)))
+          ∙ f .left
+
+      module _ (small : length s ≤ 32768) where
+        pub fill-place : at < 32768
+        fill-place = let a = before-it in let b = within in omega arith
+
+        pub fill-on : (to : List ℕ) → to ≡ putAt s p x at → Filling s p before to n
+        fill-on to q = subst (λ (l : List ℕ). Filling s p before l n) (sym q) (go (declaring s at) refl)
+          where
+            far : declaring s at ≡ true → at + 7 ≤ n
+            far w = let k = on in let q : 7 ≤ widthOf (getD s at 0) = declares-wide (getD s at 0) (declaring-is s p x at w) in omega arith
+
+            there : (v : Bool) → declaring s at ≡ v → onto (declaring s) (commandsAt s n) (cond v (at ∷ f .places) (f .places)) ≡ declaredPlaces s
+            there v w = ap (λ (b : Bool). onto (declaring s) (commandsAt s n) (cond b (at ∷ f .places) (f .places))) (sym w) ∙ list
+
+            h : ℕ
+            h = keyAt s p at
+
+            go : (v : Bool) → declaring s at ≡ v → Filling s p before (putAt s p x at) n
+            go true w = subst (λ (l : List ℕ). Filling s p before l n) (sym (put-is s p x at w)) (record {
+              places = at ∷ f .places;
+              same-length = length-set (set x (256 + at / 7) (getD x h 0)) h (at + 1) ∙ length-set x (256 + at / 7) (getD x h 0) ∙ f .same-length;
+              room = let k = length-set (set x (256 + at / 7) (getD x h 0)) h (at + 1) ∙ length-set x (256 + at / 7) (getD x h 0) in let j = f .room in omega arith;
+              inside = within;
+              left = there true w;
+              chained = chained-put (keyAt s p) x at n h (f .places) (f .chained) (key-below s p x at) refl (let k = f .room in let j = fill-place in omega arith) (far w);
+            })
+            go false w = subst (λ (l : List ℕ). Filling s p before l n) (sym (put-not s p x at w)) (record {
+              places = f .places;
+              same-length = f .same-length;
+              room = f .room;
+              inside = within;
+              left = there false w;
+              chained = record { heads = f .chained .heads; linked = linked-above (keyAt s p) x at n (f .places) (let k = before-it in omega arith) (f .chained .linked) };
+            })
+
+pub fill-room : (s p : Str) (before x : List ℕ) (at : ℕ) → Filling s p before x at → 4938 ≤ length x
+fill-room s p before x at f = f .room
+
+pub hash-small : (u : Str) (h : ℕ) → h ≡ hashOf u → h < 256
+hash-small u h e = subst (λ (z : ℕ). z < 256) (sym e) (hash-below u)
+
+-- along the places of one number -------------------------------------------------------------------------------------------
+
+pub link-past : (x : List ℕ) (i : ℕ) → length x ≤ i → 0 ≡ getD x i 0
+link-past x i h = sym (List·getD-eq-default x 0 {n = i} h)
+
+module _ (x : List ℕ) (at : ℕ) (e : ℕ) (i : e ≡ getD x (256 + at / 7) 0) where
+  pub link-none : at < e → 0 ≡ linkBefore x at
+  unfolding linkBefore
+  link-none h = rw (← i, lt-ltb at e h)
+
+  pub link-there : e ≤ at → e ≡ linkBefore x at
+  unfolding linkBefore
+  link-there h = rw (← i, le-ltb at e h)
+
+pub ruleset link-laws = (link-none, link-there)
+
+before-falls : (x : List ℕ) (at : ℕ) → linkBefore x at ≤ at
+unfolding linkBefore
+before-falls x at = go (ltb at (getD x (256 + at / 7) 0)) refl
+  where
+    go : (b : Bool) → ltb at (getD x (256 + at / 7) 0) ≡ b → cond b 0 (getD x (256 + at / 7) 0) ≤ at
+    go true h = omega arith
+    go false h = ltb-false at (getD x (256 + at / 7) 0) h
+
+pub link-falls : (x : List ℕ) (link at to : ℕ) → (link ≡ 0 → ⊥) → at ≡ link - 1 → to ≡ linkBefore x at → to < link
+link-falls x link at to z e f = let h = before-falls x at in omega arith
+
+module _ (s p : Str) (x : List ℕ) (b : ℕ) (n : Str) where
+  abbrev key : ℕ → ℕ
+  key = keyAt s p
+
+  abbrev test : ℕ → Bool
+  test = isNamed s p b n
+
+  -- where no place has the number, none has the name
+  none-hit : (l : List ℕ) (f : ℕ) → latest key (hashOf n) l ≡ 0 → hitIn test l f ≡ f
+  unfolding latest hitIn
+  none-hit [] f e = refl
+  none-hit (q ∷ l) f e = go (none-hit l f) (eqb (key q) (hashOf n)) refl e
+    where
+      go : (latest key (hashOf n) l ≡ 0 → hitIn test l f ≡ f) → (v : Bool) → eqb (key q) (hashOf n) ≡ v → cond v (suc q) (latest key (hashOf n) l) ≡ 0 → hitIn test l (cond (test q) (suc q) f) ≡ f
+      go ih true h g = absurd (omega arith)
+      go ih false h g = ap (λ (v : Bool). hitIn test l (cond v (suc q) f)) (other-number s p b n q h) ∙ ih g
+
+  -- the places after the first that has the number
+  record Beyond (l : List ℕ) (q : ℕ) : Type 0 where
+    rest : List ℕ
+    linked : Linked x key q rest
+    entry : getD x (256 + q / 7) 0 ≡ latest key (hashOf n) rest
+    same : (f : ℕ) → hitIn test l f ≡ hitIn test rest (cond (test q) (suc q) f)
+
+  beyond : (l : List ℕ) (top q : ℕ) → Linked x key top l → latest key (hashOf n) l ≡ suc q → Beyond l q
+  unfolding latest Linked hitIn
+  beyond [] top q i e = absurd (omega arith)
+  beyond (r ∷ l) top q i e = go (beyond l r q (i .2)) (eqb (key r) (hashOf n)) refl e
+    where
+      go : (latest key (hashOf n) l ≡ suc q → Beyond l q) → (v : Bool) → eqb (key r) (hashOf n) ≡ v → cond v (suc r) (latest key (hashOf n) l) ≡ suc q → Beyond (r ∷ l) q
+      go ih true h g =
+          let j : r ≡ q = omega arith in
+          subst (Beyond (r ∷ l)) j (record { rest = l; linked = i .2; entry = i .1 ∙ ap (λ (k : ℕ). latest key k l) (eqb-true (key r) (hashOf n) h); same = λ f. refl })
+      go ih false h g =
+          let j = ih g in
+          record {
+            rest = j .rest;
+            linked = j .linked;
+            entry = j .entry;
+            same = λ f. ap (λ (v : Bool). hitIn test l (cond v (suc r) f)) (other-number s p b n r h) ∙ j .same f;
+          }
+
+  -- what is left to see, and what was seen last
+  pub record Reached (link found : ℕ) : Type 0 where
+    pub rest : List ℕ
+    pub top : ℕ
+    pub linked : Linked x key top rest
+    pub is : link ≡ latest key (hashOf n) rest
+    pub same : hitIn test (declaredPlaces s) 0 ≡ hitIn test rest found
+
+  pub record Sighted (link found : ℕ) : Type 0 where
+    pub reached : Indexed s p x → Reached link found
+
+  pub sighted-start : (h link : ℕ) → h ≡ hashOf n → link ≡ getD x h 0 → Sighted link 0
+  sighted-start h link e f = record {
+    reached = λ i. record {
+      rest = declaredPlaces s;
+      top = length s;
+      linked = i .chained .linked;
+      is = f ∙ ap (λ (k : ℕ). getD x k 0) e ∙ i .chained .heads (hashOf n) (hash-below n);
+      same = refl;
+    };
+  }
+
+  module _ (link found : ℕ) (g : Sighted link found) where
+    pub sighted-end : link ≡ 0 → FirstNamed s p x b n found
+    sighted-end z = record { first = λ i. let r = g .reached i in sym (r .same ∙ none-hit (r .rest) found (sym (r .is) ∙ z)) }
+
+    module _ (z : link ≡ 0 → ⊥) (at to : ℕ) (e : at ≡ link - 1) (f : to ≡ linkBefore x at) (v : Bool) (w : v ≡ test at) where
+      next : (a : ℕ) → cond (test at) (suc at) found ≡ a → Sighted to a
+      next a h = record { reached = λ i. go (g .reached i) }
+        where
+          go : Reached link found → Reached to a
+          go r =
+              let k : link ≡ suc at = omega arith in
+              let j = beyond (r .rest) (r .top) at (r .linked) (sym (r .is) ∙ k) in
+              let l = latest-below key x (hashOf n) at (j .rest) (j .linked) in
+              record {
+                rest = j .rest;
+                top = at;
+                linked = j .linked;
+                is = f ∙ sym (link-there x at _ refl (subst (λ (m : ℕ). m ≤ at) (sym (j .entry)) l)) ∙ j .entry;
+                same = r .same ∙ j .same found ∙ ap (hitIn test (j .rest)) h;
+              }
+
+      pub sighted-hit : v ≡ true → Sighted to link
+      sighted-hit h = next link (ap (λ (m : Bool). cond m (suc at) found) (sym w ∙ h) ∙ (let k : suc at ≡ link = omega arith in k))
+
+      pub sighted-miss : v ≡ false → Sighted to found
+      sighted-miss h = next found (ap (λ (m : Bool). cond m (suc at) found) (sym w ∙ h))
+
+pub ruleset sighted-laws = (sighted-start, sighted-end, sighted-hit, sighted-miss)
+
+-- what is found in the index is the first of its list ------------------------------------------------------------------------
+
+onto-split : (t d : ℕ → Bool) (l r : List ℕ) (f : ℕ) → hitIn t (onto d l r) f ≡ hitIn t r (hitIn t (onto d l []) f)
+unfolding onto hitIn
+onto-split t d [] r f = refl
+onto-split t d (q ∷ l) r f = go (λ m. onto-split t d l m f) (d q)
+  where
+    go : ((m : List ℕ) → hitIn t (onto d l m) f ≡ hitIn t m (hitIn t (onto d l []) f)) → (v : Bool) → hitIn t (onto d l (cond v (q ∷ r) r)) f ≡ hitIn t r (hitIn t (onto d l (cond v (q ∷ []) [])) f)
+    go ih true = ih (q ∷ r) ∙ ap (hitIn t r) (sym (ih (q ∷ [])))
+    go ih false = ih r
+
+module _ {A : Type 0} (s p n : Str) (b : ℕ) (d : declares b ≡ true) (f : ℕ → List ℕ → A) (own : A → Bool) (named : (at : ℕ) (rest : List ℕ) → own (f at rest) ≡ eqs (declaredName s p at) n)
+    (placed : Sought → Option A) (nowhere : placed Nowhere ≡ none) (there : (a k : ℕ) → placed (At a k) ≡ some (f a (commandsAt s k))) where
+  hit : ℕ → ℕ
+  hit at = hitIn (isNamed s p b n) (onto (declaring s) (commandsAt s at) []) 0
+
+  module _ (at : ℕ) (c : Command) (k : Cursor) (e : stepAt s at ≡ Next c k) where
+    hit-next : hit at ≡ cond (declaring s at) (cond (isNamed s p b n at) (suc at) (hit (k .at))) (hit (k .at))
+    unfolding hit onto hitIn
+    hit-next =
+        ap (λ (l : List ℕ). hitIn (isNamed s p b n) (onto (declaring s) l []) 0) (commands-next s at c k e)
+        ∙ onto-split (isNamed s p b n) (declaring s) (commandsAt s (k .at)) (cond (declaring s at) (at ∷ []) []) 0
+        ∙ go (declaring s at)
+      where
+        go : (v : Bool) → hitIn (isNamed s p b n) (cond v (at ∷ []) []) (hit (k .at)) ≡ cond v (cond (isNamed s p b n at) (suc at) (hit (k .at))) (hit (k .at))
+        go true = refl
+        go false = refl
+
+    after-is : afterAt s at ≡ k .at
+    unfolding afterAt
+    after-is = rw (afterAt, e)
+
+    -- a command of the number
+    module _ (is : byteOf c ≡ b) where
+      byte : getD s at 0 ≡ b
+      byte = byte-is s at c k e ∙ is
+
+      hit-here : (v : Bool) → eqs (declaredName s p at) n ≡ v → hit at ≡ cond v (suc at) (hit (k .at))
+      unfolding declaring isNamed
+      hit-here v q = hit-next ∙ rw (byte, d, eq-eqb b b refl, q)
+
+    -- another
+    hit-over : (byteOf c ≡ b → ⊥) → hit at ≡ hit (k .at)
+    unfolding isNamed
+    hit-over h = hit-next ∙ rw (byte-is s at c k e, ne-eqb (byteOf c) b h) (same (declaring s at))
+      where
+        same : (v : Bool) → cond v (hit (k .at)) (hit (k .at)) ≡ hit (k .at)
+        same true = refl
+        same false = refl
+
+  Finds : ℕ → Type 0
+  Finds at = find own (listed s anything b f (commandsAt s at)) ≡ placed (soughtAt s (hit at))
+
+  finds-stop : (at : ℕ) → stepAt s at ≡ Stop → Finds at
+  unfolding Finds hit onto hitIn soughtAt
+  finds-stop at e = find-none own _ (listed-stop s anything b f at e) ∙ rw (commands-stop s at e) (sym nowhere)
+
+  finds-next : (at : ℕ) (c : Command) (k : Cursor) → stepAt s at ≡ Next c k → Finds (k .at) → Finds at
+  unfolding Finds soughtAt
+  finds-next at c k e ih = go (eqb (byteOf c) b) refl
+    where
+      here : byteOf c ≡ b → (v : Bool) → eqs (declaredName s p at) n ≡ v → Finds at
+      here is true q = find-hit own _ (f at (commandsAt s (k .at))) _ (listed-here s anything b f at c k e is) (named at _ ∙ q) ∙ rw (hit-here at c k e is true q, after-is at c k e) (sym (there at (k .at)))
+      here is false q =
+          find-miss own _ (f at (commandsAt s (k .at))) _ (listed-here s anything b f at c k e is) (named at _ ∙ q) ∙ ih
+          ∙ ap (λ (m : ℕ). placed (soughtAt s m)) (sym (hit-here at c k e is false q))
+
+      go : (v : Bool) → eqb (byteOf c) b ≡ v → Finds at
+      go true h = here (eqb-true (byteOf c) b h) (eqs (declaredName s p at) n) refl
+      go false h =
+          ap (find own) (listed-over s anything b f at c k e (eqb-false (byteOf c) b h) refl) ∙ ih
+          ∙ ap (λ (m : ℕ). placed (soughtAt s m)) (sym (hit-over at c k e (eqb-false (byteOf c) b h)))
+
+  found-in : (at : ℕ) → find own (listed s anything b f (commandsAt s at)) ≡ placed (soughtAt s (hitIn (isNamed s p b n) (onto (declaring s) (commandsAt s at) []) 0))
+  unfolding Finds hit
+  found-in = along s Finds finds-stop finds-next
+
+module _ (s p : Str) (x : List ℕ) (b : ℕ) (n : Str) (found : ℕ) (g : FirstNamed s p x b n found) where
+  placed-at : (r : Sought) → r ≡ soughtAt s found → Declared s p x b n r
+  unfolding declaredPlaces hit declaredName declares aliasIn enumIn bitfieldIn structIn familyIn aliasesAt enumsAt bitfieldsAt structsAt familiesAt aliases enums bitfields structs families valuesAt membersAt fieldsAt variantsAt
+  placed-at r e = record {
+    named = λ i. let h : r ≡ soughtAt s (hitIn (isNamed s p b n) (declaredPlaces s) 0) = e ∙ ap (soughtAt s) (g .first i) in record {
+      alias = λ q. rw (h, q) (found-in s p n 3 refl _ _ (λ at rest. refl) (aliasPlaced s p) refl (λ a k. refl) 0);
+      enum = λ q. rw (h, q) (found-in s p n 4 refl _ _ (λ at rest. refl) (enumPlaced s p) refl (λ a k. refl) 0);
+      bitfield = λ q. rw (h, q) (found-in s p n 6 refl _ _ (λ at rest. refl) (bitfieldPlaced s p) refl (λ a k. refl) 0);
+      struct = λ q. rw (h, q) (found-in s p n 8 refl _ _ (λ at rest. refl) (structPlaced s p) refl (λ a k. refl) 0);
+      family = λ q. rw (h, q) (found-in s p n 9 refl _ _ (λ at rest. refl) (familyPlaced s p) refl (λ a k. refl) 0);
+    };
+  }
+
+  pub declared-none : found ≡ 0 → Declared s p x b n Nowhere
+  unfolding soughtAt
+  declared-none z = placed-at Nowhere (rw z)
+
+  pub declared-at : (found ≡ 0 → ⊥) → (at to : ℕ) → at ≡ found - 1 → to ≡ afterAt s at → Declared s p x b n (At at to)
+  unfolding soughtAt
+  declared-at z at to e f = placed-at (At at to) (rw (let k : found ≡ suc at = omega arith in k, f))
+
+pub ruleset declared-laws = (declared-none, declared-at)

@@ -1,0 +1,137 @@
+-- The index of the names that a record declares: for each number that a name's last bytes give, the places of its commands from the last to the first,
+-- each place one more than it is. Assumes nothing.
+use mathlib.Core.Path.{_≡_}
+use mathlib.Core.List.{List, [], _∷_}
+use mathlib.Core.Option.{Option, none, some}
+use mathlib.Core.Bool.{Bool, true, false, _&&_, cond}
+use Prim.Native.Nat.{ℕ, zero, suc, _+_, _-_, _*_, _/_, _%_, _≤_, _<_}
+use lib.ListN.{length, getD, set, drop}
+use lib.Dec.{eqb, ltb}
+use Rattle.record.specs.Base.{Str, eqs}
+use Rattle.record.specs.Stretch.{textOf}
+use Rattle.record.specs.Operands.{textAt}
+use Rattle.record.specs.Commands.{aliasAt, enumAt, bitfieldAt, structAt, familyAt, commandsAt}
+use Rattle.record.specs.Schema.{Alias, Enum, BitField, Struct, Family}
+use Rattle.record.specs.Lists.{aliasOf, enumOf, bitfieldOf, structOf, familyOf}
+use Rattle.record.specs.Steps.{valuesAt, membersAt, fieldsAt, variantsAt, aliasesAt, enumsAt, bitfieldsAt, structsAt, familiesAt, aliasIn, enumIn, bitfieldIn, structIn, familyIn}
+use Rattle.record.specs.Seek.{afterAt}
+use Rattle.record.specs.declared.seek.Sought.{Sought}
+use Rattle.record.specs.declared.seek.Sought.the-variants.{Nowhere, At}
+
+-- names ------------------------------------------------------------------------------------------------------------------
+
+-- the number by which a name is kept
+unfoldable pub hashOf : Str → ℕ
+hashOf x =
+    cond (ltb (length x) 3) ((length x + getD x 0 0 + 10 * getD x 1 0) % 256)
+    ((getD x (length x - 1) 0 + 10 * getD x (length x - 2) 0 + 100 * getD x (length x - 3) 0) % 256)
+
+-- the name that the command at a place begins with
+unfoldable pub declaredName : Str → Str → ℕ → Str
+declaredName s p at = textOf p (textAt (drop at s) 1)
+
+-- whether a command declares a name that look-ups ask for: an alias, an enum, a bit field, a structure or a family
+unfoldable pub declares : ℕ → Bool
+declares b = cond (eqb b 8) true (cond (eqb b 9) true (cond (eqb b 3) true (cond (eqb b 4) true (eqb b 6))))
+
+-- whether the command at a place has this number and name
+unfoldable pub isNamed : Str → Str → ℕ → Str → ℕ → Bool
+isNamed s p b n at = eqb (getD s at 0) b && eqs (declaredName s p at) n
+
+-- places -----------------------------------------------------------------------------------------------------------------
+
+-- those of some places that pass a test, each put before the ones that were there
+unfoldable pub onto : (ℕ → Bool) → List ℕ → List ℕ → List ℕ
+onto t [] l = l
+onto t (q ∷ qs) l = onto t qs (cond (t q) (q ∷ l) l)
+
+-- whether the command at a place declares a name
+unfoldable pub declaring : Str → ℕ → Bool
+declaring s at = declares (getD s at 0)
+
+-- the places of the declaring commands, from the last to the first
+unfoldable pub declaredPlaces : Str → List ℕ
+declaredPlaces s = onto (declaring s) (commandsAt s 0) []
+
+-- the number of the command at a place
+unfoldable pub keyAt : Str → Str → ℕ → ℕ
+keyAt s p at = hashOf (declaredName s p at)
+
+-- the first of these places that has a number, one more than it is; 0 where none has it
+unfoldable pub latest : (ℕ → ℕ) → ℕ → List ℕ → ℕ
+latest key h [] = 0
+latest key h (q ∷ l) = cond (eqb (key q) h) (suc q) (latest key h l)
+
+-- each of these places stands seven bytes at least before the one before it, and its entry leads to the next of its number
+unfoldable pub Linked : List ℕ → (ℕ → ℕ) → ℕ → List ℕ → Type 0
+Linked x key top [] = Unit
+Linked x key top (q ∷ l) = (q + 7 ≤ top) × (getD x (256 + q / 7) 0 ≡ latest key (key q) l) × Linked x key q l
+
+-- an index into which the command at a place was put, where it declares a name
+unfoldable pub putAt : Str → Str → List ℕ → ℕ → List ℕ
+putAt s p x at = cond (declaring s at) (set (set x (256 + at / 7) (getD x (keyAt s p at) 0)) (keyAt s p at) (at + 1)) x
+
+-- an index of these places: each number leads to the first of them that has it
+pub record Chained (x : List ℕ) (key : ℕ → ℕ) (top : ℕ) (l : List ℕ) : Type 0 where
+  pub heads : (h : ℕ) → h < 256 → getD x h 0 ≡ latest key h l
+  pub linked : Linked x key top l
+
+-- the index of a record
+pub record Indexed (s p : Str) (x : List ℕ) : Type 0 where
+  pub chained : Chained x (keyAt s p) (length s) (declaredPlaces s)
+
+-- the last of some places that passes a test, one more than it is, and otherwise what was known
+unfoldable pub hitIn : (ℕ → Bool) → List ℕ → ℕ → ℕ
+hitIn t [] found = found
+hitIn t (q ∷ l) found = hitIn t l (cond (t q) (suc q) found)
+
+-- the entry of the command at a place, where it leads to a place before
+unfoldable pub linkBefore : List ℕ → ℕ → ℕ
+linkBefore x at = cond (ltb at (getD x (256 + at / 7) 0)) 0 (getD x (256 + at / 7) 0)
+
+-- an index that leads nowhere
+pub record Headless (before x : List ℕ) : Type 0 where
+  pub same-length : length x ≡ length before
+  pub none : (h : ℕ) → h < 256 → getD x h 0 ≡ 0
+
+-- the answer, where the index is the record's: the first command of a number and a name
+pub record FirstNamed (s p : Str) (x : List ℕ) (b : ℕ) (n : Str) (r : ℕ) : Type 0 where
+  pub first : Indexed s p x → r ≡ hitIn (isNamed s p b n) (declaredPlaces s) 0
+
+-- a place that is one less than a number, and the place after its command
+unfoldable pub soughtAt : Str → ℕ → Sought
+soughtAt s zero = Nowhere
+soughtAt s (suc q) = At q (afterAt s q)
+
+-- what the command at a place declares, with the place after it
+abbrev pub aliasPlaced : Str → Str → Sought → Option Alias
+aliasPlaced s p Nowhere = none
+aliasPlaced s p (At a k) = some (aliasOf p (aliasAt (drop a s)))
+
+abbrev pub enumPlaced : Str → Str → Sought → Option Enum
+enumPlaced s p Nowhere = none
+enumPlaced s p (At a k) = some (enumOf p (enumAt (drop a s)) (valuesAt s p k))
+
+abbrev pub bitfieldPlaced : Str → Str → Sought → Option BitField
+bitfieldPlaced s p Nowhere = none
+bitfieldPlaced s p (At a k) = some (bitfieldOf p (bitfieldAt (drop a s)) (membersAt s p k))
+
+abbrev pub structPlaced : Str → Str → Sought → Option Struct
+structPlaced s p Nowhere = none
+structPlaced s p (At a k) = some (structOf p (structAt (drop a s)) (fieldsAt s p k))
+
+abbrev pub familyPlaced : Str → Str → Sought → Option Family
+familyPlaced s p Nowhere = none
+familyPlaced s p (At a k) = some (familyOf p (familyAt (drop a s)) (fieldsAt s p k) (variantsAt s p k))
+
+-- the answer is the place of the first alias of a name, asked for by 3, and so on
+pub record PlaceNamed (s p n : Str) (b : ℕ) (r : Sought) : Type 0 where
+  pub alias : b ≡ 3 → aliasIn n (aliasesAt s p 0) ≡ aliasPlaced s p r
+  pub enum : b ≡ 4 → enumIn n (enumsAt s p 0) ≡ enumPlaced s p r
+  pub bitfield : b ≡ 6 → bitfieldIn n (bitfieldsAt s p 0) ≡ bitfieldPlaced s p r
+  pub struct : b ≡ 8 → structIn n (structsAt s p 0) ≡ structPlaced s p r
+  pub family : b ≡ 9 → familyIn n (familiesAt s p 0) ≡ familyPlaced s p r
+
+-- the same where the index is the record's
+pub record Declared (s p : Str) (x : List ℕ) (b : ℕ) (n : Str) (r : Sought) : Type 0 where
+  pub named : Indexed s p x → PlaceNamed s p n b r

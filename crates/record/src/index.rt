@@ -1,0 +1,189 @@
+// An index of the names that a record declares, in a slice that the caller lends. Names are kept by a number below 256 that their last bytes give:
+// first the place of the last command of each number, then for each command the place of the one before it of its number. Every place is one
+// more than it is, and 0 is none. A declaring command takes seven bytes at least, so no two have one entry: their place divided by seven.
+// The most that a record of 32,768 bytes needs is 4,938 numbers.
+use crate::cut;
+use crate::le::byte_at;
+use crate::operands::text_at;
+use crate::seek::Sought;
+use crate::seek::after_at;
+use crate::text::bytes_of;
+use crate::text::same;
+ghost use mathlib.Core.Path.{_≡_};
+ghost use mathlib.Core.List.{List};
+ghost use Prim.Native.Nat.{_+_, _/_, _≤_, _<_};
+ghost use lib.ListN.{length, getD, set};
+ghost use Rattle.record.specs.Index.{hashOf, declaredName, declares, isNamed, linkBefore, putAt, Indexed, Headless, FirstNamed, Declared};
+
+// A byte of a text as a larger number; 0 past its end.
+fn size_at(name: &[u8], at: usize) -> usize
+    ensures { λ r. ⌜ (r ≡ getD (now (name .entry)) at 0) × (r < 256) ⌝ }
+{
+    byte_at(name, at) as usize
+}
+
+// The number by which a name is kept.
+fn hash_of(name: &[u8]) -> usize
+    ensures { λ r. ⌜ r ≡ hashOf (now (name .entry)) ⌝ }
+{
+    let n = name.len();
+    if n < 3 {
+        let first = size_at(name, 0);
+        let second = size_at(name, 1);
+        return (n + first + 10 * second) % 256;
+    }
+    let last = size_at(name, n - 1);
+    let before = size_at(name, n - 2);
+    let third = size_at(name, n - 3);
+    (last + 10 * before + 100 * third) % 256
+}
+
+// The name that the command at a place begins with.
+fn declared_name<'a>(stream: &[u8], pool: &'a [u8], place: usize) -> &'a [u8]
+    ensures { λ r. ⌜ now r ≡ declaredName (now (stream .entry)) (now (pool .entry)) place ⌝ }
+{
+    bytes_of(pool, text_at(cut::from(stream, place), 1))
+}
+
+// Whether a command declares a name that look-ups ask for: an alias, an enum, a bit field, a structure or a family.
+fn declares(byte: u8) -> bool
+    ensures { λ r. ⌜ r ≡ declares byte ⌝ }
+{
+    if byte == 8 {
+        return true;
+    }
+    if byte == 9 {
+        return true;
+    }
+    if byte == 3 {
+        return true;
+    }
+    if byte == 4 {
+        return true;
+    }
+    byte == 6
+}
+
+// A number of the index as a place.
+fn wide(x: u16) -> usize
+    ensures { λ r. ⌜ r ≡ x ⌝ }
+{
+    x as usize
+}
+
+// A number of the index; 0 past its end.
+fn link_at(index: &[u16], i: usize) -> usize
+    ensures { λ r. ⌜ r ≡ getD (now (index .entry)) i 0 ⌝ }
+{
+    if index.len() <= i {
+        return 0;
+    }
+    wide(index[i])
+}
+
+// The command before the one at a place; none where the entry leads to no place before.
+fn link_before(index: &[u16], place: usize) -> usize
+    ensures { λ r. ⌜ r ≡ linkBefore (now (index .entry)) place ⌝ }
+{
+    let link = link_at(index, 256 + place / 7);
+    if place < link {
+        return 0;
+    }
+    link
+}
+
+// Takes every number's place away.
+fn clear(index: &mut [u16])
+    requires { ⌜ 256 ≤ length (now index) ⌝ }
+    ensures { λ _. ⌜ Headless (now (index .entry)) (now (index .exit)) ⌝ }
+{
+    let mut i = 0;
+    while i < 256 {
+        index[i] = 0;
+        i += 1;
+    }
+}
+
+// Puts a command at the front of those of its number.
+fn put(index: &mut [u16], hash: usize, place: usize)
+    requires { ⌜ (hash < 256) × (place < 32768) × (4938 ≤ length (now index)) ⌝ }
+    ensures { λ _. ⌜ now (index .exit) ≡ set (set (now (index .entry)) (256 + place / 7) (getD (now (index .entry)) hash 0)) hash (place + 1) ⌝ }
+{
+    index[256 + place / 7] = index[hash];
+    index[hash] = (place + 1) as u16;
+}
+
+// Puts the command at a place into the index, where it declares a name.
+fn put_declared(stream: &[u8], pool: &[u8], index: &mut [u16], at: usize)
+    requires { ⌜ (at < 32768) × (4938 ≤ length (now index)) ⌝ }
+    ensures { λ _. ⌜ now (index .exit) ≡ putAt (now (stream .entry)) (now (pool .entry)) (now (index .entry)) at ⌝ }
+{
+    if declares(byte_at(stream, at)) {
+        let hash = hash_of(declared_name(stream, pool, at));
+        put(index, hash, at);
+    }
+}
+
+// Fills the index of a record.
+pub(crate) fn fill_index(stream: &[u8], pool: &[u8], index: &mut [u16])
+    requires { ⌜ (length (now stream) ≤ 32768) × (4938 ≤ length (now index)) ⌝ }
+    ensures { λ _. ⌜ Indexed (now (stream .entry)) (now (pool .entry)) (now (index .exit)) ⌝ }
+{
+    clear(index);
+    let mut at = 0;
+    loop {
+        let after = after_at(stream, at);
+        if after == 0 {
+            return;
+        }
+        put_declared(stream, pool, index, at);
+        at = after;
+    }
+}
+
+// Whether the command at a place has this number and name.
+fn is_named(stream: &[u8], pool: &[u8], number: u8, name: &[u8], place: usize) -> bool
+    ensures { λ r. ⌜ r ≡ isNamed (now (stream .entry)) (now (pool .entry)) number (now (name .entry)) place ⌝ }
+{
+    if byte_at(stream, place) != number {
+        return false;
+    }
+    same(declared_name(stream, pool, place), name)
+}
+
+// The first command of a number and a name, one more than its place; 0 where there is none. What is seen last on the way from the last command to
+// the first is the first.
+fn first_named(stream: &[u8], pool: &[u8], index: &[u16], number: u8, name: &[u8]) -> usize
+    ensures { λ r. ⌜ FirstNamed (now (stream .entry)) (now (pool .entry)) (now (index .entry)) number (now (name .entry)) r ⌝ }
+{
+    let mut found = 0;
+    let mut link = link_at(index, hash_of(name));
+    while link != 0 {
+        let place = link - 1;
+        if is_named(stream, pool, number, name, place) {
+            found = link;
+            link = link_before(index, place);
+        } else {
+            link = link_before(index, place);
+        }
+    }
+    found
+}
+
+// The place of the first command of a number and a name, and the place after it.
+pub(crate) fn find_declared(
+    stream: &[u8],
+    pool: &[u8],
+    index: &[u16],
+    number: u8,
+    name: &[u8],
+) -> Sought
+    ensures { λ r. ⌜ Declared (now (stream .entry)) (now (pool .entry)) (now (index .entry)) number (now (name .entry)) r ⌝ }
+{
+    let found = first_named(stream, pool, index, number, name);
+    if found == 0 {
+        return Sought::Nowhere;
+    }
+    let place = found - 1;
+    Sought::At(place, after_at(stream, place))
+}
