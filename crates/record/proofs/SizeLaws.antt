@@ -15,10 +15,10 @@ use Rattle.record.specs.Scalars.{Scalar, primSize}
 use Rattle.record.specs.Schema.{Schema, Key, Enum, Alias, BitField}
 use Rattle.record.specs.Stretch.{textOf}
 use Rattle.record.specs.Operands.{textAt, optTextAt, optNumberAt}
-use Rattle.record.specs.Commands.{enumAt, fieldAt, start, place}
+use Rattle.record.specs.Commands.{enumAt, bitfieldAt, fieldAt, start, place}
 use Rattle.record.specs.Seek.{SoughtFrom}
 use Rattle.record.specs.Lists.{optOf, numberOf, fieldOf}
-use Rattle.record.specs.Steps.{enumsAt, EnumsFrom, aliasIn, aliasFound, aliasesAt, bitfieldIn, bitfieldFound, bitfieldsAt}
+use Rattle.record.specs.Steps.{enumsAt, EnumsFrom, aliasIn, aliasFound, aliasesAt, bitfieldsAt, BitfieldsFrom}
 use Rattle.record.specs.Kind.{kindOf}
 use Rattle.record.specs.Shapes.{enumSize, aliasSize, bitfieldSize, sized, scalarSize, sizeAs, shapeSize, limit, capped}
 use Rattle.record.specs.Reading.{rec, schemaFrom, schemaOf}
@@ -37,9 +37,8 @@ use Rattle.record.specs.declared.seek.Sought.{Sought}
 use Rattle.record.specs.declared.seek.Sought.the-variants.{Nowhere, At}
 use Rattle.record.specs.declared.lists.AliasStep.{AliasStep}
 use Rattle.record.specs.declared.lists.AliasStep.the-variants.{NoAlias, AnAlias}
-use Rattle.record.specs.declared.lists.BitfieldStep.{BitfieldStep}
 use Rattle.record.specs.declared.lists.BitfieldStep.the-variants.{NoBitfield, ABitfield}
-use Rattle.record.proofs.StepLaws.{enums-none, enums-found, find-enum-none, find-enum-hit, find-enum-miss}
+use Rattle.record.proofs.StepLaws.{enums-none, enums-found, find-enum-none, find-enum-hit, find-enum-miss, bitfields-none, bitfields-found, find-bitfield-none, find-bitfield-hit, find-bitfield-miss}
 
 -- sizes as far as the limit ----------------------------------------------------------------------------------------------
 
@@ -117,16 +116,7 @@ module _ (s p n : Str) where
     unfolding aliasSize mapOption
     alias-size-some e k x z m j g = ap some (g ∙ ap (primSize w) j) ∙ sym (ap (mapOption (λ (e : Alias). primSize w (e .underlying))) ((rw i at h) ∙ ap (aliasFound s p) m))
 
-  module _ (r : BitfieldStep) (f : Cursor) (i : f ≡ start) (h : bitfieldIn n (bitfieldsAt s p (f .at)) ≡ bitfieldFound s p r) where
-    pub bitfield-size-none : r ≡ NoBitfield → none ≡ bitfieldSize (bitfieldsAt s p 0) n
-    unfolding bitfieldSize mapOption
-    bitfield-size-none m = sym (ap (mapOption (λ (e : BitField). e .size)) ((rw i at h) ∙ ap (bitfieldFound s p) m))
-
-    pub bitfield-size-some : (e : D.Bitfield.Bitfield) (k : Cursor) → r ≡ ABitfield e k → some (e .size) ≡ bitfieldSize (bitfieldsAt s p 0) n
-    unfolding bitfieldSize mapOption
-    bitfield-size-some e k m = sym (ap (mapOption (λ (e : BitField). e .size)) ((rw i at h) ∙ ap (bitfieldFound s p) m))
-
-pub ruleset named-size-laws = (alias-size-none, alias-size-some, bitfield-size-none, bitfield-size-some)
+pub ruleset named-size-laws = (alias-size-none, alias-size-some)
 
 -- the first enum of a name, by the places of the enums
 module _ (s p n : Str) (at : ℕ) (r : Sought) (i : SoughtFrom s Anything 4 at r) where
@@ -149,6 +139,28 @@ module _ (s p n : Str) (at : ℕ) (r : Sought) (i : SoughtFrom s Anything 4 at r
         ap (mapOption (λ (v : Enum). v .size)) (find-enum-miss s at (AnEnum (enumAt y) (place k)) found p n x b (enumAt y) (place k) refl (g ∙ ap (textOf p) e) q h)
 
 pub ruleset enum-size-laws = (enum-size-end, enum-size-hit, enum-size-miss)
+
+-- the first bit field of a name, the same way
+module _ (s p n : Str) (at : ℕ) (r : Sought) (i : SoughtFrom s Anything 6 at r) where
+  pub bitfield-size-end : r ≡ Nowhere → bitfieldSize (bitfieldsAt s p at) n ≡ none
+  unfolding bitfieldSize mapOption
+  bitfield-size-end m = ap (mapOption (λ (e : BitField). e .size)) (find-bitfield-none s at NoBitfield (bitfields-none s at r i m) p n refl)
+
+  module _ (a k : ℕ) (m : r ≡ At a k) (y : Str) (d : y ≡ drop a s) (t : Text) (e : t ≡ textAt y 1) (x : Str) (g : x ≡ textOf p t) (b : Bool) (q : b ≡ eqs x n) where
+    bits-found : BitfieldsFrom s at (ABitfield (bitfieldAt y) (place k))
+    bits-found = bitfields-found s at r i a k m y (bitfieldAt y) (place k) d refl refl
+
+    pub bitfield-size-hit : (z : ℕ) → b ≡ true → z ≡ u32At y 4 → bitfieldSize (bitfieldsAt s p at) n ≡ some z
+    unfolding bitfieldSize mapOption
+    bitfield-size-hit z h l =
+        ap (mapOption (λ (v : BitField). v .size)) (find-bitfield-hit s at (ABitfield (bitfieldAt y) (place k)) bits-found p n x b (bitfieldAt y) (place k) refl (g ∙ ap (textOf p) e) q h) ∙ ap some (sym l)
+
+    pub bitfield-size-miss : b ≡ false → bitfieldSize (bitfieldsAt s p at) n ≡ bitfieldSize (bitfieldsAt s p k) n
+    unfolding bitfieldSize
+    bitfield-size-miss h =
+        ap (mapOption (λ (v : BitField). v .size)) (find-bitfield-miss s at (ABitfield (bitfieldAt y) (place k)) bits-found p n x b (bitfieldAt y) (place k) refl (g ∙ ap (textOf p) e) q h)
+
+pub ruleset bitfield-size-laws = (bitfield-size-end, bitfield-size-hit, bitfield-size-miss)
 
 module _ (n : OptNumber) (d : ℕ) where
   pub or-missing : n ≡ Missing → d ≡ orElse (numberOf n) d

@@ -6,9 +6,7 @@ use crate::kind::Kind;
 use crate::kind::kind_of;
 use crate::le::u32_at;
 use crate::lists::AliasStep;
-use crate::lists::BitfieldStep;
 use crate::lists::find_alias;
-use crate::lists::find_bitfield;
 use crate::operands::OptNumber;
 use crate::operands::OptText;
 use crate::operands::opt_number_at;
@@ -108,13 +106,21 @@ pub fn alias_size(rows: &[u8], stream: &[u8], pool: &[u8], name: &[u8]) -> OptNu
     OptNumber::Number(prim_size(rows, bytes_of(pool, e.underlying)))
 }
 
+// By the places of the bit fields, as an enum's.
 pub fn bitfield_size(stream: &[u8], pool: &[u8], name: &[u8]) -> OptNumber
     ensures { λ r. ⌜ numberOf r ≡ bitfieldSize (bitfieldsAt (now (stream .entry)) (now (pool .entry)) 0) (now (name .entry)) ⌝ }
 {
-    let BitfieldStep::ABitfield(e, _) = find_bitfield(stream, pool, Cursor::new(), name) else {
-        return OptNumber::Missing;
-    };
-    OptNumber::Number(e.size)
+    let mut at = 0;
+    loop {
+        let Sought::At(place, after) = seek(stream, at, 6, Between::Anything) else {
+            return OptNumber::Missing;
+        };
+        let s = cut::from(stream, place);
+        if same(bytes_of(pool, text_at(s, 1)), name) {
+            return OptNumber::Number(u32_at(s, 4));
+        }
+        at = after;
+    }
 }
 
 // A scalar whose word is left out is a byte.
