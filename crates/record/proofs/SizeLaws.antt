@@ -6,16 +6,19 @@ use mathlib.Core.Bool.{Bool, true, false}
 use Prim.Native.Nat.{ℕ, zero, suc, _+_, _-_, _*_, _/_, _≤_, _<_}
 use native.Mathlib.Nat.{le-mul-of-pos-right, le-div-iff-mul-le, div-lt-iff-lt-mul}
 use native.Mathlib.Omega.{arith}
+use lib.ListN.{drop}
 use lib.Dec.{leb}
 use borrow.Author.Tests.{le-leb, lt-leb, leb-true, leb-false}
-use Rattle.record.specs.Base.{Str, bytes, orElse, mapOption}
+use Rattle.record.specs.Base.{Str, bytes, eqs, orElse, mapOption}
+use Rattle.record.specs.Le.{u32At}
 use Rattle.record.specs.Scalars.{Scalar, primSize}
 use Rattle.record.specs.Schema.{Schema, Key, Enum, Alias, BitField}
 use Rattle.record.specs.Stretch.{textOf}
 use Rattle.record.specs.Operands.{textAt, optTextAt, optNumberAt}
-use Rattle.record.specs.Commands.{fieldAt, start}
+use Rattle.record.specs.Commands.{enumAt, bitfieldAt, fieldAt, start, place}
+use Rattle.record.specs.Seek.{SoughtFrom}
 use Rattle.record.specs.Lists.{optOf, numberOf, fieldOf}
-use Rattle.record.specs.Steps.{enumIn, enumFound, enumsAt, aliasIn, aliasFound, aliasesAt, bitfieldIn, bitfieldFound, bitfieldsAt}
+use Rattle.record.specs.Steps.{enumsAt, EnumsFrom, aliasIn, aliasFound, aliasesAt, bitfieldsAt, BitfieldsFrom}
 use Rattle.record.specs.Kind.{kindOf}
 use Rattle.record.specs.Shapes.{enumSize, aliasSize, bitfieldSize, sized, scalarSize, sizeAs, shapeSize, limit, capped}
 use Rattle.record.specs.Reading.{rec, schemaFrom, schemaOf}
@@ -28,12 +31,14 @@ use Rattle.record.specs.declared.command as D
 use Rattle.record.specs.declared.command.Cursor.{Cursor}
 use Rattle.record.specs.declared.kind.Kind.{Kind}
 use Rattle.record.specs.declared.kind.Kind.the-variants as K
-use Rattle.record.specs.declared.lists.EnumStep.{EnumStep}
 use Rattle.record.specs.declared.lists.EnumStep.the-variants.{NoEnum, AnEnum}
+use Rattle.record.specs.declared.seek.Between.the-variants.{Anything}
+use Rattle.record.specs.declared.seek.Sought.{Sought}
+use Rattle.record.specs.declared.seek.Sought.the-variants.{Nowhere, At}
 use Rattle.record.specs.declared.lists.AliasStep.{AliasStep}
 use Rattle.record.specs.declared.lists.AliasStep.the-variants.{NoAlias, AnAlias}
-use Rattle.record.specs.declared.lists.BitfieldStep.{BitfieldStep}
 use Rattle.record.specs.declared.lists.BitfieldStep.the-variants.{NoBitfield, ABitfield}
+use Rattle.record.proofs.StepLaws.{enums-none, enums-found, find-enum-none, find-enum-hit, find-enum-miss, bitfields-none, bitfields-found, find-bitfield-none, find-bitfield-hit, find-bitfield-miss}
 
 -- sizes as far as the limit ----------------------------------------------------------------------------------------------
 
@@ -102,15 +107,6 @@ product-capped x (suc b) = go (leb x limit) refl
 -- named sizes ------------------------------------------------------------------------------------------------------------
 
 module _ (s p n : Str) where
-  module _ (r : EnumStep) (f : Cursor) (i : f ≡ start) (h : enumIn n (enumsAt s p (f .at)) ≡ enumFound s p r) where
-    pub enum-size-none : r ≡ NoEnum → none ≡ enumSize (enumsAt s p 0) n
-    unfolding enumSize mapOption
-    enum-size-none m = sym (ap (mapOption (λ (e : Enum). e .size)) ((rw i at h) ∙ ap (enumFound s p) m))
-
-    pub enum-size-some : (e : D.Enum.Enum) (k : Cursor) → r ≡ AnEnum e k → some (e .size) ≡ enumSize (enumsAt s p 0) n
-    unfolding enumSize mapOption
-    enum-size-some e k m = sym (ap (mapOption (λ (e : Enum). e .size)) ((rw i at h) ∙ ap (enumFound s p) m))
-
   module _ (w : List Scalar) (r : AliasStep) (f : Cursor) (i : f ≡ start) (h : aliasIn n (aliasesAt s p (f .at)) ≡ aliasFound s p r) where
     pub alias-size-none : r ≡ NoAlias → none ≡ aliasSize w (aliasesAt s p 0) n
     unfolding aliasSize mapOption
@@ -120,16 +116,51 @@ module _ (s p n : Str) where
     unfolding aliasSize mapOption
     alias-size-some e k x z m j g = ap some (g ∙ ap (primSize w) j) ∙ sym (ap (mapOption (λ (e : Alias). primSize w (e .underlying))) ((rw i at h) ∙ ap (aliasFound s p) m))
 
-  module _ (r : BitfieldStep) (f : Cursor) (i : f ≡ start) (h : bitfieldIn n (bitfieldsAt s p (f .at)) ≡ bitfieldFound s p r) where
-    pub bitfield-size-none : r ≡ NoBitfield → none ≡ bitfieldSize (bitfieldsAt s p 0) n
-    unfolding bitfieldSize mapOption
-    bitfield-size-none m = sym (ap (mapOption (λ (e : BitField). e .size)) ((rw i at h) ∙ ap (bitfieldFound s p) m))
+pub ruleset named-size-laws = (alias-size-none, alias-size-some)
 
-    pub bitfield-size-some : (e : D.Bitfield.Bitfield) (k : Cursor) → r ≡ ABitfield e k → some (e .size) ≡ bitfieldSize (bitfieldsAt s p 0) n
-    unfolding bitfieldSize mapOption
-    bitfield-size-some e k m = sym (ap (mapOption (λ (e : BitField). e .size)) ((rw i at h) ∙ ap (bitfieldFound s p) m))
+-- the first enum of a name, by the places of the enums
+module _ (s p n : Str) (at : ℕ) (r : Sought) (i : SoughtFrom s Anything 4 at r) where
+  pub enum-size-end : r ≡ Nowhere → enumSize (enumsAt s p at) n ≡ none
+  unfolding enumSize mapOption
+  enum-size-end m = ap (mapOption (λ (e : Enum). e .size)) (find-enum-none s at NoEnum (enums-none s at r i m) p n refl)
 
-pub ruleset named-size-laws = (enum-size-none, enum-size-some, alias-size-none, alias-size-some, bitfield-size-none, bitfield-size-some)
+  module _ (a k : ℕ) (m : r ≡ At a k) (y : Str) (d : y ≡ drop a s) (t : Text) (e : t ≡ textAt y 1) (x : Str) (g : x ≡ textOf p t) (b : Bool) (q : b ≡ eqs x n) where
+    found : EnumsFrom s at (AnEnum (enumAt y) (place k))
+    found = enums-found s at r i a k m y (enumAt y) (place k) d refl refl
+
+    pub enum-size-hit : (z : ℕ) → b ≡ true → z ≡ u32At y 4 → enumSize (enumsAt s p at) n ≡ some z
+    unfolding enumSize mapOption
+    enum-size-hit z h l =
+        ap (mapOption (λ (v : Enum). v .size)) (find-enum-hit s at (AnEnum (enumAt y) (place k)) found p n x b (enumAt y) (place k) refl (g ∙ ap (textOf p) e) q h) ∙ ap some (sym l)
+
+    pub enum-size-miss : b ≡ false → enumSize (enumsAt s p at) n ≡ enumSize (enumsAt s p k) n
+    unfolding enumSize
+    enum-size-miss h =
+        ap (mapOption (λ (v : Enum). v .size)) (find-enum-miss s at (AnEnum (enumAt y) (place k)) found p n x b (enumAt y) (place k) refl (g ∙ ap (textOf p) e) q h)
+
+pub ruleset enum-size-laws = (enum-size-end, enum-size-hit, enum-size-miss)
+
+-- the first bit field of a name, the same way
+module _ (s p n : Str) (at : ℕ) (r : Sought) (i : SoughtFrom s Anything 6 at r) where
+  pub bitfield-size-end : r ≡ Nowhere → bitfieldSize (bitfieldsAt s p at) n ≡ none
+  unfolding bitfieldSize mapOption
+  bitfield-size-end m = ap (mapOption (λ (e : BitField). e .size)) (find-bitfield-none s at NoBitfield (bitfields-none s at r i m) p n refl)
+
+  module _ (a k : ℕ) (m : r ≡ At a k) (y : Str) (d : y ≡ drop a s) (t : Text) (e : t ≡ textAt y 1) (x : Str) (g : x ≡ textOf p t) (b : Bool) (q : b ≡ eqs x n) where
+    bits-found : BitfieldsFrom s at (ABitfield (bitfieldAt y) (place k))
+    bits-found = bitfields-found s at r i a k m y (bitfieldAt y) (place k) d refl refl
+
+    pub bitfield-size-hit : (z : ℕ) → b ≡ true → z ≡ u32At y 4 → bitfieldSize (bitfieldsAt s p at) n ≡ some z
+    unfolding bitfieldSize mapOption
+    bitfield-size-hit z h l =
+        ap (mapOption (λ (v : BitField). v .size)) (find-bitfield-hit s at (ABitfield (bitfieldAt y) (place k)) bits-found p n x b (bitfieldAt y) (place k) refl (g ∙ ap (textOf p) e) q h) ∙ ap some (sym l)
+
+    pub bitfield-size-miss : b ≡ false → bitfieldSize (bitfieldsAt s p at) n ≡ bitfieldSize (bitfieldsAt s p k) n
+    unfolding bitfieldSize
+    bitfield-size-miss h =
+        ap (mapOption (λ (v : BitField). v .size)) (find-bitfield-miss s at (ABitfield (bitfieldAt y) (place k)) bits-found p n x b (bitfieldAt y) (place k) refl (g ∙ ap (textOf p) e) q h)
+
+pub ruleset bitfield-size-laws = (bitfield-size-end, bitfield-size-hit, bitfield-size-miss)
 
 module _ (n : OptNumber) (d : ℕ) where
   pub or-missing : n ≡ Missing → d ≡ orElse (numberOf n) d

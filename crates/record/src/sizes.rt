@@ -1,21 +1,23 @@
 // The sizes of fields, in bytes. A size is exact as far as the limit of number 9, and one more stands for all that are larger: number 9 refuses
 // every record that has one, so nothing after the reader sees the difference.
 use crate::command::Cursor;
+use crate::cut;
 use crate::kind::Kind;
 use crate::kind::kind_of;
+use crate::le::u32_at;
 use crate::lists::AliasStep;
-use crate::lists::BitfieldStep;
-use crate::lists::EnumStep;
 use crate::lists::find_alias;
-use crate::lists::find_bitfield;
-use crate::lists::find_enum;
 use crate::operands::OptNumber;
 use crate::operands::OptText;
 use crate::operands::opt_number_at;
 use crate::operands::opt_text_at;
 use crate::operands::text_at;
 use crate::scalars::prim_size;
+use crate::seek::Between;
+use crate::seek::Sought;
+use crate::seek::seek;
 use crate::text::bytes_of;
+use crate::text::same;
 ghost use mathlib.Core.Path.{_≡_};
 ghost use mathlib.Core.Option.{none};
 ghost use Prim.Native.Nat.{_*_, _+_};
@@ -78,13 +80,21 @@ pub fn or_else(n: OptNumber, d: u32) -> u32
     x
 }
 
+// By the places of the enums: of those with other names nothing but the name is read.
 pub fn enum_size(stream: &[u8], pool: &[u8], name: &[u8]) -> OptNumber
     ensures { λ r. ⌜ numberOf r ≡ enumSize (enumsAt (now (stream .entry)) (now (pool .entry)) 0) (now (name .entry)) ⌝ }
 {
-    let EnumStep::AnEnum(e, _) = find_enum(stream, pool, Cursor::new(), name) else {
-        return OptNumber::Missing;
-    };
-    OptNumber::Number(e.size)
+    let mut at = 0;
+    loop {
+        let Sought::At(place, after) = seek(stream, at, 4, Between::Anything) else {
+            return OptNumber::Missing;
+        };
+        let s = cut::from(stream, place);
+        if same(bytes_of(pool, text_at(s, 1)), name) {
+            return OptNumber::Number(u32_at(s, 4));
+        }
+        at = after;
+    }
 }
 
 pub fn alias_size(rows: &[u8], stream: &[u8], pool: &[u8], name: &[u8]) -> OptNumber
@@ -96,13 +106,21 @@ pub fn alias_size(rows: &[u8], stream: &[u8], pool: &[u8], name: &[u8]) -> OptNu
     OptNumber::Number(prim_size(rows, bytes_of(pool, e.underlying)))
 }
 
+// By the places of the bit fields, as an enum's.
 pub fn bitfield_size(stream: &[u8], pool: &[u8], name: &[u8]) -> OptNumber
     ensures { λ r. ⌜ numberOf r ≡ bitfieldSize (bitfieldsAt (now (stream .entry)) (now (pool .entry)) 0) (now (name .entry)) ⌝ }
 {
-    let BitfieldStep::ABitfield(e, _) = find_bitfield(stream, pool, Cursor::new(), name) else {
-        return OptNumber::Missing;
-    };
-    OptNumber::Number(e.size)
+    let mut at = 0;
+    loop {
+        let Sought::At(place, after) = seek(stream, at, 6, Between::Anything) else {
+            return OptNumber::Missing;
+        };
+        let s = cut::from(stream, place);
+        if same(bytes_of(pool, text_at(s, 1)), name) {
+            return OptNumber::Number(u32_at(s, 4));
+        }
+        at = after;
+    }
 }
 
 // A scalar whose word is left out is a byte.
