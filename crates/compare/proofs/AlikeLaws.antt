@@ -1,8 +1,8 @@
 -- Fields that are alike are the same, and what is passed over does not count. p is the first pool and q the second. Assumes nothing.
-use Prim.Native.Nat.{ℕ, _+_, _-_, _/_, _≤_, _<_}
+use Prim.Native.Nat.{ℕ, _+_, _-_, _/_, _<_}
 use mathlib.Core.Path.{_≡_, refl, sym, ap, ap₂, subst, _∙_}
 use mathlib.Core.List.{List, _∷_}
-use mathlib.Core.Option.{Option, none, some}
+use mathlib.Core.Option.{none, some}
 use mathlib.Core.Bool.{Bool, true, false, _&&_, Bool·beq}
 use native.Mathlib.Omega.{arith}
 use borrow.Author.Tests.{eq-eqb}
@@ -26,7 +26,7 @@ use Rattle.record.specs.declared.lists.FieldStep.the-variants.{AField}
 use Rattle.record.specs.declared.seek.Between.the-variants.{Keys}
 use Rattle.record.specs.declared.seek.Sought.{Sought}
 use Rattle.record.specs.declared.seek.Sought.the-variants.{At}
-use Rattle.record.proofs.Basics.{eqs→eq, eqs-refl}
+use Rattle.record.proofs.Basics.{eqs-refl}
 use Rattle.record.proofs.SeekLaws.{sought-nearer}
 use Rattle.record.proofs.StepLaws.{fields-found}
 use Rattle.record.proofs.DescribeLaws.{described-keyless}
@@ -36,6 +36,7 @@ use Rattle.layout.specs.declared.spots.Ahead.the-variants.{Body}
 use Rattle.layout.specs.declared.spots.SpotCursor.{SpotCursor}
 use Rattle.layout.proofs.SpotLaws.{sized-so, field-passed, passed-sound}
 use Rattle.definition.specs.Fields.{eqPlace, eqPlaces}
+use Rattle.compare.proofs.LayoutLaws.{same-word}
 use Rattle.compare.specs.Alike.{SameNumbers, SameTexts, AlikePassed, AlikeNext, alikeFrom}
 use Rattle.compare.specs.declared.alike.AlikeStep.{AlikeStep}
 use Rattle.compare.specs.declared.alike.AlikeStep.the-variants.{Differ, Alike}
@@ -54,9 +55,6 @@ pub ruleset numbers-laws = (numbers-missing, numbers-given)
 pub sizes-alike : (f g : C.Field.Field) (a b c d : Bool) → (a ≡ true → numberOf (f .count) ≡ numberOf (g .count)) → a ≡ true → (b ≡ true → numberOf (f .rows) ≡ numberOf (g .rows)) → b ≡ true
     → (c ≡ true → numberOf (f .cols) ≡ numberOf (g .cols)) → c ≡ true → (d ≡ true → numberOf (f .size) ≡ numberOf (g .size)) → d ≡ true → SameNumbers f g
 sizes-alike f g a b c d h i j k l m n o = record { count = h i; rows = j k; cols = l m; size = n o }
-
-same-word : (x y u v : Str) (b : Bool) → x ≡ u → y ≡ v → b ≡ eqs x y → b ≡ true → u ≡ v
-same-word x y u v b f g h e = sym f ∙ eqs→eq x y (sym h ∙ e) ∙ g
 
 pub texts-alike : (p q : Str) (f g : C.Field.Field) (x y u v : Str) (a b c d : Bool) → x ≡ textOf p (f .name) → y ≡ textOf q (g .name) → a ≡ eqs x y → a ≡ true
     → u ≡ textOf p (f .kind) → v ≡ textOf q (g .kind) → b ≡ eqs u v → b ≡ true → (c ≡ true → optOf p (f .«type_name») ≡ optOf q (g .«type_name»)) → c ≡ true

@@ -52,10 +52,10 @@ pub same-described : (p q : Str) (d e : Description) {a b a' b' : Str} {m n : �
 same-described p q d e t f g h i j k z = z ∙ ap₂ eqs (read-back f (omega arith) h (omega arith)) (read-back i (omega arith) k (omega arith))
 
 -- descriptions that are alike part by part
-module _ (p q : Str) where
-  same-word : (x y u v : Str) (b : Bool) → x ≡ u → y ≡ v → b ≡ eqs x y → b ≡ true → u ≡ v
-  same-word x y u v b f g h e = sym f ∙ eqs→eq x y (sym h ∙ e) ∙ g
+pub same-word : (x y u v : Str) (b : Bool) → x ≡ u → y ≡ v → b ≡ eqs x y → b ≡ true → u ≡ v
+same-word x y u v b f g h e = sym f ∙ eqs→eq x y (sym h ∙ e) ∙ g
 
+module _ (p q : Str) where
   module _ (a b : OptText) where
     pub words-absent : a ≡ Absent → b ≡ Absent → optOf p a ≡ optOf q b
     words-absent m n = rw (m, n)

@@ -1,7 +1,7 @@
 -- Fields of two types that are alike: what the code passes over where it compares the fields of two types. Assumes nothing.
 use mathlib.Core.Path.{_≡_}
 use mathlib.Core.List.{List}
-use Prim.Native.Nat.{ℕ, _+_, _-_, _≤_, _<_}
+use Prim.Native.Nat.{ℕ, _+_, _-_, _<_}
 use lib.ListN.{length}
 use Rattle.record.specs.Base.{Str}
 use Rattle.record.specs.Stretch.{textOf}
@@ -11,7 +11,7 @@ use Rattle.record.specs.Lists.{optOf, numberOf}
 use Rattle.record.specs.Shapes.{capped}
 use Rattle.record.specs.Reading.{rec}
 use Rattle.record.specs.declared.command as C
-use Rattle.layout.specs.Spots.{cursorAt, placesFrom, spotsLeft, Sound}
+use Rattle.layout.specs.Spots.{cursorAt, placesFrom, Sound}
 use Rattle.layout.specs.declared.spots.Ahead.the-variants.{Body}
 use Rattle.layout.specs.declared.spots.SpotCursor.{SpotCursor}
 use Rattle.definition.specs.Fields.{eqPlaces}
@@ -32,7 +32,7 @@ pub record SameTexts (p q : Str) (f g : C.Field.Field) : Type 0 where
   pub typ : optOf p (f .«type_name») ≡ optOf q (g .«type_name»)
   pub element : optOf p (f .element) ≡ optOf q (g .element)
 
--- the fields from one pair of cursors on are the same where those from another pair on are, which are not further from the end
+-- the fields from one pair of cursors on are the same where those from another pair on are
 pub record AlikePassed (s p : Str) (z : List ℕ) (b q : Str) (y : List ℕ) (c c₀ d d₀ : SpotCursor) : Type 0 where
   pub same : (w : List Scalar) → Sound (rec s p w) z c → Sound (rec b q w) y c₀
       → eqPlaces (placesFrom (rec s p w) c) (placesFrom (rec b q w) c₀) ≡ eqPlaces (placesFrom (rec s p w) d) (placesFrom (rec b q w) d₀)
