@@ -17,7 +17,6 @@ use Rattle.record.specs.Write.{largest, Puts}
 use Rattle.record.specs.Lists.{optOf}
 use Rattle.record.specs.Describe.{describedAs}
 use Rattle.record.specs.Reading.{Rec, rec}
-use Rattle.record.specs.Read.{Exact}
 use Rattle.record.specs.declared.text.Text.{Text}
 use Rattle.record.specs.declared.operands.OptText.{OptText}
 use Rattle.record.specs.declared.operands.OptText.the-variants.{Absent, Given}
@@ -28,7 +27,6 @@ use Rattle.record.proofs.ListLaws.{find-none, find-hit, find-miss}
 use Rattle.record.proofs.WriterLaws.{puts-exact, puts-front}
 use Rattle.layout.specs.Handles.{layoutOf}
 use Rattle.layout.specs.Table.{Typed}
-use Rattle.layout.specs.FieldSizes.{SizesTable}
 use Rattle.layout.specs.Spots.{spotOf, placesFrom, spotsLeft, Sound, stepLeft, SpotsFrom, TypeSpots, OthersPassed}
 use Rattle.layout.specs.declared.spots.Spot.{Spot}
 use Rattle.layout.specs.declared.spots.SpotCursor.{SpotCursor}
@@ -54,10 +52,10 @@ pub same-described : (p q : Str) (d e : Description) {a b a' b' : Str} {m n : �
 same-described p q d e t f g h i j k z = z ∙ ap₂ eqs (read-back f (omega arith) h (omega arith)) (read-back i (omega arith) k (omega arith))
 
 -- descriptions that are alike part by part
-module _ (p q : Str) where
-  same-word : (x y u v : Str) (b : Bool) → x ≡ u → y ≡ v → b ≡ eqs x y → b ≡ true → u ≡ v
-  same-word x y u v b f g h e = sym f ∙ eqs→eq x y (sym h ∙ e) ∙ g
+pub same-word : (x y u v : Str) (b : Bool) → x ≡ u → y ≡ v → b ≡ eqs x y → b ≡ true → u ≡ v
+same-word x y u v b f g h e = sym f ∙ eqs→eq x y (sym h ∙ e) ∙ g
 
+module _ (p q : Str) where
   module _ (a b : OptText) where
     pub words-absent : a ≡ Absent → b ≡ Absent → optOf p a ≡ optOf q b
     words-absent m n = rw (m, n)
@@ -123,27 +121,27 @@ module _ (p q : Str) (x y : Spot) where
     spot-same t e i j k d =
         rw (← f, ← g, ← h, e, eq-eqb (x .offset) (y .offset) i, eq-eqb (x .size) (y .size) j, ← d, not-self (Bool·beq (x .padding) (y .padding)) false k, and-true)
 
--- all fields of two types ----------------------------------------------------------------------------------------------------
+-- the fields of two types ----------------------------------------------------------------------------------------------------
 
--- the fields of the types agree so far: they are the same where those still ahead are
-pub record Agreed (r r₀ : Rec) (z z₀ : List ℕ) (h h₀ : ℕ) (c c₀ : SpotCursor) : Type 0 where
+-- the fields from two cursors on agree so far: they are the same where those still ahead are
+pub record Agreed (r r₀ : Rec) (z z₀ : List ℕ) (v v₀ c c₀ : SpotCursor) : Type 0 where
   pub sound : Sound r z c
   pub sound₀ : Sound r₀ z₀ c₀
-  pub same : eqPlaces (layoutOf r h .fields) (layoutOf r₀ h₀ .fields) ≡ eqPlaces (placesFrom r c) (placesFrom r₀ c₀)
+  pub same : eqPlaces (placesFrom r v) (placesFrom r₀ v₀) ≡ eqPlaces (placesFrom r c) (placesFrom r₀ c₀)
 
-module _ (s p b q : Str) (w : List Scalar) (z z₀ : List ℕ) (h h₀ : ℕ) (c c₀ : SpotCursor) where
+pub agreed-start : (r r₀ : Rec) (z z₀ : List ℕ) (c c₀ : SpotCursor) → Sound r z c → Sound r₀ z₀ c₀ → Agreed r r₀ z z₀ c c₀ c c₀
+agreed-start r r₀ z z₀ c c₀ d d₀ = record { sound = d; sound₀ = d₀; same = refl }
+
+module _ (s p b q : Str) (w : List Scalar) (z z₀ : List ℕ) (v v₀ c c₀ : SpotCursor) where
   abbrev R : Rec
   R = rec s p w
 
   abbrev R₀ : Rec
   R₀ = rec b q w
 
-  pub agreed-start : Typed s h → SizesTable R z → Exact R → Typed b h₀ → SizesTable R₀ z₀ → Exact R₀ → TypeSpots s h c → TypeSpots b h₀ c₀ → Agreed R R₀ z z₀ h h₀ c c₀
-  agreed-start t n x t₀ n₀ x₀ k k₀ = record { sound = k .sound t p w z n x; sound₀ = k₀ .sound t₀ q w z₀ n₀ x₀; same = ap₂ eqPlaces (sym (k .list t p w)) (sym (k₀ .list t₀ q w)) }
-
-  module _ (a : Agreed R R₀ z z₀ h h₀ c c₀) (o o₀ : SpotStep) (f : SpotsFrom R z c o) (f₀ : SpotsFrom R₀ z₀ c₀ o₀) where
+  module _ (a : Agreed R R₀ z z₀ v v₀ c c₀) (o o₀ : SpotStep) (f : SpotsFrom R z c o) (f₀ : SpotsFrom R₀ z₀ c₀ o₀) where
     abbrev all : Bool
-    all = eqPlaces (layoutOf R h .fields) (layoutOf R₀ h₀ .fields)
+    all = eqPlaces (placesFrom R v) (placesFrom R₀ v₀)
 
     pub agreed-end : o ≡ NoSpot → o₀ ≡ NoSpot → true ≡ all
     unfolding eqPlaces
@@ -168,13 +166,18 @@ module _ (s p b q : Str) (w : List Scalar) (z z₀ : List ℕ) (h h₀ : ℕ) (c
         pub agreed-other : t ≡ false → false ≡ all
         agreed-other g = sym (next ∙ ap (λ (i : Bool). i && eqPlaces (placesFrom R k) (placesFrom R₀ k₀)) g)
 
-        pub agreed-on : t ≡ true → Agreed R R₀ z z₀ h h₀ k k₀
+        pub agreed-on : t ≡ true → Agreed R R₀ z z₀ v v₀ k k₀
         agreed-on g =
             record {
               sound = spots-sound s p w z c o f x k m (a .sound);
               sound₀ = spots-sound b q w z₀ c₀ o₀ f₀ y k₀ m₀ (a .sound₀);
               same = next ∙ ap (λ (i : Bool). i && eqPlaces (placesFrom R k) (placesFrom R₀ k₀)) g;
             }
+
+-- all fields of two types, by their handles
+pub fields-same : (s p b q : Str) (w : List Scalar) (h h₀ : ℕ) (c c₀ : SpotCursor) (t : Bool) → Typed s h → Typed b h₀ → TypeSpots s h c → TypeSpots b h₀ c₀
+    → t ≡ eqPlaces (placesFrom (rec s p w) c) (placesFrom (rec b q w) c₀) → t ≡ eqPlaces (layoutOf (rec s p w) h .fields) (layoutOf (rec b q w) h₀ .fields)
+fields-same s p b q w h h₀ c c₀ t y y₀ k k₀ e = e ∙ ap₂ eqPlaces (k .list y p w) (k₀ .list y₀ q w)
 
 -- a field by its name ------------------------------------------------------------------------------------------------------
 

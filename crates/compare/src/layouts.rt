@@ -1,4 +1,5 @@
 // The fields of types compared with one another, and looked up by name.
+use crate::alike::pass_alike;
 use layout::spots::Spot;
 use layout::spots::SpotCursor;
 use layout::spots::SpotStep;
@@ -26,7 +27,7 @@ ghost use Rattle.definition.specs.Fields.{placeIn, eqPlace, eqPlaces};
 ghost use Rattle.compare.specs.Layouts.{spotFound};
 
 // Whether two texts that may be absent are alike, each in its pool.
-fn alike_words(pool: &[u8], a: OptText, old: &[u8], b: OptText) -> bool
+pub(crate) fn alike_words(pool: &[u8], a: OptText, old: &[u8], b: OptText) -> bool
     ensures { λ r. ⌜ (r ≡ true → optOf (now (pool .entry)) a ≡ optOf (now (old .entry)) b) ⌝ }
 {
     let OptText::Given(x) = a else {
@@ -113,23 +114,23 @@ pub fn same_spot(pool: &[u8], x: Spot, old: &[u8], y: Spot) -> bool
     false
 }
 
-// Whether two types have the same fields in the same order, padding included.
-pub(crate) fn same_fields(
+// Whether the fields from two cursors on are the same in the same order, padding included.
+fn same_rest(
     rows: &[u8],
     stream: &[u8],
     pool: &[u8],
     sizes: &[u64],
-    handle: u32,
+    from: SpotCursor,
     past: &[u8],
     old: &[u8],
     widths: &[u64],
-    other: u32,
+    other: SpotCursor,
 ) -> bool
-    requires { ⌜ (Typed (now stream) handle × SizesTable (rec (now stream) (now pool) (scalarsOf (now rows))) (now sizes) × Exact (rec (now stream) (now pool) (scalarsOf (now rows)))) × (Typed (now past) other × SizesTable (rec (now past) (now old) (scalarsOf (now rows))) (now widths) × Exact (rec (now past) (now old) (scalarsOf (now rows)))) ⌝ }
-    ensures { λ r. ⌜ r ≡ eqPlaces (layoutOf (rec (now (stream .entry)) (now (pool .entry)) (scalarsOf (now (rows .entry)))) handle .fields) (layoutOf (rec (now (past .entry)) (now (old .entry)) (scalarsOf (now (rows .entry)))) other .fields) ⌝ }
+    requires { ⌜ Sound (rec (now stream) (now pool) (scalarsOf (now rows))) (now sizes) from × Sound (rec (now past) (now old) (scalarsOf (now rows))) (now widths) other ⌝ }
+    ensures { λ r. ⌜ r ≡ eqPlaces (placesFrom (rec (now (stream .entry)) (now (pool .entry)) (scalarsOf (now (rows .entry)))) from) (placesFrom (rec (now (past .entry)) (now (old .entry)) (scalarsOf (now (rows .entry)))) other) ⌝ }
 {
-    let mut is = first_spot(stream, handle);
-    let mut was = first_spot(past, other);
+    let mut is = from;
+    let mut was = other;
     loop {
         let step = next_spot(rows, stream, pool, sizes, is);
         let second = next_spot(rows, past, old, widths, was);
@@ -149,6 +150,47 @@ pub(crate) fn same_fields(
             return false;
         }
     }
+}
+
+// The same, those that are alike first.
+fn same_ahead(
+    rows: &[u8],
+    stream: &[u8],
+    pool: &[u8],
+    sizes: &[u64],
+    from: SpotCursor,
+    past: &[u8],
+    old: &[u8],
+    widths: &[u64],
+    other: SpotCursor,
+) -> bool
+    requires { ⌜ Sound (rec (now stream) (now pool) (scalarsOf (now rows))) (now sizes) from × Sound (rec (now past) (now old) (scalarsOf (now rows))) (now widths) other ⌝ }
+    ensures { λ r. ⌜ r ≡ eqPlaces (placesFrom (rec (now (stream .entry)) (now (pool .entry)) (scalarsOf (now (rows .entry)))) from) (placesFrom (rec (now (past .entry)) (now (old .entry)) (scalarsOf (now (rows .entry)))) other) ⌝ }
+{
+    let both = pass_alike(stream, pool, sizes, from, past, old, widths, other);
+    let is = both.is;
+    let was = both.was;
+    same_rest(rows, stream, pool, sizes, is, past, old, widths, was)
+}
+
+// Whether two types have the same fields in the same order, padding included.
+pub(crate) fn same_fields(
+    rows: &[u8],
+    stream: &[u8],
+    pool: &[u8],
+    sizes: &[u64],
+    handle: u32,
+    past: &[u8],
+    old: &[u8],
+    widths: &[u64],
+    other: u32,
+) -> bool
+    requires { ⌜ (Typed (now stream) handle × SizesTable (rec (now stream) (now pool) (scalarsOf (now rows))) (now sizes) × Exact (rec (now stream) (now pool) (scalarsOf (now rows)))) × (Typed (now past) other × SizesTable (rec (now past) (now old) (scalarsOf (now rows))) (now widths) × Exact (rec (now past) (now old) (scalarsOf (now rows)))) ⌝ }
+    ensures { λ r. ⌜ r ≡ eqPlaces (layoutOf (rec (now (stream .entry)) (now (pool .entry)) (scalarsOf (now (rows .entry)))) handle .fields) (layoutOf (rec (now (past .entry)) (now (old .entry)) (scalarsOf (now (rows .entry)))) other .fields) ⌝ }
+{
+    let is = first_spot(stream, handle);
+    let was = first_spot(past, other);
+    same_ahead(rows, stream, pool, sizes, is, past, old, widths, was)
 }
 
 // The first field of that name from a cursor on.

@@ -1,0 +1,50 @@
+-- Fields of two types that are alike: what the code passes over where it compares the fields of two types. Assumes nothing.
+use mathlib.Core.Path.{_≡_}
+use mathlib.Core.List.{List}
+use Prim.Native.Nat.{ℕ, _+_, _-_, _<_}
+use lib.ListN.{length}
+use Rattle.record.specs.Base.{Str}
+use Rattle.record.specs.Stretch.{textOf}
+use Rattle.record.specs.Scalars.{Scalar}
+use Rattle.record.specs.Commands.{place}
+use Rattle.record.specs.Lists.{optOf, numberOf}
+use Rattle.record.specs.Shapes.{capped}
+use Rattle.record.specs.Reading.{rec}
+use Rattle.record.specs.declared.command as C
+use Rattle.layout.specs.Spots.{cursorAt, placesFrom, Sound}
+use Rattle.layout.specs.declared.spots.Ahead.the-variants.{Body}
+use Rattle.layout.specs.declared.spots.SpotCursor.{SpotCursor}
+use Rattle.definition.specs.Fields.{eqPlaces}
+use Rattle.compare.specs.declared.alike.AlikeStep.{AlikeStep}
+use Rattle.compare.specs.declared.alike.AlikeStep.the-variants.{Differ, Alike}
+
+-- the numbers of two fields
+pub record SameNumbers (f g : C.Field.Field) : Type 0 where
+  pub count : numberOf (f .count) ≡ numberOf (g .count)
+  pub rows : numberOf (f .rows) ≡ numberOf (g .rows)
+  pub cols : numberOf (f .cols) ≡ numberOf (g .cols)
+  pub size : numberOf (f .size) ≡ numberOf (g .size)
+
+-- the texts of two fields
+pub record SameTexts (p q : Str) (f g : C.Field.Field) : Type 0 where
+  pub name : textOf p (f .name) ≡ textOf q (g .name)
+  pub kind : textOf p (f .kind) ≡ textOf q (g .kind)
+  pub typ : optOf p (f .«type_name») ≡ optOf q (g .«type_name»)
+  pub element : optOf p (f .element) ≡ optOf q (g .element)
+
+-- the fields from one pair of cursors on are the same where those from another pair on are
+pub record AlikePassed (s p : Str) (z : List ℕ) (b q : Str) (y : List ℕ) (c c₀ d d₀ : SpotCursor) : Type 0 where
+  pub same : (w : List Scalar) → Sound (rec s p w) z c → Sound (rec b q w) y c₀
+      → eqPlaces (placesFrom (rec s p w) c) (placesFrom (rec b q w) c₀) ≡ eqPlaces (placesFrom (rec s p w) d) (placesFrom (rec b q w) d₀)
+  pub sound : (w : List Scalar) → Sound (rec s p w) z c → Sound (rec b q w) y c₀ → Sound (rec s p w) z d
+  pub sound₀ : (w : List Scalar) → Sound (rec s p w) z c → Sound (rec b q w) y c₀ → Sound (rec b q w) y d₀
+
+-- the next fields from two places on, whatever their one offset
+pub record AlikeNext (s p : Str) (z : List ℕ) (at : ℕ) (b q : Str) (y : List ℕ) (to k l size : ℕ) : Type 0 where
+  pub passed : (offset e : ℕ) → e ≡ capped (offset + size)
+      → AlikePassed s p z b q y (cursorAt (Body (place at)) offset) (cursorAt (Body (place to)) offset) (cursorAt (Body (place k)) e) (cursorAt (Body (place l)) e)
+  pub nearer : length s - k < length s - at
+
+abbrev pub alikeFrom : Str → Str → List ℕ → ℕ → Str → Str → List ℕ → ℕ → AlikeStep → Type 0
+alikeFrom s p z at b q y to Differ = Unit
+alikeFrom s p z at b q y to (Alike k l size) = AlikeNext s p z at b q y to k l size
