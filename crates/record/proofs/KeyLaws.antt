@@ -2,21 +2,25 @@
 use mathlib.Core.Path.{_≡_, refl, ap, _∙_}
 use mathlib.Core.List.{List}
 use Prim.Native.Nat.{ℕ}
+use lib.ListN.{drop}
 use Rattle.record.specs.Base.{Str, first, withSome}
 use Rattle.record.specs.Schema.{Key}
-use Rattle.record.specs.Commands.{start}
-use Rattle.record.specs.Steps.{keysAt, KeysFrom, fieldsAt, FieldsFrom, StructsFrom, UnstoredFrom}
+use Rattle.record.specs.Commands.{fieldAt, start, place}
+use Rattle.record.specs.Seek.{SoughtFrom}
+use Rattle.record.specs.Steps.{keysAt, KeysFrom, fieldsAt, StructsFrom, UnstoredFrom}
 use Rattle.record.specs.declared.command as D
 use Rattle.record.specs.declared.command.Cursor.{Cursor}
 use Rattle.record.specs.declared.lists.KeyStep.{KeyStep}
 use Rattle.record.specs.declared.lists.KeyStep.the-variants.{NoKey, AKey}
-use Rattle.record.specs.declared.lists.FieldStep.{FieldStep}
+use Rattle.record.specs.declared.seek.Between.the-variants as Between
+use Rattle.record.specs.declared.seek.Sought.{Sought}
+use Rattle.record.specs.declared.seek.Sought.the-variants.{Nowhere, At}
 use Rattle.record.specs.declared.lists.FieldStep.the-variants.{NoField, AField}
 use Rattle.record.specs.declared.lists.StructStep.{StructStep}
 use Rattle.record.specs.declared.lists.StructStep.the-variants.{NoStruct, AStruct}
 use Rattle.record.specs.declared.lists.UnstoredStep.{UnstoredStep}
 use Rattle.record.specs.declared.lists.UnstoredStep.the-variants.{NoUnstored, AnUnstored}
-use Rattle.record.proofs.StepLaws.{keys-now, keys-over-now, fields-now, fields-over-now, structs-now, structs-over-now, unstored-now, unstored-over-now}
+use Rattle.record.proofs.StepLaws.{keys-now, keys-over-now, fields-none, fields-found, fields-now, fields-over-now, structs-now, structs-over-now, unstored-now, unstored-over-now}
 use Rattle.record.specs.declared.keys.KeysAt.{KeysAt}
 use Rattle.record.specs.declared.keys.KeysAt.the-variants.{Structs, Fields, Unstored}
 use Rattle.record.specs.declared.keys.PluginKeyStep.{PluginKeyStep}
@@ -32,24 +36,32 @@ pub record Keyless (s : Str) (a b : ℕ) : Type 0 where
 pub keyless-here : (s : Str) (a : ℕ) → Keyless s a a
 keyless-here s a = record { same = λ p l. refl }
 
-module _ (s : Str) (a at : ℕ) (o : Keyless s a at) (r : FieldStep) (f : FieldsFrom s at r) where
-  pub fields-ended : r ≡ NoField → InFields s a NoKey
+module _ (s : Str) (a at : ℕ) (o : Keyless s a at) (r : Sought) (f : SoughtFrom s Between.Keys 11 at r) where
+  pub fields-ended : r ≡ Nowhere → InFields s a NoKey
   unfolding fieldKeys
-  fields-ended m = record { list = λ p l. o .same p l ∙ rw (fields-over-now s at r f p m) }
+  fields-ended m = record { list = λ p l. o .same p l ∙ rw (fields-over-now s at NoField (fields-none s at r f m) p refl) }
 
-  module _ (e : D.Field.Field) (k : Cursor) (m : r ≡ AField e k) (q : KeyStep) (g : KeysFrom s (k .at) q) where
+  module _ (b k : ℕ) (m : r ≡ At b k) (c : Cursor) (h : c ≡ place k) (q : KeyStep) (g : KeysFrom s (c .at) q) where
     -- the field's own key comes first
-    field-gives : (p : Str) (l : List Key) → fieldKeys (fieldsAt s p a) l ≡ withSome (first (keysAt s p (k .at))) (fieldKeys (fieldsAt s p (k .at)) l)
+    field-gives : (p : Str) (l : List Key) → fieldKeys (fieldsAt s p a) l ≡ withSome (first (keysAt s p (c .at))) (fieldKeys (fieldsAt s p (c .at)) l)
     unfolding fieldKeys
-    field-gives p l = o .same p l ∙ rw (fields-now s at r f p e k m)
+    field-gives p l =
+        let y = drop b s in
+        o .same p l ∙ rw (fields-now s at (AField (fieldAt y) c) (fields-found s at r f b k m y (fieldAt y) c refl refl h) p (fieldAt y) c refl)
 
-    pub field-keyed : (x : D.PluginKey.PluginKey) (z : Cursor) → q ≡ AKey x z → InFields s a (AKey x k)
+    pub field-keyed : (x : D.PluginKey.PluginKey) (z : Cursor) → q ≡ AKey x z → InFields s a (AKey x c)
     unfolding withSome first
-    field-keyed x z h = record { list = λ p l. field-gives p l ∙ rw (keys-now s (k .at) q g p x z h) }
+    field-keyed x z e = record { list = λ p l. field-gives p l ∙ rw (keys-now s (c .at) q g p x z e) }
 
-    pub field-keyless : q ≡ NoKey → Keyless s a (k .at)
+    pub field-keyless : q ≡ NoKey → Keyless s a k
     unfolding withSome first
-    field-keyless h = record { same = λ p l. field-gives p l ∙ rw (keys-over-now s (k .at) q g p h) }
+    field-keyless e =
+        record {
+          same = λ p l.
+              field-gives p l
+              ∙ rw (keys-over-now s (c .at) q g p e)
+              (ap (λ (n : ℕ). fieldKeys (fieldsAt s p n) l) (ap (λ (x : Cursor). x .at) h));
+        }
 
 pub ruleset field-key-laws = (fields-ended, field-keyed, field-keyless)
 

@@ -1,14 +1,15 @@
 // The walk over the plugin keys of a record: those of structures' fields in the record's order, then the unstored ones (plugin_keys of the Rust).
 use crate::command::Cursor;
 use crate::command::PluginKey;
-use crate::lists::FieldStep;
 use crate::lists::KeyStep;
 use crate::lists::StructStep;
 use crate::lists::UnstoredStep;
-use crate::lists::next_field;
 use crate::lists::next_key;
 use crate::lists::next_struct;
 use crate::lists::next_unstored;
+use crate::seek::Between;
+use crate::seek::Sought;
+use crate::seek::seek;
 ghost use Rattle.record.specs.declared.keys.KeysAt.the-variants.{Structs, Unstored};
 ghost use Rattle.record.specs.Keys.{AllKeys, InFields, PluginKeysFrom};
 
@@ -35,15 +36,16 @@ pub fn first_key() -> KeysAt
 fn next_in_fields(stream: &[u8], from: Cursor) -> KeyStep
     ensures { λ r. ⌜ InFields (now (stream .entry)) (from .at) r ⌝ }
 {
-    let mut cursor = from;
+    let mut at = from.at;
     loop {
-        let FieldStep::AField(_, after) = next_field(stream, cursor) else {
+        let Sought::At(_, after) = seek(stream, at, 11, Between::Keys) else {
             return KeyStep::NoKey;
         };
-        if let KeyStep::AKey(e, _) = next_key(stream, after) {
-            return KeyStep::AKey(e, after);
+        let here = Cursor::place(after);
+        if let KeyStep::AKey(e, _) = next_key(stream, here) {
+            return KeyStep::AKey(e, here);
         }
-        cursor = after;
+        at = after;
     }
 }
 
