@@ -5,35 +5,39 @@ use Rattle.compare.proofs.compare.check_short.Reads as reads
 use Rattle.compare.proofs.compare.check_short.Lts as lts
 use Rattle.compare.proofs.compare.check_lent.Reads as check-lent-reads
 
--- src/compare.rt:319:9
+-- src/compare.rt:328:9
 slice-aggregate-check-lent : tie.Need-slice-aggregate-check-lent
 slice-aggregate-check-lent c = search needs
 
--- src/compare.rt:320:9
+-- src/compare.rt:329:9
 slice-aggregate-check-lent-2 : tie.Need-slice-aggregate-check-lent-2
 slice-aggregate-check-lent-2 c = search needs
 
--- src/compare.rt:323:9
+-- src/compare.rt:332:9
 slice-aggregate-check-lent-3 : tie.Need-slice-aggregate-check-lent-3
 slice-aggregate-check-lent-3 c = search needs
 
--- src/compare.rt:324:9
+-- src/compare.rt:333:9
 slice-aggregate-check-lent-4 : tie.Need-slice-aggregate-check-lent-4
 slice-aggregate-check-lent-4 c = search needs
 
--- src/compare.rt:325:9
+-- src/compare.rt:334:9
 slice-aggregate-check-lent-5 : tie.Need-slice-aggregate-check-lent-5
 slice-aggregate-check-lent-5 c = search needs
 
--- src/compare.rt:326:9
+-- src/compare.rt:335:9
 slice-aggregate-check-lent-6 : tie.Need-slice-aggregate-check-lent-6
 slice-aggregate-check-lent-6 c = search needs
 
--- src/compare.rt:315:5
-check-lent-requires : tie.Need-check-lent-requires
-check-lent-requires c κs = (search needs, search needs, search needs, search needs, search needs, search needs, search needs, search needs, search needs, search needs, search needs, search needs)
+-- src/compare.rt:336:9
+slice-aggregate-check-lent-7 : tie.Need-slice-aggregate-check-lent-7
+slice-aggregate-check-lent-7 c = search needs
 
--- src/compare.rt:297:1
+-- src/compare.rt:324:5
+check-lent-requires : tie.Need-check-lent-requires
+check-lent-requires c κs = (search needs, search needs, search needs, search needs, search needs, search needs, search needs, search needs, search needs, search needs, search needs, search needs, search needs)
+
+-- src/compare.rt:305:1
 returns : tie.Need-returns
 returns c = search needs
 
@@ -47,5 +51,6 @@ check-short-spec =
     slice-aggregate-check-lent-4
     slice-aggregate-check-lent-5
     slice-aggregate-check-lent-6
+    slice-aggregate-check-lent-7
     check-lent-requires
     returns)
