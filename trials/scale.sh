@@ -30,7 +30,7 @@ step() {
     start=$(date +%s)
     printf '## %s\n\n' "$title" >>"$report"
     nice -n 15 "$@" >>"$report"
-    printf '(%s seconds)\n\n' "$(($(date +%s) - start))" >>"$report"
+    printf '\n(%s seconds)\n\n' "$(($(date +%s) - start))" >>"$report"
 }
 
 nice -n 15 cargo build --release --offline -j1
