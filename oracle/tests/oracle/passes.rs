@@ -361,6 +361,15 @@ fn g48_a_strange_kind_can_leave_over_two_links() {
 }
 
 #[test]
+fn g49_a_field_is_held_to_the_first_of_its_name() {
+    assert_eq!(number("g49 the second of two fields of a name"), 35);
+    assert_eq!(number("g49 a second field of a shipped name"), 0);
+    assert_eq!(number("g49 a field of a type with colons stays"), 0);
+    assert_eq!(number("g49 a field of a type with colons moves"), 35);
+    assert_eq!(number("g49 a flagged copy with a field"), 11);
+}
+
+#[test]
 fn g50_what_the_generation_clause_needs() {
     assert_eq!(
         number("g50 a structure x::v beside a standalone family x"),
@@ -385,6 +394,13 @@ fn g52_standing_can_be_walked_around() {
     assert_eq!(number("g52 a family becomes a structure"), 0);
     assert_eq!(number("g52 a structure becomes a standalone family"), 0);
     assert_eq!(number("g52 a family becomes standalone"), 38);
+}
+
+#[test]
+fn g54_a_changed_type_means_a_rise_of_one() {
+    assert_eq!(number("g54 a changed type and a rise of one"), 0);
+    assert_eq!(number("g54 a changed type and no rise"), 43);
+    assert_eq!(number("g54 a changed type and a rise of two"), 45);
 }
 
 #[test]

@@ -1,5 +1,5 @@
 //! Fixed pairs for what no pass notices and for the links of chains: findings
-//! F47 and G48 to G53.
+//! F47 and G48 to G54.
 
 use super::{FixedPair, metadata, now, pair, then};
 use crate::generate::make::{
@@ -9,7 +9,7 @@ use crate::generate::make::{
 use crate::model::Family;
 
 pub fn pairs() -> Vec<FixedPair> {
-    [unnoticed(), links(), holes()].concat()
+    [unnoticed(), links(), doubled(), holes(), neighbours()].concat()
 }
 
 /// Finding F47, and C23 with C28.
@@ -134,6 +134,57 @@ fn links() -> Vec<FixedPair> {
     ]
 }
 
+/// Finding G49: what the clauses of fields, values and members do without. A field is held to the first of its name, doublet or
+/// not, and so is one of a type with a colon in its name; a flagged copy that describes anything goes no further.
+fn doubled() -> Vec<FixedPair> {
+    let kept = |first: &str| {
+        structure("s")
+            .field(scalar("n", first))
+            .field(scalar("n", "u8"))
+    };
+    let colons = || structure("a::b").field(scalar("n:m", "u8"));
+    vec![
+        pair(
+            "g49 the second of two fields of a name",
+            now().with(kept("u16")),
+            then().with(kept("u16")),
+        ),
+        pair(
+            "g49 a second field of a shipped name",
+            now()
+                .with(
+                    metadata("s")
+                        .field(scalar("n", "u16"))
+                        .field(scalar("n", "u8")),
+                )
+                .with(integer("G", 4))
+                .with(version("s", 4)),
+            then()
+                .with(metadata("s").field(scalar("n", "u16")))
+                .with(integer("G", 3)),
+        ),
+        pair(
+            "g49 a field of a type with colons stays",
+            now().with(colons()),
+            then().with(colons()),
+        ),
+        pair(
+            "g49 a field of a type with colons moves",
+            now().with(
+                structure("a::b")
+                    .field(scalar("k", "u8"))
+                    .field(scalar("n:m", "u8")),
+            ),
+            then().with(colons()),
+        ),
+        pair(
+            "g49 a flagged copy with a field",
+            now().with(colons()),
+            then().unreleased().with(colons()),
+        ),
+    ]
+}
+
 /// Findings G50, G51 and G53: what the generation clause needs.
 fn holes() -> Vec<FixedPair> {
     let grown = || structure("x::v").field(scalar("n", "u8"));
@@ -202,5 +253,28 @@ fn holes() -> Vec<FixedPair> {
                 .with(integer("G", 3))
                 .with(structure("t")),
         ),
+    ]
+}
+
+/// Finding G54: a type under a generation changes between neighbours, and the number rises by one, not at all, or by two.
+fn neighbours() -> Vec<FixedPair> {
+    let m = || metadata("m").field(pointer("p", "t"));
+    let link = |label, generation: i64| {
+        pair(
+            label,
+            now()
+                .with(m())
+                .with(integer("G", generation))
+                .with(version("m", 3))
+                .with(version("m", 4))
+                .with(version("m", 5))
+                .with(structure("t").field(scalar("n", "u8"))),
+            then().with(m()).with(integer("G", 3)).with(structure("t")),
+        )
+    };
+    vec![
+        link("g54 a changed type and a rise of one", 4),
+        link("g54 a changed type and no rise", 3),
+        link("g54 a changed type and a rise of two", 5),
     ]
 }
