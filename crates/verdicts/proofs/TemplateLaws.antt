@@ -38,6 +38,12 @@ module _ (new old : Str) where
   arg-put a b e p = rw e p
 
   module _ (args : List Arg) where
+    pub piece-itself : {out after : Str} {at r : ℕ} (b : ℕ) → 32 ≤ b → Puts out at (b ∷ []) after r → Puts out at (argOf new old (pickOf args b)) after r
+    piece-itself b h p = arg-put (pickOf args b) (Byte b) (sym (pick-itself args b h)) p
+
+    pub piece-picked : {out after : Str} {at r : ℕ} (b : ℕ) (a : Arg) → a ≡ pickOf args b → Puts out at (argOf new old a) after r → Puts out at (argOf new old (pickOf args b)) after r
+    piece-picked b a e p = arg-put (pickOf args b) a (sym e) p
+
     filled-append : (s t : Str) → filled new old args (s ++ t) ≡ filled new old args s ++ filled new old args t
     unfolding filled
     filled-append [] t = refl

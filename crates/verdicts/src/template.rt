@@ -87,6 +87,16 @@ fn put_arg(out: &mut [u8], at: usize, a: Arg, new: &[u8], old: &[u8]) -> usize
     }
 }
 
+// Puts what a template's byte stands for. Most bytes stand for themselves, and those are put at once.
+fn put_piece(out: &mut [u8], at: usize, b: u8, args: [Arg; 5], new: &[u8], old: &[u8]) -> usize
+    ensures { λ r. ⌜ Puts (now (out .entry)) at (argOf (now (new .entry)) (now (old .entry)) (pickOf args b)) (now (out .exit)) r × (r ≤ at + 559) ⌝ }
+{
+    if 32 <= b {
+        return put(out, at, &[b]);
+    }
+    put_arg(out, at, pick(b, args), new, old)
+}
+
 // Puts a template with its arguments.
 fn fill(out: &mut [u8], at: usize, template: &[u8], args: [Arg; 5], new: &[u8], old: &[u8]) -> usize
     ensures { λ r. ⌜ Puts (now (out .entry)) at (filled (now (new .entry)) (now (old .entry)) args (now (template .entry))) (now (out .exit)) r × (r ≤ at + 559 * length (now (template .entry))) ⌝ }
@@ -94,7 +104,7 @@ fn fill(out: &mut [u8], at: usize, template: &[u8], args: [Arg; 5], new: &[u8], 
     let mut next = at;
     let mut i = 0;
     while i < template.len() {
-        next = put_arg(out, next, pick(template[i], args), new, old);
+        next = put_piece(out, next, template[i], args, new, old);
         i += 1;
     }
     next

@@ -1,4 +1,5 @@
 use Prim.Native.Nat.{_+_, _*_, _-_, _≤_}
+use mathlib.Core.Path.{refl}
 use native.Mathlib.Omega.{arith}
 use lib.ListN.{length, take}
 use Rattle.record.specs.Write.{Puts}
@@ -19,14 +20,11 @@ loop-holds : tie.Need-loop-holds Inv-loop μ-loop
 unfolding filled
 loop-holds c = (omega arith, omega arith, puts-none _ _ (omega arith) (omega arith))
 
-shared-slice-read-pick : tie.Need-shared-slice-read-pick Inv-loop μ-loop
-shared-slice-read-pick c = search needs
+shared-slice-read-put-piece : tie.Need-shared-slice-read-put-piece Inv-loop μ-loop
+shared-slice-read-put-piece c = search needs
 
-pick-requires : tie.Need-pick-requires Inv-loop μ-loop
-pick-requires c κs = search needs
-
-put-arg-requires : tie.Need-put-arg-requires Inv-loop μ-loop
-put-arg-requires c κs = search needs
+put-piece-requires : tie.Need-put-piece-requires Inv-loop μ-loop
+put-piece-requires c κs = search needs
 
 add-i : tie.Need-add-i Inv-loop μ-loop
 add-i c = search needs
@@ -36,9 +34,9 @@ loop-less c = search needs
 
 loop-again : tie.Need-loop-again Inv-loop μ-loop
 loop-again c =
-    let l = c .before .before .before .before .before .before .before .loop in
-    let a = c .before .before .before .before .before .before .before .before .before .before .before .before .args in
-    (omega arith, omega arith, fill-more (a .new .now) (a .old .now) (a .args) (a .template .now) (l .i) _ (c .before .before .before .before .before .before .loop-test .taken) (c .before .before .before .pick .ensures) (l .inv .2) (c .before .before .put-arg .ensures .0))
+    let l = c .before .before .before .before .before .before .loop in
+    let a = c .before .before .before .before .before .before .before .before .before .before .before .args in
+    (omega arith, omega arith, fill-more (a .new .now) (a .old .now) (a .args) (a .template .now) (l .i) _ (c .before .before .before .before .before .loop-test .taken) refl (l .inv .2) (c .before .before .put-piece .ensures .0))
 
 same-length : tie.Need-same-length Inv-loop μ-loop
 same-length c = search needs
@@ -53,9 +51,8 @@ fill-spec =
     Inv-loop
     μ-loop
     loop-holds
-    shared-slice-read-pick
-    pick-requires
-    put-arg-requires
+    shared-slice-read-put-piece
+    put-piece-requires
     add-i
     loop-less
     loop-again
