@@ -22,7 +22,7 @@ use Rattle.record.specs.declared.lists.MemberStep.{MemberStep}
 use Rattle.record.specs.declared.lists.MemberStep.the-variants.{NoMember, AMember}
 use Rattle.record.proofs.ListLaws.{find-none, find-hit, find-miss}
 use Rattle.record.proofs.StepLaws.{members-over-now, members-now, bitfields-over-now, bitfields-now}
-use Rattle.definition.specs.Verdicts.{bitMoved}
+use Rattle.definition.specs.Verdicts.{memberRenamed, memberGone, bitMoved}
 use Rattle.definition.specs.Pass.{_then_, ensure, onFound}
 use Rattle.definition.specs.Bitfields.{widthOf, spanIn, checkMember, checkMembers, checkBitfield, checkBitfields}
 use Rattle.compare.specs.Sought.{spansOf, SpanFrom}
@@ -86,6 +86,20 @@ module _ (bit wide : ℕ) (s : Str) (a at : ℕ) (r : MemberStep) (i : SpanOn bi
 
 pub ruleset span-laws = (span-none, span-hit, span-miss)
 
+-- a member that no member has the name of now
+module _ (s : Str) (o n : Text) (at bit wide : ℕ) (i : MemberStep) (j : SpanFrom bit wide s at i) where
+  pub unnamed-renamed : (e : Member) (k : Cursor) → i ≡ AMember e k
+      → (p q : Str) → meaning p q (MemberRenamed o n (e .name)) ≡ onFound (spanIn bit wide (membersAt s p at)) (memberGone (textOf q o) (textOf q n)) (λ (m : M.Member). memberRenamed (textOf q o) (textOf q n) (m .name))
+  unfolding meaning onFound
+  unnamed-renamed e k g p q = rw (j .this p, g)
+
+  pub unnamed-gone : i ≡ NoMember
+      → (p q : Str) → meaning p q (MemberGone o n) ≡ onFound (spanIn bit wide (membersAt s p at)) (memberGone (textOf q o) (textOf q n)) (λ (m : M.Member). memberRenamed (textOf q o) (textOf q n) (m .name))
+  unfolding meaning onFound
+  unnamed-gone g p q = rw (j .this p, g)
+
+pub ruleset unnamed-laws = (unnamed-renamed, unnamed-gone)
+
 -- one member
 module _ (s p q x : Str) (o : Text) (at d : ℕ) (w : Member) (r : MemberStep) (t : x ≡ textOf q (w .name)) (c : d ≡ orElse (numberOf (w .width)) 1) (h : memberIn x (membersAt s p at) ≡ memberFound s p r) where
   named : memberIn (textOf q (w .name)) (membersAt s p at) ≡ memberFound s p r
@@ -105,16 +119,13 @@ module _ (s p q x : Str) (o : Text) (at d : ℕ) (w : Member) (r : MemberStep) (
       unfolding meaning checkMember onFound ensure _then_ widthOf
       member-same z = rw (named, m, eq-eqb (e .bit) (w .bit) g, ← c, ← l, eq-eqb u d z)
 
-  module _ (m : r ≡ NoMember) (i : MemberStep) (j : SpanFrom (w .bit) d s at i) where
-    pub member-renamed : (e : Member) (k : Cursor) → i ≡ AMember e k → meaning p q (MemberRenamed o (w .name) (e .name)) ≡ checkMember (textOf q o) (membersAt s p at) (memberOf q w)
-    unfolding meaning checkMember onFound widthOf
-    member-renamed e k g = rw (named, m, ← c, j .this p, g)
+  pub member-unnamed : (v : Verdict) → r ≡ NoMember
+      → ((x y : Str) → meaning x y v ≡ onFound (spanIn (w .bit) d (membersAt s x at)) (memberGone (textOf y o) (textOf y (w .name))) (λ (m : M.Member). memberRenamed (textOf y o) (textOf y (w .name)) (m .name)))
+      → meaning p q v ≡ checkMember (textOf q o) (membersAt s p at) (memberOf q w)
+  unfolding checkMember onFound widthOf
+  member-unnamed v m z = rw (named, m, ← c) (z p q)
 
-    pub member-gone : i ≡ NoMember → meaning p q (MemberGone o (w .name)) ≡ checkMember (textOf q o) (membersAt s p at) (memberOf q w)
-    unfolding meaning checkMember onFound widthOf
-    member-gone g = rw (named, m, ← c, j .this p, g)
-
-pub ruleset member-laws = (member-moved, member-wide, member-same, member-renamed, member-gone)
+pub ruleset member-laws = (member-moved, member-wide, member-same, member-unnamed)
 
 -- the members of a bit field
 module _ (s p b q : Str) (o : Text) (is at : ℕ) (r : MemberStep) (f : MembersFrom b at r) where

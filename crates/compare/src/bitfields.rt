@@ -13,11 +13,14 @@ use record::text::Text;
 use record::text::bytes_of;
 use verdicts::verdict::Verdict;
 ghost use mathlib.Core.Path.{_≡_};
-ghost use Rattle.record.specs.Base.{orElse};
+ghost use Rattle.record.specs.Base.{Str, orElse};
 ghost use Rattle.record.specs.Stretch.{textOf};
 ghost use Rattle.record.specs.Lists.{numberOf, bitfieldOf, memberOf};
+ghost use Rattle.record.specs.Schema as M;
 ghost use Rattle.record.specs.Steps.{bitfieldsAt, membersAt};
-ghost use Rattle.definition.specs.Bitfields.{checkMember, checkMembers, checkBitfield, checkBitfields};
+ghost use Rattle.definition.specs.Verdicts.{memberRenamed, memberGone};
+ghost use Rattle.definition.specs.Pass.{onFound};
+ghost use Rattle.definition.specs.Bitfields.{spanIn, checkMember, checkMembers, checkBitfield, checkBitfields};
 ghost use Rattle.compare.specs.Sought.{spansOf, SpanFrom};
 ghost use Rattle.verdicts.specs.Meaning.{meaning};
 
@@ -58,6 +61,21 @@ fn find_span(stream: &[u8], from: Cursor, bit: u32, wide: u32) -> MemberStep
     }
 }
 
+// A released member that no member has the name of now, from a cursor on: one with its bits tells the new name.
+fn check_unnamed(stream: &[u8], is: Cursor, owner: Text, name: Text, bit: u32, wide: u32) -> Verdict
+    ensures { λ r. ⌜ ((p q : Str) → meaning p q r ≡ onFound (spanIn bit wide (membersAt (now (stream .entry)) p (is .at))) (memberGone (textOf q owner) (textOf q name)) (λ (m : M.Member). memberRenamed (textOf q owner) (textOf q name) (m .name))) ⌝ }
+{
+    let MemberStep::AMember(m, _) = find_span(stream, is, bit, wide) else {
+        return Verdict::MemberGone { owner, name };
+    };
+    let is_now = m.name;
+    Verdict::MemberRenamed {
+        owner,
+        name,
+        is: is_now,
+    }
+}
+
 // One released member against those that are now, from a cursor on.
 fn check_member(
     stream: &[u8],
@@ -73,36 +91,28 @@ fn check_member(
     let given = was.width;
     let wide = width(given);
     let named = find_member(stream, pool, is, bytes_of(old, name));
-    if let MemberStep::AMember(m, _) = named {
-        if m.bit != was.bit {
-            return Verdict::BitMoved {
-                owner,
-                name,
-                was: was.bit,
-                is: m.bit,
-            };
-        }
-        let given_now = m.width;
-        let wide_now = width(given_now);
-        if wide_now != wide {
-            return Verdict::WidthChanged {
-                owner,
-                name,
-                was: wide,
-                is: wide_now,
-            };
-        }
-        return Verdict::Passed;
-    }
-    let MemberStep::AMember(m, _) = find_span(stream, is, was.bit, wide) else {
-        return Verdict::MemberGone { owner, name };
+    let MemberStep::AMember(m, _) = named else {
+        return check_unnamed(stream, is, owner, name, was.bit, wide);
     };
-    let is_now = m.name;
-    Verdict::MemberRenamed {
-        owner,
-        name,
-        is: is_now,
+    if m.bit != was.bit {
+        return Verdict::BitMoved {
+            owner,
+            name,
+            was: was.bit,
+            is: m.bit,
+        };
     }
+    let given_now = m.width;
+    let wide_now = width(given_now);
+    if wide_now != wide {
+        return Verdict::WidthChanged {
+            owner,
+            name,
+            was: wide,
+            is: wide_now,
+        };
+    }
+    Verdict::Passed
 }
 
 // The released members from a cursor on against those that are now.

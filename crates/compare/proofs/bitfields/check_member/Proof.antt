@@ -15,35 +15,26 @@ find-member-requires c κs = search needs
 enum-known-named : tie.Need-enum-known-named
 enum-known-named c = search needs
 
+enum-told : tie.Need-enum-told
+enum-told c = search needs
+
+check-unnamed-requires : tie.Need-check-unnamed-requires
+check-unnamed-requires c κs = search needs
+
 returns : tie.Need-returns
 returns c = search member-laws
-
-width-requires-2 : tie.Need-width-requires-2
-width-requires-2 c κs = search needs
 
 returns-2 : tie.Need-returns-2
 returns-2 c = search member-laws
 
+width-requires-2 : tie.Need-width-requires-2
+width-requires-2 c κs = search needs
+
 returns-3 : tie.Need-returns-3
 returns-3 c = search member-laws
 
-enum-told : tie.Need-enum-told
-enum-told c = search needs
-
-find-span-requires : tie.Need-find-span-requires
-find-span-requires c κs = search needs
-
-enum-known-m : tie.Need-enum-known-m
-enum-known-m c = search needs
-
-enum-told-2 : tie.Need-enum-told-2
-enum-told-2 c = search needs
-
 returns-4 : tie.Need-returns-4
 returns-4 c = search member-laws
-
-returns-5 : tie.Need-returns-5
-returns-5 c = search member-laws
 
 pub check-member-spec : {M : Type 1} → statement M
 check-member-spec =
@@ -53,13 +44,10 @@ check-member-spec =
     bytes-of-requires
     find-member-requires
     enum-known-named
-    returns
-    width-requires-2
-    returns-2
-    returns-3
     enum-told
-    find-span-requires
-    enum-known-m
-    enum-told-2
-    returns-4
-    returns-5)
+    check-unnamed-requires
+    returns
+    returns-2
+    width-requires-2
+    returns-3
+    returns-4)
