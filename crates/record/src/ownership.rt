@@ -1,5 +1,6 @@
 // The owner of a name: the first root, in slot order metadata, runtime, info, from which references lead to it.
 use crate::cut;
+use crate::index::fill_index;
 use crate::le::word;
 use crate::lists::StructStep;
 use crate::marks::mark_owners;
@@ -124,7 +125,8 @@ fn owner_by(stream: &[u8], pool: &[u8], marks: &mut [u8], index: &mut [u16], nam
     if 32768 < stream.len() {
         return Owner::Nobody;
     }
-    mark_owners(stream, pool, marks, index);
+    fill_index(stream, pool, index);
+    mark_owners(stream, pool, index, marks);
     owner_among(stream, pool, marks, index, name)
 }
 
