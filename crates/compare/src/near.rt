@@ -36,7 +36,7 @@ fn from_end(name: &[u8], k: usize) -> usize
 }
 
 // The number of a name. Names of one type mostly differ in their last bytes.
-fn key_of(name: &[u8]) -> usize
+pub(crate) fn key_of(name: &[u8]) -> usize
     ensures { λ r. ⌜ (r ≡ keyOf (now (name .entry))) × (r < 1024) ⌝ }
 {
     let a = from_end(name, 1);
