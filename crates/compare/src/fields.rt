@@ -27,6 +27,7 @@ ghost use mathlib.Core.Bool.{true};
 ghost use lib.ListN.{length};
 ghost use Rattle.record.specs.Base.{Str};
 ghost use Rattle.record.specs.Scalars.{Scalar, scalarsOf};
+ghost use Rattle.record.specs.Marks.{Clear};
 ghost use Rattle.record.specs.Reading.{rec};
 ghost use Rattle.record.specs.Read.{Exact};
 ghost use Rattle.layout.specs.Handles.{typeName, layoutOf};
@@ -148,7 +149,7 @@ fn check_places(
     }
 }
 
-// The same by a table that is lent.
+// The same by an empty table that is lent.
 fn check_near(
     rows: &[u8],
     stream: &[u8],
@@ -162,7 +163,7 @@ fn check_near(
     owner: TypeName,
     from: SpotCursor,
 ) -> Verdict
-    requires { ⌜ Sound (rec (now stream) (now pool) (scalarsOf (now rows))) (now sizes) is × Sound (rec (now past) (now old) (scalarsOf (now rows))) (now widths) from × (1024 ≤ length (now table)) ⌝ }
+    requires { ⌜ Sound (rec (now stream) (now pool) (scalarsOf (now rows))) (now sizes) is × Sound (rec (now past) (now old) (scalarsOf (now rows))) (now widths) from × Clear (now table) × (1024 ≤ length (now table)) ⌝ }
     ensures { λ r. ⌜ meaning (now (pool .entry)) (now (old .entry)) r ≡ checkPlaces (nameOf (now (old .entry)) owner) (placesFrom (rec (now (stream .entry)) (now (pool .entry)) (scalarsOf (now (rows .entry)))) is) (placesFrom (rec (now (past .entry)) (now (old .entry)) (scalarsOf (now (rows .entry)))) from) ⌝ }
 {
     fill_near(stream, pool, sizes, is, table);
