@@ -1,17 +1,21 @@
 -- Fields that are alike are the same, and what is passed over does not count. p is the first pool and q the second. Assumes nothing.
-use Prim.Native.Nat.{ℕ, _+_, _-_, _/_, _<_}
+use Prim.Native.Nat.{ℕ, _+_, _-_, _*_, _/_, _≤_, _<_}
 use mathlib.Core.Path.{_≡_, refl, sym, ap, ap₂, subst, _∙_}
 use mathlib.Core.List.{List, _∷_}
-use mathlib.Core.Option.{none, some}
-use mathlib.Core.Bool.{Bool, true, false, _&&_, Bool·beq}
+use mathlib.Core.Option.{none}
+use mathlib.Core.Bool.{Bool, true, false, _&&_, cond, Bool·beq}
 use native.Mathlib.Omega.{arith}
+use lib.Dec.{eqb}
 use borrow.Author.Tests.{eq-eqb}
-use lib.ListN.{length, getD, drop}
-use Rattle.record.specs.Base.{Str, eqs}
+use lib.ListN.{length, getD, take, drop}
+use lib.Seq.{getD-take, getD-drop}
+use Rattle.record.specs.Base.{Str, bytes, eqs}
+use Rattle.record.specs.Le.{u16At, u32At}
+use Rattle.record.specs.Operands.{textAt, optText, optTextAt, optNumberAt}
 use Rattle.record.specs.Stretch.{textOf}
 use Rattle.record.specs.Scalars.{Scalar}
 use Rattle.record.specs.Schema.{Field}
-use Rattle.record.specs.Commands.{place, fieldAt}
+use Rattle.record.specs.Commands.{operands, wide, widths, widthWith, widthOf, place, fieldAt}
 use Rattle.record.specs.Lists.{optOf, numberOf, fieldOf}
 use Rattle.record.specs.Steps.{fieldKeyAt, FieldsFrom}
 use Rattle.record.specs.Seek.{SoughtFrom}
@@ -20,16 +24,18 @@ use Rattle.record.specs.Shapes.{Place, placeOf, shapeSize, shapeType, capped}
 use Rattle.record.specs.Reading.{rec, schemaOf}
 use Rattle.record.specs.declared.command as C
 use Rattle.record.specs.declared.command.Cursor.{Cursor}
-use Rattle.record.specs.declared.operands.OptNumber.{OptNumber}
+use Rattle.record.specs.declared.text.Text.{Text}
+use Rattle.record.specs.declared.operands.OptText.{OptText}
 use Rattle.record.specs.declared.operands.OptNumber.the-variants.{Missing, Number}
 use Rattle.record.specs.declared.lists.FieldStep.the-variants.{AField}
 use Rattle.record.specs.declared.seek.Between.the-variants.{Keys}
 use Rattle.record.specs.declared.seek.Sought.{Sought}
 use Rattle.record.specs.declared.seek.Sought.the-variants.{At}
 use Rattle.record.proofs.Basics.{eqs-refl}
-use Rattle.record.proofs.SeekLaws.{sought-nearer}
+use Rattle.record.proofs.SeekLaws.{sought-stands, sought-nearer}
 use Rattle.record.proofs.StepLaws.{fields-found}
 use Rattle.record.proofs.DescribeLaws.{described-keyless}
+use Rattle.layout.specs.Handles.{nameAt}
 use Rattle.layout.specs.Spots.{cursorAt, placesFrom, Sound}
 use Rattle.layout.specs.declared.spots.Ahead.{Ahead}
 use Rattle.layout.specs.declared.spots.Ahead.the-variants.{Body}
@@ -37,46 +43,111 @@ use Rattle.layout.specs.declared.spots.SpotCursor.{SpotCursor}
 use Rattle.layout.proofs.SpotLaws.{sized-so, field-passed, passed-sound}
 use Rattle.definition.specs.Fields.{eqPlace, eqPlaces}
 use Rattle.compare.proofs.LayoutLaws.{same-word}
-use Rattle.compare.specs.Alike.{SameNumbers, SameTexts, AlikePassed, AlikeNext, alikeFrom}
+use Rattle.compare.specs.Alike.{SameNumbers, SameTexts, AlikePassed, Begins, AlikeNext, alikeFrom}
 use Rattle.compare.specs.declared.alike.AlikeStep.{AlikeStep}
-use Rattle.compare.specs.declared.alike.AlikeStep.the-variants.{Differ, Alike}
+use Rattle.compare.specs.declared.alike.AlikeStep.the-variants.{Alike}
 
 -- parts ---------------------------------------------------------------------------------------------------------------------
 
-module _ (a b : OptNumber) where
-  pub numbers-missing : a ≡ Missing → b ≡ Missing → numberOf a ≡ numberOf b
-  numbers-missing m n = rw (m, n)
+-- a number and a text go by their bytes
+module _ (a b : Str) (at : ℕ) where
+  number-same : ((i : ℕ) → at ≤ i → i ≤ at + 4 → getD a i 0 ≡ getD b i 0) → optNumberAt a at ≡ optNumberAt b at
+  unfolding optNumberAt u32At u16At
+  number-same f =
+      let g : getD a at 0 ≡ getD b at 0 = f at (omega arith) (omega arith) in
+      let h : getD a (at + 1) 0 ≡ getD b (at + 1) 0 = f (at + 1) (omega arith) (omega arith) in
+      let i : getD a (at + 1 + 1) 0 ≡ getD b (at + 1 + 1) 0 = f (at + 1 + 1) (omega arith) (omega arith) in
+      let j : getD a (at + 1 + 2) 0 ≡ getD b (at + 1 + 2) 0 = f (at + 1 + 2) (omega arith) (omega arith) in
+      let k : getD a (at + 1 + 2 + 1) 0 ≡ getD b (at + 1 + 2 + 1) 0 = f (at + 1 + 2 + 1) (omega arith) (omega arith) in
+      λ x. cond (eqb (g x) 0) Missing (Number (h x + 256 * i x + 65536 * (j x + 256 * k x)))
 
-  pub numbers-given : (x y : ℕ) → a ≡ Number x → b ≡ Number y → x ≡ y → numberOf a ≡ numberOf b
-  numbers-given x y m n e = rw (m, n) (ap some e)
+  text-same : ((i : ℕ) → at ≤ i → i ≤ at + 2 → getD a i 0 ≡ getD b i 0) → textAt a at ≡ textAt b at
+  unfolding textAt u16At
+  text-same f =
+      let g : getD a at 0 ≡ getD b at 0 = f at (omega arith) (omega arith) in
+      let h : getD a (at + 1) 0 ≡ getD b (at + 1) 0 = f (at + 1) (omega arith) (omega arith) in
+      let i : getD a (at + 2) 0 ≡ getD b (at + 2) 0 = f (at + 2) (omega arith) (omega arith) in
+      λ x. record { start = g x + 256 * h x; len = i x }
 
-pub ruleset numbers-laws = (numbers-missing, numbers-given)
+-- bytes that are the same from the thirteenth on
+byte-after : (s t : Str) → drop 13 s ≡ drop 13 t → (i : ℕ) → 13 ≤ i → getD s i 0 ≡ getD t i 0
+byte-after s t e i h =
+    let j : 13 + (i - 13) ≡ i = omega arith in
+    subst (λ (n : ℕ). getD s n 0 ≡ getD t n 0) j (sym (getD-drop 13 s (i - 13) 0) ∙ ap (λ (l : Str). getD l (i - 13) 0) e ∙ getD-drop 13 t (i - 13) 0)
 
-pub sizes-alike : (f g : C.Field.Field) (a b c d : Bool) → (a ≡ true → numberOf (f .count) ≡ numberOf (g .count)) → a ≡ true → (b ≡ true → numberOf (f .rows) ≡ numberOf (g .rows)) → b ≡ true
-    → (c ≡ true → numberOf (f .cols) ≡ numberOf (g .cols)) → c ≡ true → (d ≡ true → numberOf (f .size) ≡ numberOf (g .size)) → d ≡ true → SameNumbers f g
-sizes-alike f g a b c d h i j k l m n o = record { count = h i; rows = j k; cols = l m; size = n o }
-
-pub texts-alike : (p q : Str) (f g : C.Field.Field) (x y u v : Str) (a b c d : Bool) → x ≡ textOf p (f .name) → y ≡ textOf q (g .name) → a ≡ eqs x y → a ≡ true
-    → u ≡ textOf p (f .kind) → v ≡ textOf q (g .kind) → b ≡ eqs u v → b ≡ true → (c ≡ true → optOf p (f .«type_name») ≡ optOf q (g .«type_name»)) → c ≡ true
-    → (d ≡ true → optOf p (f .element) ≡ optOf q (g .element)) → d ≡ true → SameTexts p q f g
-texts-alike p q f g x y u v a b c d h i j k l m n o h2 o2 h3 o3 =
-    record { name = same-word x y _ _ a h i j k; kind = same-word u v _ _ b l m n o; typ = h2 o2; element = h3 o3 }
-
-pub fields-alike : (p q : Str) (f g : C.Field.Field) (a b : Bool) → (a ≡ true → SameNumbers f g) → a ≡ true → (b ≡ true → SameTexts p q f g) → b ≡ true → fieldOf p f none ≡ fieldOf q g none
-fields-alike p q f g a b h i j k =
-    let n = h i in
-    let t = j k in
-    λ x. record {
-      name = t .name x;
-      kind = t .kind x;
-      typ = t .typ x;
-      element = t .element x;
-      count = n .count x;
-      rows = n .rows x;
-      cols = n .cols x;
-      size = n .size x;
-      key = none;
+pub numbers-alike : (s t x y : Str) (b : Bool) → x ≡ drop 13 s → y ≡ drop 13 t → b ≡ eqs x y → b ≡ true → SameNumbers (fieldAt s) (fieldAt t)
+numbers-alike s t x y b f g h e =
+    let d = byte-after s t (same-word x y _ _ b f g h e) in
+    record {
+      count = ap numberOf (number-same s t 13 (λ i k l. d i k));
+      rows = ap numberOf (number-same s t 18 (λ i k l. d i (omega arith)));
+      cols = ap numberOf (number-same s t 23 (λ i k l. d i (omega arith)));
+      size = ap numberOf (number-same s t 28 (λ i k l. d i (omega arith)));
     }
+
+pub texts-alike : (p q s t : Str) (f g h i : Text) (k l m n : OptText) (x y u v : Str) (a b c d : Bool) → f ≡ textAt s 1 → g ≡ textAt t 1 → x ≡ textOf p f → y ≡ textOf q g → a ≡ eqs x y → a ≡ true
+    → h ≡ textAt s 4 → i ≡ textAt t 4 → u ≡ textOf p h → v ≡ textOf q i → b ≡ eqs u v → b ≡ true → k ≡ optTextAt s 7 → l ≡ optTextAt t 7 → (c ≡ true → optOf p k ≡ optOf q l) → c ≡ true
+    → m ≡ optTextAt s 10 → n ≡ optTextAt t 10 → (d ≡ true → optOf p m ≡ optOf q n) → d ≡ true → SameTexts p q (fieldAt s) (fieldAt t)
+texts-alike p q s t f g h i k l m n x y u v a b c d f1 g1 x1 y1 a1 a2 h1 i1 u1 v1 b1 b2 k1 l1 c1 c2 m1 n1 d1 d2 =
+    record {
+      name = same-word x y _ _ a (x1 ∙ ap (textOf p) f1) (y1 ∙ ap (textOf q) g1) a1 a2;
+      kind = same-word u v _ _ b (u1 ∙ ap (textOf p) h1) (v1 ∙ ap (textOf q) i1) b1 b2;
+      typ = ap (optOf p) (sym k1) ∙ c1 c2 ∙ ap (optOf q) l1;
+      element = ap (optOf p) (sym m1) ∙ d1 d2 ∙ ap (optOf q) n1;
+    }
+
+fields-alike : (p q : Str) (f g : C.Field.Field) → SameNumbers f g → SameTexts p q f g → fieldOf p f none ≡ fieldOf q g none
+fields-alike p q f g n t = λ x. record {
+  name = t .name x;
+  kind = t .kind x;
+  typ = t .typ x;
+  element = t .element x;
+  count = n .count x;
+  rows = n .rows x;
+  cols = n .cols x;
+  size = n .size x;
+  key = none;
+}
+
+-- a field is in its 33 bytes
+field-cut : (l : Str) → fieldAt (take 33 l) ≡ fieldAt l
+unfolding optTextAt
+field-cut l =
+    let t = text-same (take 33 l) l in
+    let n = number-same (take 33 l) l in
+    let d : (i : ℕ) → i < 33 → getD (take 33 l) i 0 ≡ getD l i 0 = λ i h. getD-take 33 l i 0 h in
+    let name = t 1 (λ i g h. d i (omega arith)) in
+    let kind = t 4 (λ i g h. d i (omega arith)) in
+    let typ = t 7 (λ i g h. d i (omega arith)) in
+    let element = t 10 (λ i g h. d i (omega arith)) in
+    let count = n 13 (λ i g h. d i (omega arith)) in
+    let rows = n 18 (λ i g h. d i (omega arith)) in
+    let cols = n 23 (λ i g h. d i (omega arith)) in
+    let size = n 28 (λ i g h. d i (omega arith)) in
+    λ x. record {
+      name = name x;
+      kind = kind x;
+      «type_name» = optText (typ x);
+      element = optText (element x);
+      count = count x;
+      rows = rows x;
+      cols = cols x;
+      size = size x;
+    }
+
+part-cut : (s : Str) (a : ℕ) → fieldAt (take (a + 33 - a) (drop a s)) ≡ fieldAt (drop a s)
+part-cut s a = let e : a + 33 - a ≡ 33 = omega arith in ap (λ (n : ℕ). fieldAt (take n (drop a s))) e ∙ field-cut (drop a s)
+
+pub alike-there : (s p b q : Str) (a c : ℕ) (t u : Bool) → (t ≡ true → SameNumbers (fieldAt (take (a + 33 - a) (drop a s))) (fieldAt (take (c + 33 - c) (drop c b)))) → t ≡ true
+    → (u ≡ true → SameTexts p q (fieldAt (take (a + 33 - a) (drop a s))) (fieldAt (take (c + 33 - c) (drop c b)))) → u ≡ true
+    → fieldOf p (fieldAt (drop a s)) none ≡ fieldOf q (fieldAt (drop c b)) none
+alike-there s p b q a c t u f g h i =
+    ap (λ (v : C.Field.Field). fieldOf p v none) (sym (part-cut s a)) ∙ fields-alike p q _ _ (f g) (h i) ∙ ap (λ (v : C.Field.Field). fieldOf q v none) (part-cut b c)
+
+-- a field's command is in the stream
+pub field-inside : (s : Str) (at : ℕ) (r : Sought) (a k : ℕ) → SoughtFrom s Keys 11 at r → r ≡ At a k → a + 33 ≤ length s
+unfolding widthOf widthWith operands widths wide bytes
+field-inside s at r a k i m = let h = sought-stands s Keys 11 at r i a k m in let e = h .after in let l = h .within in omega arith
 
 -- a field -------------------------------------------------------------------------------------------------------------------
 
@@ -88,9 +159,9 @@ place-self : (x : Place) → eqPlace x x ≡ true
 unfolding eqPlace
 place-self x = rw (eqs-refl (x .name), eq-eqb (x .offset) (x .offset) refl, eq-eqb (x .size) (x .size) refl, eqs-refl (x .described), beq-self (x .padding))
 
-heads-same : (x y : Place) (l m : List Place) → x ≡ y → eqPlaces (x ∷ l) (y ∷ m) ≡ eqPlaces l m
+heads-same : (x : Place) (l m : List Place) → eqPlaces (x ∷ l) (x ∷ m) ≡ eqPlaces l m
 unfolding eqPlaces
-heads-same x y l m e = ap (λ (v : Place). eqPlace x v && eqPlaces l m) (sym e) ∙ ap (λ (t : Bool). t && eqPlaces l m) (place-self x)
+heads-same x l m = ap (λ (t : Bool). t && eqPlaces l m) (place-self x)
 
 module _ (s p : Str) (z : List ℕ) (at : ℕ) (b q : Str) (y : List ℕ) (to : ℕ) (r : Sought) (i : SoughtFrom s Keys 11 at r) (a k : ℕ) (m : r ≡ At a k)
     (r₀ : Sought) (i₀ : SoughtFrom b Keys 11 to r₀) (a₀ k₀ : ℕ) (m₀ : r₀ ≡ At a₀ k₀) where
@@ -130,33 +201,30 @@ module _ (s p : Str) (z : List ℕ) (at : ℕ) (b q : Str) (y : List ℕ) (to : 
           let g : isPadding (kindOf (textOf p (F .kind))) ≡ isPadding (kindOf (textOf q (G .kind))) = ap (λ (x : Field). isPadding (kindOf (x .kind))) e in
           λ x. record { name = n x; offset = offset; size = l x; described = t x; padding = g x }
 
-      both-same : eqPlaces (placesFrom (rec s p w) (cursorAt (Body (place at)) offset)) (placesFrom (rec b q w) (cursorAt (Body (place to)) offset))
-          ≡ eqPlaces (placesFrom (rec s p w) (cursorAt (Body (place k)) end)) (placesFrom (rec b q w) (cursorAt (Body (place k₀)) end))
-      both-same =
-          ap₂ eqPlaces (field-passed s p w z (place at) offset (AField F (place k)) found F (place k) refl size end u v d)
-          (field-passed b q w y (place to) offset (AField G (place k₀)) found₀ G (place k₀) refl size end u₀ v d₀)
-          ∙ heads-same _ _ _ _ one-place
-
-    next-is : AlikeNext s p z at b q y to k k₀ size
-    next-is =
-        record {
-          passed = λ offset end v.
-              record {
-                same = λ w d d₀. both-same w offset end v d d₀;
-                sound = λ w d d₀. passed-sound s p w z (place at) offset (AField F (place k)) found F (place k) refl size end u v d;
-                sound₀ = λ w d d₀. passed-sound b q w y (place to) offset (AField G (place k₀)) found₀ G (place k₀) refl size end u₀ v d₀;
-              };
-          nearer = sought-nearer s Keys 11 at r i a k m;
-        }
+      begins : Begins (rec s p w) z (rec b q w) y (nameAt s p a) (cursorAt (Body (place at)) offset) (cursorAt (Body (place to)) offset) (cursorAt (Body (place k)) end) (cursorAt (Body (place k₀)) end)
+      unfolding placeOf nameAt
+      begins =
+          record {
+            field = placeOf (schemaOf (rec s p w)) offset one;
+            named = refl;
+            first = field-passed s p w z (place at) offset (AField F (place k)) found F (place k) refl size end u v d;
+            second = field-passed b q w y (place to) offset (AField G (place k₀)) found₀ G (place k₀) refl size end u₀ v d₀
+                ∙ ap (λ (x : Place). x ∷ placesFrom (rec b q w) (cursorAt (Body (place k₀)) end)) (sym one-place);
+            sound = passed-sound s p w z (place at) offset (AField F (place k)) found F (place k) refl size end u v d;
+            sound₀ = passed-sound b q w y (place to) offset (AField G (place k₀)) found₀ G (place k₀) refl size end u₀ v d₀;
+          }
 
   pub alike-next : (x x₀ : ℕ) (t : Bool) → x ≡ getD z (k / 33) 0 → x₀ ≡ getD y (k₀ / 33) 0 → x ≡ x₀ → (t ≡ true → fieldOf p (fieldAt (drop a s)) none ≡ fieldOf q (fieldAt (drop a₀ b)) none) → t ≡ true
-      → AlikeNext s p z at b q y to k k₀ x
-  alike-next x x₀ t u u₀ o h e = next-is x u (o ∙ u₀) (h e)
+      → AlikeNext s p z at b q y to a k k₀ x
+  alike-next x x₀ t u u₀ o h e =
+      record {
+        passed = λ w offset end v d d₀. begins x u (o ∙ u₀) (h e) w offset end v d d₀;
+        sought = subst (λ (f : Sought). SoughtFrom s Keys 11 at f) m i;
+        sized = u;
+      }
 
-pub alike-there : (s p : Str) (a : ℕ) (b q : Str) (c : ℕ) (n l : Str) (f g : C.Field.Field) (t : Bool) → n ≡ drop a s → l ≡ drop c b → f ≡ fieldAt n → g ≡ fieldAt l
-    → (t ≡ true → fieldOf p f none ≡ fieldOf q g none) → t ≡ true → fieldOf p (fieldAt (drop a s)) none ≡ fieldOf q (fieldAt (drop c b)) none
-alike-there s p a b q c n l f g t nd ld fe ge h e =
-    ap (λ (v : C.Field.Field). fieldOf p v none) (sym (fe ∙ ap fieldAt nd)) ∙ h e ∙ ap (λ (v : C.Field.Field). fieldOf q v none) (ge ∙ ap fieldAt ld)
+pub body-is : (at offset : ℕ) (k : Cursor) → k ≡ place at → cursorAt (Body k) offset ≡ cursorAt (Body (place at)) offset
+body-is at offset k e = ap (λ (x : Cursor). cursorAt (Body x) offset) e
 
 -- a pass over fields -----------------------------------------------------------------------------------------------------------
 
@@ -165,18 +233,19 @@ module _ (s p : Str) (z : List ℕ) (b q : Str) (y : List ℕ) (c c₀ : SpotCur
   alike-here = record { same = λ w d d₀. refl; sound = λ w d d₀. d; sound₀ = λ w d d₀. d₀ }
 
   module _ (at to offset : ℕ) (o : AlikePassed s p z b q y c c₀ (cursorAt (Body (place at)) offset) (cursorAt (Body (place to)) offset)) where
-    pub alike-so-far : (k l : Cursor) → k ≡ place at → l ≡ place to → AlikePassed s p z b q y c c₀ (cursorAt (Body k) offset) (cursorAt (Body l) offset)
-    alike-so-far k l e f = rw (e, f) o
+    pub alike-so-far : (d d₀ : SpotCursor) → d ≡ cursorAt (Body (place at)) offset → d₀ ≡ cursorAt (Body (place to)) offset → AlikePassed s p z b q y c c₀ d d₀
+    alike-so-far d d₀ e f = rw (e, f) o
 
-    pub alike-on : (t : AlikeStep) (k l size e : ℕ) → alikeFrom s p z at b q y to t → t ≡ Alike k l size → e ≡ capped (offset + size)
+    pub alike-on : (t : AlikeStep) (a k l size e : ℕ) → alikeFrom s p z at b q y to t → t ≡ Alike a k l size → e ≡ capped (offset + size)
         → AlikePassed s p z b q y c c₀ (cursorAt (Body (place k)) e) (cursorAt (Body (place l)) e)
-    alike-on t k l size e f m v =
+    alike-on t a k l size e f m v =
         let n = subst (λ (x : AlikeStep). alikeFrom s p z at b q y to x) m f in
-        let g = n .passed offset e v in
         record {
-          same = λ w d d₀. o .same w d d₀ ∙ g .same w (o .sound w d d₀) (o .sound₀ w d d₀);
-          sound = λ w d d₀. g .sound w (o .sound w d d₀) (o .sound₀ w d d₀);
-          sound₀ = λ w d d₀. g .sound₀ w (o .sound w d d₀) (o .sound₀ w d d₀);
+          same = λ w d d₀.
+              let h = n .passed w offset e v (o .sound w d d₀) (o .sound₀ w d d₀) in
+              o .same w d d₀ ∙ ap₂ eqPlaces (h .first) (h .second) ∙ heads-same (h .field) _ _;
+          sound = λ w d d₀. n .passed w offset e v (o .sound w d d₀) (o .sound₀ w d d₀) .sound;
+          sound₀ = λ w d d₀. n .passed w offset e v (o .sound w d d₀) (o .sound₀ w d d₀) .sound₀;
         }
 
   -- of cursors at the record's fields only the places count
@@ -193,8 +262,8 @@ module _ (s p : Str) (z : List ℕ) (b q : Str) (y : List ℕ) (c c₀ : SpotCur
         sound₀ = λ w f f₀. o .sound₀ w (record { sizes = f .sizes; ends = f .ends }) (record { sizes = f₀ .sizes; ends = f₀ .ends });
       })))
 
-pub alike-nearer : (s p : Str) (z : List ℕ) (at : ℕ) (b q : Str) (y : List ℕ) (to : ℕ) (t : AlikeStep) (k l size : ℕ) → alikeFrom s p z at b q y to t → t ≡ Alike k l size → length s - k < length s - at
-alike-nearer s p z at b q y to t k l size f m = subst (λ (x : AlikeStep). alikeFrom s p z at b q y to x) m f .nearer
+pub alike-nearer : (s p : Str) (z : List ℕ) (at : ℕ) (b q : Str) (y : List ℕ) (to : ℕ) (t : AlikeStep) (a k l size : ℕ) → alikeFrom s p z at b q y to t → t ≡ Alike a k l size → length s - k < length s - at
+alike-nearer s p z at b q y to t a k l size f m = sought-nearer s Keys 11 at (At a k) (subst (λ (x : AlikeStep). alikeFrom s p z at b q y to x) m f .sought) a k refl
 
 module _ (s p : Str) (z : List ℕ) (b q : Str) (y : List ℕ) (c c₀ d d₀ : SpotCursor) (w : List Scalar) (f : Sound (rec s p w) z c) (f₀ : Sound (rec b q w) y c₀) (o : AlikePassed s p z b q y c c₀ d d₀) where
   pub ahead-sound : Sound (rec s p w) z d

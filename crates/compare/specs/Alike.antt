@@ -1,16 +1,20 @@
 -- Fields of two types that are alike: what the code passes over where it compares the fields of two types. Assumes nothing.
 use mathlib.Core.Path.{_≡_}
-use mathlib.Core.List.{List}
-use Prim.Native.Nat.{ℕ, _+_, _-_, _<_}
-use lib.ListN.{length}
+use mathlib.Core.List.{List, _∷_}
+use Prim.Native.Nat.{ℕ, _+_, _/_}
+use lib.ListN.{getD}
 use Rattle.record.specs.Base.{Str}
 use Rattle.record.specs.Stretch.{textOf}
 use Rattle.record.specs.Scalars.{Scalar}
 use Rattle.record.specs.Commands.{place}
 use Rattle.record.specs.Lists.{optOf, numberOf}
-use Rattle.record.specs.Shapes.{capped}
-use Rattle.record.specs.Reading.{rec}
+use Rattle.record.specs.Seek.{SoughtFrom}
+use Rattle.record.specs.Shapes.{Place, capped}
+use Rattle.record.specs.Reading.{Rec, rec}
 use Rattle.record.specs.declared.command as C
+use Rattle.record.specs.declared.seek.Between.the-variants.{Keys}
+use Rattle.record.specs.declared.seek.Sought.the-variants.{At}
+use Rattle.layout.specs.Handles.{nameAt}
 use Rattle.layout.specs.Spots.{cursorAt, placesFrom, Sound}
 use Rattle.layout.specs.declared.spots.Ahead.the-variants.{Body}
 use Rattle.layout.specs.declared.spots.SpotCursor.{SpotCursor}
@@ -39,12 +43,22 @@ pub record AlikePassed (s p : Str) (z : List ℕ) (b q : Str) (y : List ℕ) (c 
   pub sound : (w : List Scalar) → Sound (rec s p w) z c → Sound (rec b q w) y c₀ → Sound (rec s p w) z d
   pub sound₀ : (w : List Scalar) → Sound (rec s p w) z c → Sound (rec b q w) y c₀ → Sound (rec b q w) y d₀
 
+-- two types begin with one field, which has this name
+pub record Begins (r : Rec) (z : List ℕ) (r₀ : Rec) (y : List ℕ) (n : Str) (c c₀ d d₀ : SpotCursor) : Type 0 where
+  pub field : Place
+  pub named : field .name ≡ n
+  pub first : placesFrom r c ≡ field ∷ placesFrom r d
+  pub second : placesFrom r₀ c₀ ≡ field ∷ placesFrom r₀ d₀
+  pub sound : Sound r z d
+  pub sound₀ : Sound r₀ y d₀
+
 -- the next fields from two places on, whatever their one offset
-pub record AlikeNext (s p : Str) (z : List ℕ) (at : ℕ) (b q : Str) (y : List ℕ) (to k l size : ℕ) : Type 0 where
-  pub passed : (offset e : ℕ) → e ≡ capped (offset + size)
-      → AlikePassed s p z b q y (cursorAt (Body (place at)) offset) (cursorAt (Body (place to)) offset) (cursorAt (Body (place k)) e) (cursorAt (Body (place l)) e)
-  pub nearer : length s - k < length s - at
+pub record AlikeNext (s p : Str) (z : List ℕ) (at : ℕ) (b q : Str) (y : List ℕ) (to a k l size : ℕ) : Type 0 where
+  pub passed : (w : List Scalar) (offset e : ℕ) → e ≡ capped (offset + size) → Sound (rec s p w) z (cursorAt (Body (place at)) offset) → Sound (rec b q w) y (cursorAt (Body (place to)) offset)
+      → Begins (rec s p w) z (rec b q w) y (nameAt s p a) (cursorAt (Body (place at)) offset) (cursorAt (Body (place to)) offset) (cursorAt (Body (place k)) e) (cursorAt (Body (place l)) e)
+  pub sought : SoughtFrom s Keys 11 at (At a k)
+  pub sized : size ≡ getD z (k / 33) 0
 
 abbrev pub alikeFrom : Str → Str → List ℕ → ℕ → Str → Str → List ℕ → ℕ → AlikeStep → Type 0
 alikeFrom s p z at b q y to Differ = Unit
-alikeFrom s p z at b q y to (Alike k l size) = AlikeNext s p z at b q y to k l size
+alikeFrom s p z at b q y to (Alike a k l size) = AlikeNext s p z at b q y to a k l size

@@ -4,115 +4,69 @@ use layout::field_sizes::size_before;
 use layout::spots::Ahead;
 use layout::spots::SpotCursor;
 use record::command::Cursor;
-use record::command::Field;
-use record::command::field_at;
 use record::cut;
-use record::operands::OptNumber;
+use record::operands::opt_text_at;
+use record::operands::text_at;
 use record::seek::Between;
 use record::seek::Sought;
 use record::seek::seek;
 use record::sizes::sum;
 use record::text::bytes_of;
 use record::text::same;
+ghost use Prim.Native.Nat.{_+_, _≤_};
 ghost use mathlib.Core.Path.{_≡_};
 ghost use mathlib.Core.Bool.{true};
 ghost use mathlib.Core.Option.{none};
-ghost use lib.ListN.{drop};
+ghost use lib.ListN.{length, drop};
 ghost use Rattle.record.specs.Commands.{fieldAt, place};
-ghost use Rattle.record.specs.Lists.{numberOf, fieldOf};
+ghost use Rattle.record.specs.Lists.{fieldOf};
 ghost use Rattle.layout.specs.Spots.{cursorAt};
 ghost use Rattle.compare.specs.Alike.{SameTexts, SameNumbers, alikeFrom, AlikePassed};
 
-// Whether two numbers that may be missing are alike.
-fn alike_numbers(a: OptNumber, b: OptNumber) -> bool
-    ensures { λ r. ⌜ (r ≡ true → numberOf a ≡ numberOf b) ⌝ }
+// Whether all numbers of two fields are alike, by the bytes of their commands.
+fn alike_numbers(s: &[u8], t: &[u8]) -> bool
+    ensures { λ r. ⌜ (r ≡ true → SameNumbers (fieldAt (now (s .entry))) (fieldAt (now (t .entry)))) ⌝ }
 {
-    let OptNumber::Number(x) = a else {
-        let OptNumber::Number(_) = b else {
-            return true;
-        };
-        return false;
-    };
-    let OptNumber::Number(y) = b else {
-        return false;
-    };
-    if x == y {
-        return true;
-    }
-    false
-}
-
-// Whether all numbers of two fields are alike.
-fn alike_sizes(f: Field, g: Field) -> bool
-    ensures { λ r. ⌜ (r ≡ true → SameNumbers f g) ⌝ }
-{
-    let count = f.count;
-    let rows = f.rows;
-    let cols = f.cols;
-    let size = f.size;
-    let counted = g.count;
-    let high = g.rows;
-    let wide = g.cols;
-    let sized = g.size;
-    if alike_numbers(count, counted) {
-        if alike_numbers(rows, high) {
-            if alike_numbers(cols, wide) {
-                return alike_numbers(size, sized);
-            }
-        }
-    }
-    false
+    same(cut::from(s, 13), cut::from(t, 13))
 }
 
 // Whether all texts of two fields are alike, each in its pool.
-fn alike_texts(pool: &[u8], f: Field, old: &[u8], g: Field) -> bool
-    ensures { λ r. ⌜ (r ≡ true → SameTexts (now (pool .entry)) (now (old .entry)) f g) ⌝ }
+fn alike_texts(pool: &[u8], s: &[u8], old: &[u8], t: &[u8]) -> bool
+    ensures { λ r. ⌜ (r ≡ true → SameTexts (now (pool .entry)) (now (old .entry)) (fieldAt (now (s .entry))) (fieldAt (now (t .entry)))) ⌝ }
 {
-    let name = f.name;
-    let other = g.name;
-    if same(bytes_of(pool, name), bytes_of(old, other)) {
-        let kind = f.kind;
-        let was = g.kind;
-        if same(bytes_of(pool, kind), bytes_of(old, was)) {
-            let named = f.type_name;
-            let naming = g.type_name;
-            if alike_words(pool, named, old, naming) {
-                let element = f.element;
-                let word = g.element;
-                return alike_words(pool, element, old, word);
+    if same(bytes_of(pool, text_at(s, 1)), bytes_of(old, text_at(t, 1))) {
+        if same(bytes_of(pool, text_at(s, 4)), bytes_of(old, text_at(t, 4))) {
+            if alike_words(pool, opt_text_at(s, 7), old, opt_text_at(t, 7)) {
+                return alike_words(pool, opt_text_at(s, 10), old, opt_text_at(t, 10));
             }
         }
     }
     false
 }
 
-// Whether two fields are alike.
-fn alike_fields(pool: &[u8], f: Field, old: &[u8], g: Field) -> bool
-    ensures { λ r. ⌜ (r ≡ true → fieldOf (now (pool .entry)) f none ≡ fieldOf (now (old .entry)) g none) ⌝ }
+// Whether the fields whose commands are at two places are alike. A field takes 33 bytes.
+fn alike_at(stream: &[u8], pool: &[u8], a: usize, past: &[u8], old: &[u8], b: usize) -> bool
+    requires { ⌜ (a + 33 ≤ length (now stream)) × (b + 33 ≤ length (now past)) ⌝ }
+    ensures { λ r. ⌜ (r ≡ true → fieldOf (now (pool .entry)) (fieldAt (drop a (now (stream .entry)))) none ≡ fieldOf (now (old .entry)) (fieldAt (drop b (now (past .entry)))) none) ⌝ }
 {
-    if alike_sizes(f, g) {
-        return alike_texts(pool, f, old, g);
+    let end = a + 33;
+    let s = &stream[a..end];
+    let last = b + 33;
+    let t = &past[b..last];
+    if alike_numbers(s, t) {
+        return alike_texts(pool, s, old, t);
     }
     false
 }
 
-// Whether the fields whose commands are at two places are alike.
-fn alike_at(stream: &[u8], pool: &[u8], a: usize, past: &[u8], old: &[u8], b: usize) -> bool
-    ensures { λ r. ⌜ (r ≡ true → fieldOf (now (pool .entry)) (fieldAt (drop a (now (stream .entry)))) none ≡ fieldOf (now (old .entry)) (fieldAt (drop b (now (past .entry)))) none) ⌝ }
-{
-    let f = field_at(cut::from(stream, a));
-    let g = field_at(cut::from(past, b));
-    alike_fields(pool, f, old, g)
-}
-
-// The next fields of two types, where they are alike and of one size: the places after them and the size.
+// The next fields of two types, where they are alike and of one size: the place of the first, the places after them and the size.
 pub enum AlikeStep {
     Differ,
-    Alike(usize, usize, u64),
+    Alike(usize, usize, usize, u64),
 }
 
 // The next fields from two places on, at one offset.
-fn next_alike(
+pub(crate) fn next_alike(
     stream: &[u8],
     pool: &[u8],
     sizes: &[u64],
@@ -135,9 +89,19 @@ fn next_alike(
         return AlikeStep::Differ;
     }
     if alike_at(stream, pool, a, past, old, b) {
-        return AlikeStep::Alike(after, next, size);
+        return AlikeStep::Alike(a, after, next, size);
     }
     AlikeStep::Differ
+}
+
+// The fields of a record from a place on, at an offset.
+pub(crate) fn body_at(at: usize, offset: u64) -> SpotCursor
+    ensures { λ r. ⌜ r ≡ cursorAt (Ahead.Body (place at)) offset ⌝ }
+{
+    SpotCursor {
+        ahead: Ahead::Body(Cursor::place(at)),
+        offset,
+    }
 }
 
 // What is ahead of two types.
@@ -164,7 +128,7 @@ fn pass_places(
     let mut to = other;
     let mut offset = start;
     loop {
-        let AlikeStep::Alike(after, next, size) = next_alike(
+        let AlikeStep::Alike(_, after, next, size) = next_alike(
             stream,
             pool,
             sizes,
@@ -175,14 +139,8 @@ fn pass_places(
             to,
         ) else {
             return Both {
-                is: SpotCursor {
-                    ahead: Ahead::Body(Cursor::place(at)),
-                    offset,
-                },
-                was: SpotCursor {
-                    ahead: Ahead::Body(Cursor::place(to)),
-                    offset,
-                },
+                is: body_at(at, offset),
+                was: body_at(to, offset),
             };
         };
         offset = sum(offset, size);

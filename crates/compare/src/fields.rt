@@ -1,4 +1,5 @@
 // The pass over the fields: a released field keeps its place, its size and how it reads.
+use crate::kept::pass_kept;
 use crate::layouts::find_spot;
 use crate::layouts::same_description;
 use crate::near::are_many;
@@ -6,6 +7,7 @@ use crate::near::fill_near;
 use crate::near::near_spot;
 use layout::names::TypeName;
 use layout::names::type_name;
+use layout::spots::Ahead;
 use layout::spots::Spot;
 use layout::spots::SpotCursor;
 use layout::spots::SpotStep;
@@ -13,12 +15,19 @@ use layout::spots::first_spot;
 use layout::spots::next_spot;
 use layout::table::TypeFound;
 use layout::table::find_same;
+use record::seek::Between;
+use record::seek::Sought;
+use record::seek::seek;
 use record::text::bytes_of;
 use verdicts::verdict::Verdict;
 ghost use Prim.Native.Nat.{_≤_};
 ghost use mathlib.Core.Path.{_≡_};
+ghost use mathlib.Core.List.{List, []};
+ghost use mathlib.Core.Bool.{true};
 ghost use lib.ListN.{length};
-ghost use Rattle.record.specs.Scalars.{scalarsOf};
+ghost use Rattle.record.specs.Base.{Str};
+ghost use Rattle.record.specs.Scalars.{Scalar, scalarsOf};
+ghost use Rattle.record.specs.Marks.{Clear};
 ghost use Rattle.record.specs.Reading.{rec};
 ghost use Rattle.record.specs.Read.{Exact};
 ghost use Rattle.layout.specs.Handles.{typeName, layoutOf};
@@ -140,7 +149,7 @@ fn check_places(
     }
 }
 
-// The same by a table that is lent.
+// The same by an empty table that is lent.
 fn check_near(
     rows: &[u8],
     stream: &[u8],
@@ -154,7 +163,7 @@ fn check_near(
     owner: TypeName,
     from: SpotCursor,
 ) -> Verdict
-    requires { ⌜ Sound (rec (now stream) (now pool) (scalarsOf (now rows))) (now sizes) is × Sound (rec (now past) (now old) (scalarsOf (now rows))) (now widths) from × (1024 ≤ length (now table)) ⌝ }
+    requires { ⌜ Sound (rec (now stream) (now pool) (scalarsOf (now rows))) (now sizes) is × Sound (rec (now past) (now old) (scalarsOf (now rows))) (now widths) from × Clear (now table) × (1024 ≤ length (now table)) ⌝ }
     ensures { λ r. ⌜ meaning (now (pool .entry)) (now (old .entry)) r ≡ checkPlaces (nameOf (now (old .entry)) owner) (placesFrom (rec (now (stream .entry)) (now (pool .entry)) (scalarsOf (now (rows .entry)))) is) (placesFrom (rec (now (past .entry)) (now (old .entry)) (scalarsOf (now (rows .entry)))) from) ⌝ }
 {
     fill_near(stream, pool, sizes, is, table);
@@ -216,24 +225,13 @@ fn check_any(
     old: &[u8],
     widths: &[u64],
     owner: TypeName,
-    from: SpotCursor,
+    was: SpotCursor,
 ) -> Verdict
-    requires { ⌜ Sound (rec (now stream) (now pool) (scalarsOf (now rows))) (now sizes) is × Sound (rec (now past) (now old) (scalarsOf (now rows))) (now widths) from ⌝ }
-    ensures { λ r. ⌜ meaning (now (pool .entry)) (now (old .entry)) r ≡ checkPlaces (nameOf (now (old .entry)) owner) (placesFrom (rec (now (stream .entry)) (now (pool .entry)) (scalarsOf (now (rows .entry)))) is) (placesFrom (rec (now (past .entry)) (now (old .entry)) (scalarsOf (now (rows .entry)))) from) ⌝ }
+    requires { ⌜ Sound (rec (now stream) (now pool) (scalarsOf (now rows))) (now sizes) is × Sound (rec (now past) (now old) (scalarsOf (now rows))) (now widths) was ⌝ }
+    ensures { λ r. ⌜ meaning (now (pool .entry)) (now (old .entry)) r ≡ checkPlaces (nameOf (now (old .entry)) owner) (placesFrom (rec (now (stream .entry)) (now (pool .entry)) (scalarsOf (now (rows .entry)))) is) (placesFrom (rec (now (past .entry)) (now (old .entry)) (scalarsOf (now (rows .entry)))) was) ⌝ }
 {
-    if are_many(stream, is) {
-        return check_many(
-            rows,
-            stream,
-            pool,
-            sizes,
-            is,
-            past,
-            old,
-            widths,
-            owner,
-            from,
-        );
+    if are_many(past, was) {
+        return check_many(rows, stream, pool, sizes, is, past, old, widths, owner, was);
     }
     check_places(
         rows,
@@ -246,8 +244,53 @@ fn check_any(
         old,
         widths,
         owner,
-        from,
+        was,
     )
+}
+
+// The same without the released fields that are seen to be kept.
+fn check_changed(
+    rows: &[u8],
+    stream: &[u8],
+    pool: &[u8],
+    sizes: &[u64],
+    is: SpotCursor,
+    past: &[u8],
+    old: &[u8],
+    widths: &[u64],
+    owner: TypeName,
+    was: SpotCursor,
+) -> Verdict
+    requires { ⌜ Sound (rec (now stream) (now pool) (scalarsOf (now rows))) (now sizes) is × Sound (rec (now past) (now old) (scalarsOf (now rows))) (now widths) was ⌝ }
+    ensures { λ r. ⌜ meaning (now (pool .entry)) (now (old .entry)) r ≡ checkPlaces (nameOf (now (old .entry)) owner) (placesFrom (rec (now (stream .entry)) (now (pool .entry)) (scalarsOf (now (rows .entry)))) is) (placesFrom (rec (now (past .entry)) (now (old .entry)) (scalarsOf (now (rows .entry)))) was) ⌝ }
+{
+    let rest = pass_kept(stream, pool, sizes, is, past, old, widths, was);
+    check_any(
+        rows,
+        stream,
+        pool,
+        sizes,
+        is,
+        past,
+        old,
+        widths,
+        owner,
+        rest,
+    )
+}
+
+// Whether no field is seen to be ahead.
+fn is_bare(stream: &[u8], c: SpotCursor) -> bool
+    ensures { λ r. ⌜ (r ≡ true → (p : Str) (w : List Scalar) → placesFrom (rec (now (stream .entry)) p w) c ≡ []) ⌝ }
+{
+    let ahead = c.ahead;
+    let Ahead::Body(k) = ahead else {
+        return false;
+    };
+    let Sought::At(_, _) = seek(stream, k.at, 11, Between::Keys) else {
+        return true;
+    };
+    false
 }
 
 // The fields of a released type against those of a current one, by the handles of the types.
@@ -265,21 +308,13 @@ fn check_layout(
     requires { ⌜ (Typed (now stream) handle × SizesTable (rec (now stream) (now pool) (scalarsOf (now rows))) (now sizes) × Exact (rec (now stream) (now pool) (scalarsOf (now rows)))) × (Typed (now past) other × SizesTable (rec (now past) (now old) (scalarsOf (now rows))) (now widths) × Exact (rec (now past) (now old) (scalarsOf (now rows)))) ⌝ }
     ensures { λ r. ⌜ meaning (now (pool .entry)) (now (old .entry)) r ≡ checkPlaces (typeName (now (past .entry)) (now (old .entry)) other) (layoutOf (rec (now (stream .entry)) (now (pool .entry)) (scalarsOf (now (rows .entry)))) handle .fields) (layoutOf (rec (now (past .entry)) (now (old .entry)) (scalarsOf (now (rows .entry)))) other .fields) ⌝ }
 {
+    let was = first_spot(past, other);
+    if is_bare(past, was) {
+        return Verdict::Passed;
+    }
     let owner = type_name(past, other);
     let is = first_spot(stream, handle);
-    let from = first_spot(past, other);
-    check_any(
-        rows,
-        stream,
-        pool,
-        sizes,
-        is,
-        past,
-        old,
-        widths,
-        owner,
-        from,
-    )
+    check_changed(rows, stream, pool, sizes, is, past, old, widths, owner, was)
 }
 
 // One released type, by its handle; its name is thought to stand near an index of the current types.

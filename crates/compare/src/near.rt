@@ -36,7 +36,7 @@ fn from_end(name: &[u8], k: usize) -> usize
 }
 
 // The number of a name. Names of one type mostly differ in their last bytes.
-fn key_of(name: &[u8]) -> usize
+pub(crate) fn key_of(name: &[u8]) -> usize
     ensures { λ r. ⌜ (r ≡ keyOf (now (name .entry))) × (r < 1024) ⌝ }
 {
     let a = from_end(name, 1);
@@ -86,17 +86,6 @@ fn put_near(table: &mut [u64], key: usize, at: usize, offset: u64) -> bool
     true
 }
 
-// Takes every entry away.
-fn clear(table: &mut [u64])
-    ensures { λ _. ⌜ Clear (now (table .exit)) ⌝ }
-{
-    let mut i = 0;
-    while i < table.len() {
-        table[i] = 0;
-        i += 1;
-    }
-}
-
 // Fills the table for the fields from a place on.
 fn fill_fields(
     stream: &[u8],
@@ -125,12 +114,11 @@ fn fill_fields(
     }
 }
 
-// Fills the table for the fields from a cursor on; in front of a family it stays empty.
+// Fills an empty table for the fields from a cursor on; in front of a family it stays empty.
 pub(crate) fn fill_near(stream: &[u8], pool: &[u8], sizes: &[u64], c: SpotCursor, table: &mut [u64])
-    requires { ⌜ 1024 ≤ length (now table) ⌝ }
+    requires { ⌜ Clear (now table) × (1024 ≤ length (now table)) ⌝ }
     ensures { λ _. ⌜ Near (now (stream .entry)) (now (pool .entry)) (now (sizes .entry)) c (now (table .exit)) ⌝ }
 {
-    clear(table);
     let ahead = c.ahead;
     let Ahead::Body(k) = ahead else {
         return;

@@ -1,4 +1,4 @@
-use Rattle.compare.proofs.AlikeLaws.{alike-next}
+use Rattle.compare.proofs.AlikeLaws.{field-inside, alike-next}
 use borrow.Author.Needs.{needs}
 use Rattle.compare.proofs.alike.next_alike.Statement.{statement}
 use Rattle.compare.proofs.alike.next_alike.Tie as tie
@@ -37,7 +37,7 @@ returns-3 : tie.Need-returns-3
 returns-3 c = tt
 
 alike-at-requires : tie.Need-alike-at-requires
-alike-at-requires c κs = search needs
+alike-at-requires c κs = (search field-inside, search field-inside)
 
 returns-4 : tie.Need-returns-4
 returns-4 c = search alike-next

@@ -27,11 +27,11 @@ enum-known-after c = search needs
 enum-told : tie.Need-enum-told Inv-loop μ-loop
 enum-told c = search needs
 
-place-requires : tie.Need-place-requires Inv-loop μ-loop
-place-requires c κs = search needs
+body-at-requires : tie.Need-body-at-requires Inv-loop μ-loop
+body-at-requires c κs = search needs
 
-place-requires-2 : tie.Need-place-requires-2 Inv-loop μ-loop
-place-requires-2 c κs = search needs
+body-at-requires-2 : tie.Need-body-at-requires-2 Inv-loop μ-loop
+body-at-requires-2 c κs = search needs
 
 returns : tie.Need-returns Inv-loop μ-loop
 returns c = search alike-so-far
@@ -55,8 +55,8 @@ pass-places-spec =
     next-alike-requires
     enum-known-after
     enum-told
-    place-requires
-    place-requires-2
+    body-at-requires
+    body-at-requires-2
     returns
     sum-requires
     loop-less

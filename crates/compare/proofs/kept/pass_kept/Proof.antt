@@ -1,0 +1,41 @@
+use Rattle.compare.proofs.KeptLaws.{noted-front, kept-body}
+use borrow.Author.Needs.{needs}
+use Rattle.compare.proofs.kept.pass_kept.Statement.{statement}
+use Rattle.compare.proofs.kept.pass_kept.Tie as tie
+
+enum-known-ahead : tie.Need-enum-known-ahead
+enum-known-ahead c = search needs
+
+returns : tie.Need-returns
+returns c = search needs
+
+enum-known-other : tie.Need-enum-known-other
+enum-known-other c = search needs
+
+returns-2 : tie.Need-returns-2
+returns-2 c = search needs
+
+returns-3 : tie.Need-returns-3
+returns-3 c = search needs
+
+slice-aggregate-pass-fields : tie.Need-slice-aggregate-pass-fields
+slice-aggregate-pass-fields c = search needs
+
+pass-fields-requires : tie.Need-pass-fields-requires
+pass-fields-requires c κs = (search noted-front, search needs)
+
+returns-4 : tie.Need-returns-4
+returns-4 c = search kept-body
+
+pub pass-kept-spec : {M : Type 1} → statement M
+pass-kept-spec =
+    tie.close
+    (tie.spec
+    enum-known-ahead
+    returns
+    enum-known-other
+    returns-2
+    returns-3
+    slice-aggregate-pass-fields
+    pass-fields-requires
+    returns-4)
