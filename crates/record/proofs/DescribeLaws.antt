@@ -3,7 +3,9 @@ use mathlib.Core.Path.{_≡_, refl, sym, ap, ap₂, _∙_}
 use mathlib.Core.List.{List, [], _∷_, _++_, append-nil, append-assoc}
 use mathlib.Core.Option.{Option, none}
 use mathlib.Core.Bool.{Bool, true, false}
-use Prim.Native.Nat.{ℕ}
+use Prim.Native.Nat.{ℕ, _+_}
+use native.Mathlib.Omega.{arith}
+use lib.ListN.{length, length-append}
 use types.Run.{OneOf, miss}
 use denote.Enum.Declared.{tagOf}
 use Rattle.record.specs.Base.{Str, bytes, eqs, decimal, orElse, orOption}
@@ -131,6 +133,79 @@ rest-keyless K.Other p f k = refl
 pub described-keyless : (p : Str) (f : D.Field.Field) (k : Option Key) → shapeType (fieldOf p f k) ≡ shapeType (fieldOf p f none)
 unfolding shapeType
 described-keyless p f k = ap (λ (r : Str). textOf p (f .kind) ++ r) (rest-keyless (kindOf (textOf p (f .kind))) p f k)
+
+-- lengths ----------------------------------------------------------------------------------------------------------------
+
+-- the tags of all kinds but the arrays
+abbrev pub no-array-tags : List ℕ
+no-array-tags = 0 ∷ 1 ∷ 2 ∷ 3 ∷ 6 ∷ 7 ∷ 8 ∷ 9 ∷ 10 ∷ 11 ∷ 12 ∷ 13 ∷ 14 ∷ 15 ∷ 16 ∷ []
+
+rest-named : (m : Kind) (f : Field) → OneOf no-array-tags (tagOf the-type m) → named f ≡ restAs m f
+unfolding restAs
+rest-named K.Scalar f h = refl
+rest-named K.Enum f h = refl
+rest-named K.TypeAlias f h = refl
+rest-named K.Bitfield f h = refl
+rest-named K.InlineArray f h = absurd (miss no-array-tags 4 tt h)
+rest-named K.InlineArray2d f h = absurd (miss no-array-tags 5 tt h)
+rest-named K.CstrPtr f h = refl
+rest-named K.StructPtr f h = refl
+rest-named K.StructArrayPtr f h = refl
+rest-named K.StructPtrArrayPtr f h = refl
+rest-named K.TaggedFamPtr f h = refl
+rest-named K.SimpleFamPtr f h = refl
+rest-named K.OpaquePtr f h = refl
+rest-named K.FnPtr f h = refl
+rest-named K.Padding f h = refl
+rest-named K.Text f h = refl
+rest-named K.Other f h = refl
+
+module _ (p : Str) (o : OptText) where
+  pub element-none-long : o ≡ Absent → 2 ≡ length (elementOf p o)
+  unfolding orElse bytes
+  element-none-long e = rw e
+
+  pub element-some-long : (t : Text) (x : Str) → o ≡ Given t → x ≡ textOf p t → length x ≡ length (elementOf p o)
+  unfolding orElse
+  element-some-long t x e g = rw (e, g)
+
+pub times-long : (n m : ℕ) → m ≡ length (decimal n) → 3 + m ≡ length (times n)
+unfolding bytes
+times-long n m e = rw e (simp length-append (omega arith))
+
+module _ (s p : Str) (o : OptText) (e : o ≡ optTextAt s 7) where
+  pub type-long : (t : Text) (x : Str) → o ≡ Given t → x ≡ textOf p t → 1 + length x ≡ length (named (fieldOf p (fieldAt s) none))
+  unfolding named spaced orOption
+  type-long t x a g = rw (← e, a, g) (omega arith)
+
+  module _ (a : o ≡ Absent) (q : OptText) (i : q ≡ optTextAt s 10) where
+    pub element-long : (t : Text) (x : Str) → q ≡ Given t → x ≡ textOf p t → 1 + length x ≡ length (named (fieldOf p (fieldAt s) none))
+    unfolding named spaced orOption
+    element-long t x b g = rw (← e, a, ← i, b, g) (omega arith)
+
+    pub none-long : q ≡ Absent → 0 ≡ length (named (fieldOf p (fieldAt s) none))
+    unfolding named spaced orOption
+    none-long b = rw (← e, a, ← i, b)
+
+module _ (s p : Str) (k : Kind) where
+  module _ (o : OptText) (a : ℕ) (e : o ≡ optTextAt s 10) (g : a ≡ length (elementOf p o)) where
+    pub array-long : (c : OptNumber) (n b : ℕ) → k ≡ K.InlineArray → c ≡ optNumberAt s 13 → n ≡ orElse (numberOf c) 0 → b ≡ length (times n)
+        → 1 + a + b ≡ length (restAs k (fieldOf p (fieldAt s) none))
+    unfolding restAs
+    array-long c n b h i j l = rw (h, l, j, i, g, e) (simp length-append (omega arith))
+
+    pub array2d-long : (c d : OptNumber) (m n u v : ℕ) → k ≡ K.InlineArray2d → c ≡ optNumberAt s 18 → m ≡ orElse (numberOf c) 0 → u ≡ length (times m) → d ≡ optNumberAt s 23
+        → n ≡ orElse (numberOf d) 0 → v ≡ length (times n) → 1 + a + u + v ≡ length (restAs k (fieldOf p (fieldAt s) none))
+    unfolding restAs
+    array2d-long c d m n u v h i j l x y z = rw (h, l, j, i, z, y, x, g, e) (simp length-append (omega arith))
+
+  pub named-long : (r : ℕ) → r ≡ length (named (fieldOf p (fieldAt s) none)) → OneOf no-array-tags (tagOf the-type k) → r ≡ length (restAs k (fieldOf p (fieldAt s) none))
+  named-long r e h = e ∙ ap length (rest-named k (fieldOf p (fieldAt s) none) h)
+
+  pub shape-long : (t : Text) (x : Str) (r : ℕ) → t ≡ textAt s 4 → x ≡ textOf p t → k ≡ kindOf x → r ≡ length (restAs k (fieldOf p (fieldAt s) none))
+      → length x + r ≡ length (shapeType (fieldOf p (fieldAt s) none))
+  unfolding shapeType
+  shape-long t x r d e g h = rw (h, g, e, d) (simp length-append)
 
 -- puts -------------------------------------------------------------------------------------------------------------------
 

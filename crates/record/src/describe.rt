@@ -8,6 +8,7 @@ use crate::operands::text_at;
 use crate::sizes::or_else;
 use crate::text::Text;
 use crate::text::bytes_of;
+use crate::writer::number_len;
 use crate::writer::put;
 use crate::writer::put_number;
 use crate::writer::put_text;
@@ -16,11 +17,12 @@ ghost use mathlib.Core.Path.{_≡_};
 ghost use mathlib.Core.Option.{none};
 ghost use mathlib.Core.List.{_++_};
 ghost use Prim.Native.Nat.{_+_, _≤_};
+ghost use lib.ListN.{length};
 ghost use Rattle.record.specs.Base.{Str, bytes};
 ghost use Rattle.record.specs.Stretch.{textOf};
 ghost use Rattle.record.specs.Lists.{fieldOf};
 ghost use Rattle.record.specs.Commands.{fieldAt};
-ghost use Rattle.record.specs.Shapes.{named};
+ghost use Rattle.record.specs.Shapes.{named, restAs, shapeType};
 ghost use Rattle.record.specs.Write.{Puts};
 ghost use Rattle.record.specs.Describe.{elementOf, times, describedAs, Shaped};
 
@@ -149,4 +151,62 @@ pub fn put_description(out: &mut [u8], at: usize, pool: &[u8], d: Description) -
             put_element(out, next, pool, word)
         }
     }
+}
+
+// The length of a scalar's word.
+fn element_len(pool: &[u8], word: OptText) -> usize
+    ensures { λ r. ⌜ (r ≡ length (elementOf (now (pool .entry)) word)) × (r ≤ 255) ⌝ }
+{
+    match word {
+        OptText::Absent => 2,
+        OptText::Given(t) => bytes_of(pool, t).len(),
+    }
+}
+
+// The length of a dimension.
+fn times_len(n: u32) -> usize
+    ensures { λ r. ⌜ (r ≡ length (times n)) × (r ≤ 23) ⌝ }
+{
+    3 + number_len(n as u64)
+}
+
+// The length of what follows a kind that is no array's.
+fn named_len(pool: &[u8], s: &[u8]) -> usize
+    ensures { λ r. ⌜ (r ≡ length (named (fieldOf (now (pool .entry)) (fieldAt (now (s .entry))) none))) × (r ≤ 256) ⌝ }
+{
+    if let OptText::Given(name) = opt_text_at(s, 7) {
+        return 1 + bytes_of(pool, name).len();
+    }
+    if let OptText::Given(name) = opt_text_at(s, 10) {
+        return 1 + bytes_of(pool, name).len();
+    }
+    0
+}
+
+// The length of what follows a kind.
+fn rest_len(pool: &[u8], s: &[u8], kind: Kind) -> usize
+    ensures { λ r. ⌜ (r ≡ length (restAs kind (fieldOf (now (pool .entry)) (fieldAt (now (s .entry))) none))) × (r ≤ 304) ⌝ }
+{
+    match kind {
+        Kind::InlineArray => {
+            let element = element_len(pool, opt_text_at(s, 10));
+            let count = times_len(or_else(opt_number_at(s, 13), 0));
+            1 + element + count
+        }
+        Kind::InlineArray2d => {
+            let element = element_len(pool, opt_text_at(s, 10));
+            let rows = times_len(or_else(opt_number_at(s, 18), 0));
+            let cols = times_len(or_else(opt_number_at(s, 23), 0));
+            1 + element + rows + cols
+        }
+        _ => named_len(pool, s),
+    }
+}
+
+// The length of a field's description, from the bytes that begin with its command.
+pub fn shape_len(pool: &[u8], s: &[u8]) -> usize
+    ensures { λ r. ⌜ (r ≡ length (shapeType (fieldOf (now (pool .entry)) (fieldAt (now (s .entry))) none))) × (r ≤ 559) ⌝ }
+{
+    let kind = bytes_of(pool, text_at(s, 4));
+    kind.len() + rest_len(pool, s, kind_of(kind))
 }
