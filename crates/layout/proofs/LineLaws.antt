@@ -15,13 +15,12 @@ use Rattle.record.specs.Lists.{fieldOf}
 use Rattle.record.specs.Scalars.{Scalar}
 use Rattle.record.specs.Fill.{joined}
 use Rattle.record.specs.Shapes.{shapeType, Place, places, capped}
-use Rattle.record.specs.Describe.{describedAs, Shaped}
+use Rattle.record.specs.Describe.{describedAs}
 use Rattle.record.specs.Reading.{Rec, rec, schemaOf}
 use Rattle.record.specs.Read.{Exact}
 use Rattle.record.specs.Write.{largest, saturated, Puts}
 use Rattle.record.specs.declared.text.Text.{Text}
 use Rattle.record.specs.declared.command.Cursor.{Cursor}
-use Rattle.record.specs.declared.describe.Shape.{Shape}
 use Rattle.record.specs.declared.seek.Between.the-variants.{Keys}
 use Rattle.record.specs.declared.seek.Sought.{Sought}
 use Rattle.record.specs.declared.seek.Sought.the-variants.{Nowhere, At}
@@ -53,20 +52,22 @@ module _ (p : Str) {out after : Str} {at r : ℕ} where
       → Puts out at (a ++ (b ++ (c ++ d))) after r
   put-four a b c d = puts-then a (puts-then b (puts-then c d))
 
-  pub line-put : (t : Str) (x : Spot) {m₁ m₂ m₃ : Str} {q₁ q₂ q₃ : ℕ} → Puts out at (t ++ (bytes "." ++ (textOf p (x .name) ++ bytes " "))) m₁ q₁
+  line-put : (t : Str) (f : Place) {m₁ m₂ m₃ : Str} {q₁ q₂ q₃ : ℕ} → Puts out at (t ++ (bytes "." ++ (f .name ++ bytes " "))) m₁ q₁
+      → Puts m₁ q₁ (decimal (f .offset) ++ (bytes " " ++ (decimal (f .size) ++ bytes " "))) m₂ q₂ → Puts m₂ q₂ (f .described) m₃ q₃ → Puts m₃ q₃ (bytes "\n") after r
+      → Puts out at (lineOf t f) after r
+  unfolding lineOf joined
+  line-put t f a b c d = puts-as (puts-then (puts-then a b) (puts-then c d)) (simp (append-assoc, append-nil))
+
+  pub spot-put : (t : Str) (x : Spot) {m₁ m₂ m₃ : Str} {q₁ q₂ q₃ : ℕ} → Puts out at (t ++ (bytes "." ++ (textOf p (x .name) ++ bytes " "))) m₁ q₁
       → Puts m₁ q₁ (decimal (x .offset) ++ (bytes " " ++ (decimal (x .size) ++ bytes " "))) m₂ q₂ → Puts m₂ q₂ (describedAs p (x .described)) m₃ q₃
       → Puts m₃ q₃ (bytes "\n") after r → Puts out at (lineOf t (spotOf p x)) after r
-  unfolding lineOf joined
-  line-put t x a b c d = puts-as (puts-then (puts-then a b) (puts-then c d)) (simp (append-assoc, append-nil))
+  spot-put t x = line-put t (spotOf p x)
 
-  -- the same of a field by the bytes that begin with its command
-  pub field-put : (t y : Str) (v : Shape) (x : Text) (offset size : ℕ) {m₁ m₂ m₃ : Str} {q₁ q₂ q₃ : ℕ} → x ≡ textAt y 1 → Shaped p y v
+  -- of a field by the bytes that begin with its command
+  pub field-put : (t y : Str) (x : Text) (offset size : ℕ) {m₁ m₂ m₃ : Str} {q₁ q₂ q₃ : ℕ} → x ≡ textAt y 1
       → Puts out at (t ++ (bytes "." ++ (textOf p x ++ bytes " "))) m₁ q₁ → Puts m₁ q₁ (decimal offset ++ (bytes " " ++ (decimal size ++ bytes " "))) m₂ q₂
-      → Puts m₂ q₂ (describedAs p (v .described)) m₃ q₃ → Puts m₃ q₃ (bytes "\n") after r → Puts out at (lineOf t (placeAt p y offset size)) after r
-  field-put t y v x offset size e h a b c d =
-      let f : Spot = record { name = x; offset = offset; size = size; described = v .described; padding = v .padding } in
-      let g : spotOf p f ≡ placeAt p y offset size = λ i. record { name = textOf p (e i); offset = offset; size = size; described = h .text i; padding = h .padded i } in
-      puts-as (line-put t f a b c d) (ap (lineOf t) g)
+      → Puts m₂ q₂ (shapeType (fieldOf p (fieldAt y) none)) m₃ q₃ → Puts m₃ q₃ (bytes "\n") after r → Puts out at (lineOf t (placeAt p y offset size)) after r
+  field-put t y x offset size e a = line-put t (placeAt p y offset size) (puts-as a (ap (λ (i : Text). t ++ (bytes "." ++ (textOf p i ++ bytes " "))) e))
 
 -- its length
 pub field-long : (p y : Str) (x : Text) (z : Str) (offset size a b c : ℕ) → x ≡ textAt y 1 → z ≡ textOf p x → a ≡ length (decimal offset) → b ≡ length (decimal size)

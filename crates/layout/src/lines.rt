@@ -11,7 +11,7 @@ use crate::spots::first_spot;
 use crate::spots::next_spot;
 use record::cut;
 use record::describe::put_description;
-use record::describe::shape_at;
+use record::describe::put_shape;
 use record::operands::text_at;
 use record::seek::Between;
 use record::seek::Sought;
@@ -85,11 +85,9 @@ fn put_field(
     ensures { λ r. ⌜ Puts (now (out .entry)) at (lineOf (nameOf (now (pool .entry)) owner) (placeAt (now (pool .entry)) (now (s .entry)) offset size)) (now (out .exit)) r × (r ≤ at + 2048) ⌝ }
 {
     let name = text_at(s, 1);
-    let shape = shape_at(pool, s);
-    let described = shape.described;
     let a = put_names(out, at, pool, owner, name);
     let b = put_extent(out, a, offset, size);
-    let c = put_description(out, b, pool, described);
+    let c = put_shape(out, b, pool, s);
     put(out, c, b"\n")
 }
 

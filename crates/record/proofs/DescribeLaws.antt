@@ -233,22 +233,43 @@ module _ (p : Str) {out after : Str} {at r : ℕ} where
     pub put-discriminant : (t : Text) → d ≡ Discriminant t → Puts out at (bytes "enum " ++ textOf p t) after r → Puts out at (describedAs p d) after r
     put-discriminant t e a = rw e a
 
+    pub put-same : (e : Description) → d ≡ e → Puts out at (describedAs p e) after r → Puts out at (describedAs p d) after r
+    put-same e g a = rw g a
+
     module _ {mid : Str} {q : ℕ} where
       pub put-length : (o : OptText) → d ≡ Length o → Puts out at (bytes "scalar ") mid q → Puts mid q (elementOf p o) after r
           → Puts out at (describedAs p d) after r
       put-length o e a b = rw e (puts-then a b)
 
-      module _ (k : Text) (a : Puts out at (textOf p k ++ bytes " ") mid q) where
-        pub put-named : (t : Text) → d ≡ Named k t → Puts mid q (textOf p t) after r → Puts out at (describedAs p d) after r
-        unfolding bytes
-        put-named t e b = rw e (puts-as (puts-then a b) (simp append-assoc))
+      pub put-array2d : (k : Text) (o : OptText) (m n : ℕ) → d ≡ Array2d k o m n → Puts out at (describedAs p (Array k o m)) mid q → Puts mid q (times n) after r
+          → Puts out at (describedAs p d) after r
+      put-array2d k o m n e a b = rw e (puts-as (puts-then a b) (simp append-assoc))
 
-        module _ (o : OptText) {mid₂ : Str} {q₂ : ℕ} (b : Puts mid q (elementOf p o) mid₂ q₂) where
-          pub put-array : (n : ℕ) → d ≡ Array k o n → Puts mid₂ q₂ (times n) after r → Puts out at (describedAs p d) after r
-          unfolding bytes
-          put-array n e c = rw e (puts-as (puts-then (puts-then a b) c) (simp append-assoc))
+  module _ (k : Text) {mid : Str} {q : ℕ} (a : Puts out at (textOf p k ++ bytes " ") mid q) where
+    pub put-named : (t : Text) → Puts mid q (textOf p t) after r → Puts out at (describedAs p (Named k t)) after r
+    unfolding bytes
+    put-named t b = puts-as (puts-then a b) (simp append-assoc)
 
-          pub put-array2d : (m n : ℕ) {mid₃ : Str} {q₃ : ℕ} → d ≡ Array2d k o m n → Puts mid₂ q₂ (times m) mid₃ q₃ → Puts mid₃ q₃ (times n) after r
-              → Puts out at (describedAs p d) after r
-          unfolding bytes
-          put-array2d m n e c f = rw e (puts-as (puts-then (puts-then (puts-then a b) c) f) (simp append-assoc))
+    pub put-array : (o : OptText) (n : ℕ) {mid₂ : Str} {q₂ : ℕ} → Puts mid q (elementOf p o) mid₂ q₂ → Puts mid₂ q₂ (times n) after r
+        → Puts out at (describedAs p (Array k o n)) after r
+    unfolding bytes
+    put-array o n b c = puts-as (puts-then (puts-then a b) c) (simp append-assoc)
+
+-- by the bytes that begin with a field's command
+module _ (p s : Str) (t : Text) (x : Str) (k : Kind) (d : t ≡ textAt s 4) (e : x ≡ textOf p t) (q : k ≡ kindOf x) {out after : Str} {at r : ℕ} where
+  pub shape-array : (o : OptText) (c : OptNumber) (n : ℕ) → k ≡ K.InlineArray → o ≡ optTextAt s 10 → c ≡ optNumberAt s 13 → n ≡ orElse (numberOf c) 0
+      → Puts out at (describedAs p (Array t o n)) after r → Puts out at (shapeType (fieldOf p (fieldAt s) none)) after r
+  shape-array o c n h a b g u = puts-as u (array-shaped p s t x k d e q o c n h a b g .text)
+
+  pub shape-array2d : (o : OptText) (c i : OptNumber) (m n : ℕ) {mid : Str} {y : ℕ} → k ≡ K.InlineArray2d → o ≡ optTextAt s 10 → c ≡ optNumberAt s 18 → m ≡ orElse (numberOf c) 0
+      → i ≡ optNumberAt s 23 → n ≡ orElse (numberOf i) 0 → Puts out at (describedAs p (Array t o m)) mid y → Puts mid y (times n) after r
+      → Puts out at (shapeType (fieldOf p (fieldAt s) none)) after r
+  shape-array2d o c i m n h a b g j l u v = puts-as (put-array2d p (Array2d t o m n) t o m n refl u v) (array2d-shaped p s t x k d e q o c i m n h a b g j l .text)
+
+  pub shape-named : OneOf no-array-tags (tagOf the-type k) → Puts out at (textOf p t ++ named (fieldOf p (fieldAt s) none)) after r
+      → Puts out at (shapeType (fieldOf p (fieldAt s) none)) after r
+  unfolding shapeType
+  shape-named h u =
+      puts-as u
+      (ap (λ (i : Str). textOf p t ++ i) (rest-named k (fieldOf p (fieldAt s) none) h)
+      ∙ ap₂ (λ (i : Text) (m : Kind). textOf p i ++ restAs m (fieldOf p (fieldAt s) none)) d (kind-is p s t x k d e q))

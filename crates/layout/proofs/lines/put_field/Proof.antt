@@ -9,18 +9,13 @@ use Rattle.layout.proofs.lines.put_field.Reads as reads
 use Rattle.layout.proofs.lines.put_field.Lts as lts
 use Rattle.layout.proofs.lines.put_extent.Reads as put-extent-reads
 use Rattle.layout.proofs.lines.put_names.Reads as put-names-reads
-use Rattle.record.proofs.describe.put_description.Reads as put-description-reads
-use Rattle.record.proofs.describe.shape_at.Reads as shape-at-reads
+use Rattle.record.proofs.describe.put_shape.Reads as put-shape-reads
 use Rattle.record.proofs.operands.text_at.Reads as text-at-reads
 use Rattle.record.proofs.writer.put.Reads as put-reads
 
 -- src/lines.rt:87:9
 text-at-requires : tie.Need-text-at-requires
 text-at-requires c κs = search needs
-
--- src/lines.rt:88:9
-shape-at-requires : tie.Need-shape-at-requires
-shape-at-requires c κs = search needs
 
 -- src/lines.rt:90:9
 put-names-requires : tie.Need-put-names-requires
@@ -31,8 +26,8 @@ put-extent-requires : tie.Need-put-extent-requires
 put-extent-requires c κs = search needs
 
 -- src/lines.rt:92:9
-put-description-requires : tie.Need-put-description-requires
-put-description-requires c κs = search needs
+put-shape-requires : tie.Need-put-shape-requires
+put-shape-requires c κs = search needs
 
 -- src/lines.rt:93:17
 slice-aggregate-put : tie.Need-slice-aggregate-put
@@ -56,10 +51,9 @@ put-field-spec =
     tie.close
     (tie.spec
     text-at-requires
-    shape-at-requires
     put-names-requires
     put-extent-requires
-    put-description-requires
+    put-shape-requires
     slice-aggregate-put
     put-requires
     same-length
