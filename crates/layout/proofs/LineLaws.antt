@@ -1,22 +1,35 @@
 -- The lines of the list, put one after the other. Assumes nothing.
-use Prim.Native.Nat.{ℕ, zero, suc, _+_, _-_, _*_, _≤_, _<_}
-use mathlib.Core.List.{List, [], _∷_, _++_, map, append-nil, append-assoc}
-use mathlib.Core.Path.{_≡_, refl, sym, ap, subst, _∙_}
+use Prim.Native.Nat.{ℕ, zero, suc, _+_, _-_, _*_, _/_, _≤_, _<_}
+use mathlib.Core.List.{List, [], _∷_, _++_, map, append-nil, append-assoc, List·Memᴰ}
+use mathlib.Core.Option.{none}
+use mathlib.Core.Path.{_≡_, refl, sym, ap, ap₂, subst, _∙_}
 use native.Mathlib.Omega.{arith}
-use lib.ListN.{length, getD, drop, drop-of-length-le}
+use lib.ListN.{length, getD, drop, length-append, drop-of-length-le}
 use lib.Seq.{drop-cons}
 use Rattle.record.specs.Base.{Str, bytes, decimal}
 use Rattle.record.specs.Stretch.{textOf}
+use Rattle.record.specs.Operands.{textAt}
+use Rattle.record.specs.Commands.{fieldAt, place}
+use Rattle.record.specs.Seek.{SoughtFrom}
+use Rattle.record.specs.Lists.{fieldOf}
 use Rattle.record.specs.Scalars.{Scalar}
 use Rattle.record.specs.Fill.{joined}
-use Rattle.record.specs.Shapes.{Place}
+use Rattle.record.specs.Shapes.{shapeType, Place, places, capped}
 use Rattle.record.specs.Describe.{describedAs}
 use Rattle.record.specs.Reading.{Rec, rec, schemaOf}
 use Rattle.record.specs.Read.{Exact}
-use Rattle.record.specs.Write.{largest, Puts}
-use Rattle.record.proofs.WriterLaws.{puts-none, puts-then, puts-as, puts-small}
+use Rattle.record.specs.Write.{largest, saturated, Puts}
+use Rattle.record.specs.declared.text.Text.{Text}
+use Rattle.record.specs.declared.command.Cursor.{Cursor}
+use Rattle.record.specs.declared.seek.Between.the-variants.{Keys}
+use Rattle.record.specs.declared.seek.Sought.{Sought}
+use Rattle.record.specs.declared.seek.Sought.the-variants.{Nowhere, At}
+use Rattle.record.proofs.SeekLaws.{sought-nearer}
+use Rattle.record.proofs.WriterLaws.{puts-none, puts-past, puts-then, puts-as, puts-near, puts-small}
 use Rattle.layout.specs.declared.names.TypeName.{TypeName}
 use Rattle.layout.specs.declared.spots.Spot.{Spot}
+use Rattle.layout.specs.declared.spots.Ahead.{Ahead}
+use Rattle.layout.specs.declared.spots.Ahead.the-variants.{Body}
 use Rattle.layout.specs.declared.spots.SpotCursor.{SpotCursor}
 use Rattle.layout.specs.declared.spots.SpotStep.{SpotStep}
 use Rattle.layout.specs.declared.spots.SpotStep.the-variants.{NoSpot, ASpot}
@@ -25,11 +38,12 @@ use Rattle.layout.specs.Listing.{lineOf, linesOf, linesOfAll, listOf}
 use Rattle.layout.specs.Handles.{layoutOf}
 use Rattle.layout.specs.Names.{nameOf, stretchesOf}
 use Rattle.layout.specs.Table.{Typed}
-use Rattle.layout.specs.FieldSizes.{SizesTable}
-use Rattle.layout.specs.Spots.{spotOf, spotsLeft, placesFrom, Sound, SpotsFrom, TypeSpots}
+use Rattle.layout.specs.FieldSizes.{SizesFrom, SizesTable}
+use Rattle.layout.specs.Spots.{spotOf, placeAt, cursorAt, bodyPlace, fieldsAhead, aheadLeft, spotsLeft, placesFrom, Sound, SpotsFrom, TypeSpots}
+use Rattle.layout.specs.Lines.{LinesFrom}
 use Rattle.layout.specs.Tables.{Tables}
 use Rattle.layout.proofs.NameLaws.{stretches-read}
-use Rattle.layout.proofs.SpotLaws.{spots-over-now, spots-now, spots-sound, spots-nearer, spots-few}
+use Rattle.layout.proofs.SpotLaws.{no-spot, place-passed, place-sound, spots-over-now, spots-now, spots-sound, spots-nearer, spots-few}
 
 -- one line ----------------------------------------------------------------------------------------------------------------
 
@@ -38,11 +52,112 @@ module _ (p : Str) {out after : Str} {at r : ℕ} where
       → Puts out at (a ++ (b ++ (c ++ d))) after r
   put-four a b c d = puts-then a (puts-then b (puts-then c d))
 
-  pub line-put : (t : Str) (x : Spot) {m₁ m₂ m₃ : Str} {q₁ q₂ q₃ : ℕ} → Puts out at (t ++ (bytes "." ++ (textOf p (x .name) ++ bytes " "))) m₁ q₁
+  line-put : (t : Str) (f : Place) {m₁ m₂ m₃ : Str} {q₁ q₂ q₃ : ℕ} → Puts out at (t ++ (bytes "." ++ (f .name ++ bytes " "))) m₁ q₁
+      → Puts m₁ q₁ (decimal (f .offset) ++ (bytes " " ++ (decimal (f .size) ++ bytes " "))) m₂ q₂ → Puts m₂ q₂ (f .described) m₃ q₃ → Puts m₃ q₃ (bytes "\n") after r
+      → Puts out at (lineOf t f) after r
+  unfolding lineOf joined
+  line-put t f a b c d = puts-as (puts-then (puts-then a b) (puts-then c d)) (simp (append-assoc, append-nil))
+
+  pub spot-put : (t : Str) (x : Spot) {m₁ m₂ m₃ : Str} {q₁ q₂ q₃ : ℕ} → Puts out at (t ++ (bytes "." ++ (textOf p (x .name) ++ bytes " "))) m₁ q₁
       → Puts m₁ q₁ (decimal (x .offset) ++ (bytes " " ++ (decimal (x .size) ++ bytes " "))) m₂ q₂ → Puts m₂ q₂ (describedAs p (x .described)) m₃ q₃
       → Puts m₃ q₃ (bytes "\n") after r → Puts out at (lineOf t (spotOf p x)) after r
-  unfolding lineOf joined
-  line-put t x a b c d = puts-as (puts-then (puts-then a b) (puts-then c d)) (simp (append-assoc, append-nil))
+  spot-put t x = line-put t (spotOf p x)
+
+  -- of a field by the bytes that begin with its command
+  pub field-put : (t y : Str) (x : Text) (offset size : ℕ) {m₁ m₂ m₃ : Str} {q₁ q₂ q₃ : ℕ} → x ≡ textAt y 1
+      → Puts out at (t ++ (bytes "." ++ (textOf p x ++ bytes " "))) m₁ q₁ → Puts m₁ q₁ (decimal offset ++ (bytes " " ++ (decimal size ++ bytes " "))) m₂ q₂
+      → Puts m₂ q₂ (shapeType (fieldOf p (fieldAt y) none)) m₃ q₃ → Puts m₃ q₃ (bytes "\n") after r → Puts out at (lineOf t (placeAt p y offset size)) after r
+  field-put t y x offset size e a = line-put t (placeAt p y offset size) (puts-as a (ap (λ (i : Text). t ++ (bytes "." ++ (textOf p i ++ bytes " "))) e))
+
+-- its length
+pub field-long : (p y : Str) (x : Text) (z : Str) (offset size a b c : ℕ) → x ≡ textAt y 1 → z ≡ textOf p x → a ≡ length (decimal offset) → b ≡ length (decimal size)
+    → c ≡ length (shapeType (fieldOf p (fieldAt y) none)) → length z + (a + b) + c + 5 ≡ length (lineOf [] (placeAt p y offset size))
+unfolding lineOf joined bytes
+field-long p y x z offset size a b c d e f g h = rw (h, f, g, e, d) (simp length-append (omega arith))
+
+line-long : (t : Str) (f : Place) → length (lineOf t f) ≡ length t + length (lineOf [] f)
+unfolding lineOf joined
+line-long t f = length-append t (lineOf [] f)
+
+-- a line that is only measured
+line-measured : (t : Str) (f : Place) (n k end r : ℕ) → n ≡ length t → k ≡ length (lineOf [] f) → r ≡ saturated (end + (n + k)) → Puts [] end (lineOf t f) [] r
+line-measured t f n k end r a b e =
+    let l = line-long t f in
+    let m : end + (n + k) ≡ end + length (lineOf t f) = omega arith in
+    puts-past [] (lineOf t f) end r (omega arith) (omega arith) (e ∙ ap saturated m)
+
+-- the lines of fields from a place on -------------------------------------------------------------------------------------
+
+-- how far they have come: whatever puts the rest puts all from the first cursor on
+pub record FieldLines (s p : Str) (z : List ℕ) (n : Str) (c₀ : SpotCursor) (out₀ : Str) (at : ℕ) (out : Str) (c : SpotCursor) (end : ℕ) : Type 0 where
+  pub sound : (w : List Scalar) → Sound (rec s p w) z c₀ → Sound (rec s p w) z c
+  pub rest : (w : List Scalar) → Sound (rec s p w) z c₀ → {after : Str} {q : ℕ} → Puts out end (linesOf n (placesFrom (rec s p w) c)) after q
+      → Puts out₀ at (linesOf n (placesFrom (rec s p w) c₀)) after q
+  pub near : end + 2048 * spotsLeft s c ≤ at + 2048 * spotsLeft s c₀
+  pub long : length out ≡ length out₀
+  pub small : end ≤ largest
+
+module _ (s p : Str) (z : List ℕ) (n : Str) where
+  pub field-lines-start : (c : SpotCursor) (out : Str) (at : ℕ) → at ≤ largest → FieldLines s p z n c out at out c at
+  field-lines-start c out at h = record { sound = λ w d. d; rest = λ w d x. x; near = omega arith; long = refl; small = h }
+
+  module _ (c₀ : SpotCursor) (out₀ out : Str) (at end k offset : ℕ) (l : FieldLines s p z n c₀ out₀ at out (cursorAt (Body (place k)) offset) end) (r : Sought) (i : SoughtFrom s Keys 11 k r) where
+    pub field-lines-end : r ≡ Nowhere → length out ≤ largest → LinesFrom s p z n c₀ out₀ at out end
+    unfolding linesOf
+    field-lines-end m f =
+        let near = l .near in
+        record {
+          lines = λ w d.
+              let e : linesOf n (placesFrom (rec s p w) (cursorAt (Body (place k)) offset)) ≡ [] =
+              ap (linesOf n) (spots-over-now s p w z _ _ (no-spot s p w z (place k) offset r i m) (l .sound w d) refl) in
+              l .rest w d (puts-as (puts-none out end (l .small) f) (sym e));
+          near = omega arith;
+        }
+
+    pub field-lines-next : (a j : ℕ) (y : Str) (v e : ℕ) (out' : Str) (end' : ℕ) → r ≡ At a j → y ≡ drop a s → v ≡ getD z (j / 33) 0 → e ≡ capped (offset + v)
+        → Puts out end (lineOf n (placeAt p y offset v)) out' end' → end' ≤ end + 2048 → FieldLines s p z n c₀ out₀ at out' (cursorAt (Body (place j)) e) end'
+    unfolding linesOf
+    field-lines-next a j y v e out' end' m g u q x b =
+        let near = l .near in
+        let closer = sought-nearer s Keys 11 k r i a j m in
+        let line : Puts out end (lineOf n (placeAt p (drop a s) offset v)) out' end' = puts-as x (ap (λ (o : Str). lineOf n (placeAt p o offset v)) g) in
+        record {
+          sound = λ w d. place-sound s p w z k offset r i a j m v e u q (l .sound w d);
+          rest = λ w d o. l .rest w d (puts-as (puts-then line o) (sym (ap (linesOf n) (place-passed s p w z k offset r i a j m v e u q (l .sound w d)))));
+          near = omega arith;
+          long = x .long ∙ l .long;
+          small = puts-small x;
+        }
+
+  -- where the buffer is at its end it does not matter which it is
+  pub lines-past : (c : SpotCursor) (out : Str) (at r : ℕ) → LinesFrom s p z n c [] at [] r → length out ≤ largest → length out ≤ at → LinesFrom s p z n c out at out r
+  lines-past c out at r l f h = record { lines = λ w d. puts-past out _ at r f h (l .lines w d .end); near = l .near }
+
+-- how far the measuring has come, under a name of which only the length is known
+pub record Measuring (s p : Str) (z : List ℕ) (n : ℕ) (c₀ : SpotCursor) (at : ℕ) (c : SpotCursor) (end : ℕ) : Type 0 where
+  pub short : n ≤ 512
+  pub lines : (t : Str) → n ≡ length t → FieldLines s p z t c₀ [] at [] c end
+
+module _ (s p : Str) (z : List ℕ) (n : ℕ) where
+  pub measuring-start : (c : SpotCursor) (at : ℕ) → n ≤ 512 → at ≤ largest → Measuring s p z n c at c at
+  measuring-start c at h k = record { short = h; lines = λ t e. field-lines-start s p z t c [] at k }
+
+  module _ (c₀ : SpotCursor) (at end k offset : ℕ) (l : Measuring s p z n c₀ at (cursorAt (Body (place k)) offset) end) (r : Sought) (i : SoughtFrom s Keys 11 k r) where
+    pub measuring-end : (t : Str) → n ≡ length t → r ≡ Nowhere → LinesFrom s p z t c₀ [] at [] end
+    measuring-end t e m = field-lines-end s p z t c₀ [] [] at end k offset (l .lines t e) r i m (omega arith)
+
+    pub measuring-next : (a j : ℕ) (y : Str) (v e u end' : ℕ) → r ≡ At a j → y ≡ drop a s → v ≡ getD z (j / 33) 0 → e ≡ capped (offset + v)
+        → u ≡ length (lineOf [] (placeAt p y offset v)) → u ≤ 859 → end' ≡ saturated (end + (n + u)) → Measuring s p z n c₀ at (cursorAt (Body (place j)) e) end'
+    measuring-next a j y v e u end' m g b q h x w =
+        let short = l .short in
+        record {
+          short = short;
+          lines = λ t d.
+              let line = line-measured t (placeAt p y offset v) n u end end' d h w in
+              let long = line-long t (placeAt p y offset v) in
+              let near = puts-near line in
+              field-lines-next s p z t c₀ [] [] at end k offset (l .lines t d) r i a j y v e [] end' m g b q line (omega arith);
+        }
 
 -- the lines of a type -----------------------------------------------------------------------------------------------------
 
@@ -73,6 +188,29 @@ module _ (s p : Str) (w : List Scalar) (z : List ℕ) (h : ℕ) where
         let e : linesOf (T .name) (placesFrom R c) ≡ [] = ap (linesOf (T .name)) (spots-over-now s p w z c step n (l .sound) i) in
         let m = l .near in
         (l .rest (puts-as (puts-none out end (l .small) f) (sym e)), omega arith)
+
+    -- at the fields of the record only the place counts
+    module _ (n : TypeName) (k : Cursor) (after : Str) (q : ℕ) (e : n ≡ stretchesOf s h) (m : c .ahead ≡ Body k)
+        (f : LinesFrom s p z (nameOf p n) (cursorAt (Body (place (k .at))) (c .offset)) out end after q) where
+      pub lining-body : Puts out₀ at (linesOf (T .name) (T .fields)) after q
+      unfolding placesFrom layoutOf
+      lining-body =
+          let v : nameOf p n ≡ T .name = ap (nameOf p) e ∙ stretches-read s p h in
+          let same : placesFrom R c ≡ placesFrom R (cursorAt (Body (place (k .at))) (c .offset)) = ap (λ (a : Ahead). places (schemaOf R) (c .offset) (fieldsAhead s p a)) m in
+          let d : Sound R z (cursorAt (Body (place (k .at))) (c .offset)) =
+          record {
+            sizes = subst (λ (a : Ahead). SizesFrom R z (bodyPlace a)) m (l .sound .sizes);
+            ends = λ x i. l .sound .ends x (subst (λ (y : List Place). List·Memᴰ x y) (sym same) i);
+          }
+          in
+          l .rest (puts-as (f .lines w d) (ap₂ linesOf v (sym same)))
+
+      pub body-near : q ≤ at + 2048 * (length s + 2)
+      body-near =
+          let left : spotsLeft s c ≡ length s - k .at = ap (aheadLeft s) m in
+          let near = l .near in
+          let close = f .near in
+          omega arith
 
     pub lining-next : (n : TypeName) (x : Spot) (d : SpotCursor) (step : SpotStep) {out' : Str} {end' : ℕ} → n ≡ stretchesOf s h → step ≡ ASpot x d → SpotsFrom R z c step
         → Puts out end (lineOf (nameOf p n) (spotOf p x)) out' end' → end' ≤ end + 2048 → Lining R z T out₀ at out' d end'

@@ -254,3 +254,12 @@ module _ (p : Str) (t : TypeName) {out after : Str} {at r : ℕ} where
       → Puts out at (nameOf p t) after r
   unfolding variantName
   put-both d a e b = rw e (puts-then a b)
+
+-- how long they are
+module _ (p : Str) (t : TypeName) (x : Str) (a : x ≡ textOf p (t .front)) where
+  pub name-front-long : t .back ≡ Absent → length x ≡ length (nameOf p t)
+  name-front-long e = rw (e, a)
+
+  pub name-both-long : (d : Text) (y : Str) → t .back ≡ Given d → y ≡ textOf p d → length x + 2 + length y ≡ length (nameOf p t)
+  unfolding variantName
+  name-both-long d y e b = rw (e, a, b) (simp length-append (omega arith))

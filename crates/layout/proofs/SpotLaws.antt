@@ -57,7 +57,7 @@ use Rattle.layout.specs.declared.spots.SpotStep.the-variants.{NoSpot, AS
 use Rattle.layout.specs.Handles.{nameAt, placePart, handleFields, layoutOf}
 use Rattle.layout.specs.Table.{Typed, TypesTable}
 use Rattle.layout.specs.FieldSizes.{fieldSize, SizesFrom, SizesTable}
-use Rattle.layout.specs.Spots.{spotOf, cursorAt, bodyPlace, fieldsAhead, placesFrom, aheadLeft, spotsLeft, Sound, spotsOf, soundAfter, stepLeft, SpotsFrom, TypeSpots, OthersPassed}
+use Rattle.layout.specs.Spots.{spotOf, placeAt, cursorAt, bodyPlace, fieldsAhead, placesFrom, aheadLeft, spotsLeft, Sound, spotsOf, soundAfter, stepLeft, SpotsFrom, TypeSpots, OthersPassed}
 use Rattle.layout.proofs.Along.{place-stands}
 use Rattle.layout.proofs.Flattened.{own-fields, family-fields}
 use Rattle.layout.proofs.Openings.{typed-place, typed-opened}
@@ -231,6 +231,33 @@ module _ (s p : Str) (w : List Scalar) (t : List ℕ) (k : Cursor) (offset : ℕ
       (spot-field s p w t k offset (AField (fieldAt y) c) (fields-found s (k .at) r i a j m y (fieldAt y) c d refl l) (fieldAt y) c refl z e (v .described) (v .padding)
       (u ∙ ap (λ (f : Cursor). getD t (f .at / 33) 0) (sym l)) (g .text) (g .padded) q)
 
+-- a field of which only the place is known
+module _ (s p : Str) (w : List Scalar) (t : List ℕ) (at offset : ℕ) (r : Sought) (i : SoughtFrom s Keys 11 at r) (a k : ℕ) (m : r ≡ At a k) (z e : ℕ) (u : z ≡ getD t (k / 33) 0)
+    (v : e ≡ capped (offset + z)) (d : Sound (rec s p w) t (cursorAt (Body (place at)) offset)) where
+  abbrev found-field : D.Field.Field
+  found-field = fieldAt (drop a s)
+
+  found : FieldsFrom s at (AField found-field (place k))
+  found = fields-found s at r i a k m (drop a s) found-field (place k) refl refl refl
+
+  pub place-passed : placesFrom (rec s p w) (cursorAt (Body (place at)) offset) ≡ placeAt p (drop a s) offset z ∷ placesFrom (rec s p w) (cursorAt (Body (place k)) e)
+  unfolding placeOf
+  place-passed =
+      let size = sized-so s p w t (place at) offset (AField found-field (place k)) found found-field (place k) refl z e u v d d in
+      field-passed s p w t (place at) offset (AField found-field (place k)) found found-field (place k) refl z e u v d
+      ∙ (λ j.
+      record {
+        name = textOf p (found-field .name);
+        offset = offset;
+        size = sym size j;
+        described = described-keyless p found-field (fieldKeyAt s p k) j;
+        padding = isPadding (kindOf (textOf p (found-field .kind)));
+      }
+      ∷ placesFrom (rec s p w) (cursorAt (Body (place k)) e))
+
+  pub place-sound : Sound (rec s p w) t (cursorAt (Body (place k)) e)
+  place-sound = passed-sound s p w t (place at) offset (AField found-field (place k)) found found-field (place k) refl z e u v d
+
 -- a step from any cursor ---------------------------------------------------------------------------------------------------
 
 module _ (s p : Str) (w : List Scalar) (t : List ℕ) (c : SpotCursor) (r : SpotStep) where
@@ -259,23 +286,17 @@ module _ (s p : Str) (t : List ℕ) (n : Str) (c : SpotCursor) where
     others-so-far k e = subst (λ (x : Cursor). OthersPassed s p t n c (cursorAt (Body x) offset)) (sym e) o
 
     module _ (r : Sought) (i : SoughtFrom s Keys 11 at r) (a k : ℕ) (m : r ≡ At a k) where
-      found : FieldsFrom s at (AField (fieldAt (drop a s)) (place k))
-      found = fields-found s at r i a k m (drop a s) (fieldAt (drop a s)) (place k) refl refl refl
-
       pub others-on : (x : Str) (b : Bool) (z e : ℕ) → x ≡ nameAt s p a → b ≡ eqs x n → b ≡ false → z ≡ getD t (k / 33) 0 → e ≡ capped (offset + z)
           → OthersPassed s p t n c (cursorAt (Body (place k)) e)
-      unfolding nameAt placeOf
+      unfolding nameAt
       others-on x b z e g h q u v =
           let near = sought-nearer s Keys 11 at r i a k m in
           let l = o .left in
           record {
             same = λ w d.
                 o .same w d
-                ∙ find-miss (λ (f : Place). eqs (f .name) n) _ _ _
-                (field-passed s p w t (place at) offset (AField (fieldAt (drop a s)) (place k)) found (fieldAt (drop a s)) (place k) refl z e u v (o .sound w d))
-                (ap (λ (y : Str). eqs y n) (sym g) ∙ sym h ∙ q);
-            sound = λ w d.
-                passed-sound s p w t (place at) offset (AField (fieldAt (drop a s)) (place k)) found (fieldAt (drop a s)) (place k) refl z e u v (o .sound w d);
+                ∙ find-miss (λ (f : Place). eqs (f .name) n) _ _ _ (place-passed s p w t at offset r i a k m z e u v (o .sound w d)) (ap (λ (y : Str). eqs y n) (sym g) ∙ sym h ∙ q);
+            sound = λ w d. place-sound s p w t at offset r i a k m z e u v (o .sound w d);
             left = omega arith;
           }
 

@@ -2,15 +2,19 @@
 -- layout.rs, defined in Shapes of record. Assumes nothing.
 use mathlib.Core.Path.{_≡_}
 use mathlib.Core.List.{List, [], _∷_, _++_, List·Memᴰ}
+use mathlib.Core.Option.{none}
 use Prim.Native.Nat.{ℕ, suc, _+_, _-_, _≤_}
 use lib.ListN.{length, drop}
 use Rattle.record.specs.Base.{Str, eqs, find}
 use Rattle.record.specs.Stretch.{textOf}
+use Rattle.record.specs.Operands.{textAt}
 use Rattle.record.specs.Scalars.{Scalar}
 use Rattle.record.specs.Schema.{Field}
-use Rattle.record.specs.Lists.{familyOf}
+use Rattle.record.specs.Commands.{fieldAt}
+use Rattle.record.specs.Lists.{fieldOf, familyOf}
+use Rattle.record.specs.Kind.{kindOf, isPadding}
 use Rattle.record.specs.Steps.{fieldsAt}
-use Rattle.record.specs.Shapes.{Place, places, prefix, limit}
+use Rattle.record.specs.Shapes.{shapeType, Place, places, prefix, limit}
 use Rattle.record.specs.Describe.{describedAs}
 use Rattle.record.specs.Reading.{Rec, rec, schemaOf}
 use Rattle.record.specs.Read.{Exact}
@@ -32,6 +36,16 @@ spotOf p x = record {
   size = x .size;
   described = describedAs p (x .described);
   padding = x .padding;
+}
+
+-- the field whose command some bytes begin with
+abbrev pub placeAt : Str → Str → ℕ → ℕ → Place
+placeAt p s offset size = record {
+  name = textOf p (textAt s 1);
+  offset = offset;
+  size = size;
+  described = shapeType (fieldOf p (fieldAt s) none);
+  padding = isPadding (kindOf (textOf p (textAt s 4)));
 }
 
 abbrev pub cursorAt : Ahead → ℕ → SpotCursor

@@ -1,12 +1,22 @@
 // The lines of the list: a type's name, a dot, a field's name, its offset, its size and its description.
+use crate::field_sizes::size_before;
+use crate::measure::measure_fields;
 use crate::names::TypeName;
 use crate::names::put_name;
 use crate::names::type_name;
+use crate::spots::Ahead;
 use crate::spots::Spot;
 use crate::spots::SpotStep;
 use crate::spots::first_spot;
 use crate::spots::next_spot;
+use record::cut;
 use record::describe::put_description;
+use record::describe::put_shape;
+use record::operands::text_at;
+use record::seek::Between;
+use record::seek::Sought;
+use record::seek::seek;
+use record::sizes::sum;
 use record::text::Text;
 use record::writer::put;
 use record::writer::put_number;
@@ -16,6 +26,7 @@ ghost use mathlib.Core.List.{_++_};
 ghost use lib.ListN.{length};
 ghost use Rattle.record.specs.Base.{bytes, decimal};
 ghost use Rattle.record.specs.Stretch.{textOf};
+ghost use Rattle.record.specs.Commands.{place};
 ghost use Rattle.record.specs.Scalars.{scalarsOf};
 ghost use Rattle.record.specs.Reading.{rec, schemaOf};
 ghost use Rattle.record.specs.Read.{Exact};
@@ -25,7 +36,8 @@ ghost use Rattle.layout.specs.Handles.{layoutOf};
 ghost use Rattle.layout.specs.Names.{nameOf};
 ghost use Rattle.layout.specs.Table.{Typed};
 ghost use Rattle.layout.specs.FieldSizes.{SizesTable};
-ghost use Rattle.layout.specs.Spots.{spotOf};
+ghost use Rattle.layout.specs.Lines.{LinesFrom};
+ghost use Rattle.layout.specs.Spots.{spotOf, placeAt, cursorAt};
 ghost use Rattle.layout.specs.Tables.{Tables};
 
 // Puts the names of a type and of its field, each with what follows it.
@@ -60,6 +72,71 @@ fn put_line(out: &mut [u8], at: usize, pool: &[u8], owner: TypeName, x: Spot) ->
     put(out, c, b"\n")
 }
 
+// Puts the line of the field whose command some bytes begin with.
+fn put_field(
+    out: &mut [u8],
+    at: usize,
+    pool: &[u8],
+    s: &[u8],
+    owner: TypeName,
+    offset: u64,
+    size: u64,
+) -> usize
+    ensures { λ r. ⌜ Puts (now (out .entry)) at (lineOf (nameOf (now (pool .entry)) owner) (placeAt (now (pool .entry)) (now (s .entry)) offset size)) (now (out .exit)) r × (r ≤ at + 2048) ⌝ }
+{
+    let name = text_at(s, 1);
+    let a = put_names(out, at, pool, owner, name);
+    let b = put_extent(out, a, offset, size);
+    let c = put_shape(out, b, pool, s);
+    put(out, c, b"\n")
+}
+
+// Puts the lines of a record's fields from a place on.
+fn put_fields(
+    out: &mut [u8],
+    at: usize,
+    stream: &[u8],
+    pool: &[u8],
+    sizes: &[u64],
+    owner: TypeName,
+    from: usize,
+    start: u64,
+) -> usize
+    ensures { λ r. ⌜ LinesFrom (now (stream .entry)) (now (pool .entry)) (now (sizes .entry)) (nameOf (now (pool .entry)) owner) (cursorAt (Ahead.Body (place from)) start) (now (out .entry)) at (now (out .exit)) r ⌝ }
+{
+    let mut end = at;
+    let mut next = from;
+    let mut offset = start;
+    loop {
+        let Sought::At(here, after) = seek(stream, next, 11, Between::Keys) else {
+            return end;
+        };
+        let size = size_before(sizes, after);
+        end = put_field(out, end, pool, cut::from(stream, here), owner, offset, size);
+        offset = sum(offset, size);
+        next = after;
+    }
+}
+
+// The same; where the buffer is at its end the lines are only measured.
+fn put_body(
+    out: &mut [u8],
+    at: usize,
+    stream: &[u8],
+    pool: &[u8],
+    sizes: &[u64],
+    owner: TypeName,
+    from: usize,
+    start: u64,
+) -> usize
+    ensures { λ r. ⌜ LinesFrom (now (stream .entry)) (now (pool .entry)) (now (sizes .entry)) (nameOf (now (pool .entry)) owner) (cursorAt (Ahead.Body (place from)) start) (now (out .entry)) at (now (out .exit)) r ⌝ }
+{
+    if out.len() <= at {
+        return measure_fields(at, stream, pool, sizes, owner, from, start);
+    }
+    put_fields(out, at, stream, pool, sizes, owner, from, start)
+}
+
 // Puts the lines of one type.
 fn put_type(
     out: &mut [u8],
@@ -77,6 +154,10 @@ fn put_type(
     let mut cursor = first_spot(stream, handle);
     let mut end = at;
     loop {
+        let ahead = cursor.ahead;
+        if let Ahead::Body(k) = ahead {
+            return put_body(out, end, stream, pool, sizes, owner, k.at, cursor.offset);
+        }
         let SpotStep::ASpot(x, after) = next_spot(rows, stream, pool, sizes, cursor) else {
             return end;
         };

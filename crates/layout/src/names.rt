@@ -227,3 +227,16 @@ pub fn put_name(out: &mut [u8], at: usize, pool: &[u8], name: TypeName) -> usize
     };
     put_worded(out, next, b"::", pool, own)
 }
+
+// The length of a type's name.
+pub(crate) fn name_len(pool: &[u8], name: TypeName) -> usize
+    ensures { λ r. ⌜ (r ≡ length (nameOf (now (pool .entry)) name)) × (r ≤ 512) ⌝ }
+{
+    let front = name.front;
+    let back = name.back;
+    let n = bytes_of(pool, front).len();
+    let OptText::Given(own) = back else {
+        return n;
+    };
+    n + 2 + bytes_of(pool, own).len()
+}

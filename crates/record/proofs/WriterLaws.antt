@@ -51,6 +51,62 @@ pub places-less : (k r : ℕ) → 10 ≤ r → r < 10 ^ k → r / 10 < 10 ^ (k -
 places-less zero r h b = absurd (omega arith)
 places-less (suc k) r h b = simp sub-one (div-lt-iff-lt-mul {k = 10} {x = r} {y = 10 ^ k} (omega arith) .1 (rw pow-suc at b))
 
+-- how many digits there are
+digits-one : (k r : ℕ) → 1 ≤ k → r < 10 → length (digits k r) ≡ 1
+digits-one zero r a h = absurd (omega arith)
+digits-one (suc k) r a h = simp (lt-ltb r 10 h)
+
+digits-more : (k r : ℕ) → 2 ≤ k → 10 ≤ r → length (digits k r) ≡ length (digits (k - 1) (r / 10)) + 1
+digits-more zero r a h = absurd (omega arith)
+digits-more (suc k) r a h = simp (sub-one, le-ltb r 10 h, length-append)
+
+-- how far they are counted: those that are left are a number's
+pub record Counting (n len rest : ℕ) : Type 0 where
+  pub few : len ≤ 20
+  pub fits : rest < 10 ^ (21 - len)
+  pub sum : len + length (digits (21 - len) rest) ≡ length (decimal n) + 1
+
+pub counting-start : (n : ℕ) → n < 2 ^ 64 → Counting n 1 n
+unfolding decimal
+counting-start n h = record { few = omega arith; fits = omega arith; sum = omega arith }
+
+pub counting-next : (n len rest : ℕ) → Counting n len rest → 10 ≤ rest → Counting n (len + 1) (rest / 10)
+counting-next n len rest c h =
+    let k = places (21 - len) rest h (c .fits) in
+    let d = digits-more (21 - len) rest k h in
+    let s = c .sum in
+    let e : 21 - (len + 1) ≡ 21 - len - 1 = omega arith in
+    let m : len + 1 + length (digits (21 - len - 1) (rest / 10)) ≡ length (decimal n) + 1 = omega arith in
+    record {
+      few = omega arith;
+      fits = subst (λ (i : ℕ). rest / 10 < 10 ^ i) (sym e) (places-less (21 - len) rest h (c .fits));
+      sum = subst (λ (i : ℕ). len + 1 + length (digits i (rest / 10)) ≡ length (decimal n) + 1) (sym e) m;
+    }
+
+pub counting-end : (n len rest : ℕ) → Counting n len rest → rest < 10 → (len ≡ length (decimal n)) × (len ≤ 20)
+counting-end n len rest c h =
+    let f = c .few in
+    let s = c .sum in
+    let d = digits-one (21 - len) rest (omega arith) h in
+    (omega arith, f)
+
+-- short numbers
+module _ (n a : ℕ) (e : a ≡ 48 + n % 10) where
+  pub one-digit : n < 10 → a ∷ [] ≡ decimal n
+  unfolding decimal
+  one-digit h = let m : a ≡ 48 + n = omega arith in rw (lt-ltb n 10 h, m)
+
+  module _ (b : ℕ) (f : b ≡ 48 + n / 10 % 10) where
+    pub two-digits : 10 ≤ n → n < 100 → b ∷ a ∷ [] ≡ decimal n
+    unfolding decimal
+    two-digits l h = let m : b ≡ 48 + n / 10 = omega arith in rw (le-ltb n 10 l, lt-ltb (n / 10) 10 (omega arith), m, e)
+
+    pub three-digits : (c : ℕ) → c ≡ 48 + n / 100 % 10 → 100 ≤ n → n < 1000 → c ∷ b ∷ a ∷ [] ≡ decimal n
+    unfolding decimal
+    three-digits c g l h =
+        let m : c ≡ 48 + n / 10 / 10 = omega arith in
+        rw (le-ltb n 10 (omega arith), le-ltb (n / 10) 10 (omega arith), lt-ltb (n / 10 / 10) 10 (omega arith), m, f, e)
+
 -- one element of a copy
 pub stored : (d s e : List ℕ) (at o j : ℕ) → o ≡ at + j → e ≡ paste d at s j → o < length d → j < length s → set e o (getD s j 0) ≡ paste d at s (j + 1)
 stored d s e at o j ho he hd hs = rw (he, ho, add-one) (paste-suc d at s j 0 (omega arith) hs)
@@ -177,6 +233,11 @@ puts-none out at h l = record {
   fits = l;
   bytes = λ _. placed-none out at;
 }
+
+-- where the buffer is at its end the place after the bytes is all there is
+pub puts-past : (out xs : Str) (at r : ℕ) → length out ≤ largest → length out ≤ at → r ≡ saturated (at + length xs) → Puts out at xs out r
+puts-past out [] at r l h e = record { end = e; long = refl; fits = l; bytes = λ _. placed-none out at }
+puts-past out (x ∷ xs) at r l h e = record { end = e; long = refl; fits = l; bytes = λ w. absurd (omega arith) }
 
 -- one put after another
 pub puts-then : {out xs ys mid after : Str} {at q r : ℕ} → Puts out at xs mid q → Puts mid q ys after r → Puts out at (xs ++ ys) after r

@@ -4,7 +4,7 @@ use crate::text::Text;
 use crate::text::bytes_of;
 ghost use mathlib.Core.Path.{_≡_};
 ghost use mathlib.Core.List.{_++_};
-ghost use Prim.Native.Nat.{_+_, _≤_};
+ghost use Prim.Native.Nat.{_+_, _%_, _≤_};
 ghost use lib.ListN.{length, drop};
 ghost use Rattle.record.specs.Base.{decimal, signed};
 ghost use Rattle.record.specs.Stretch.{textOf};
@@ -12,7 +12,7 @@ ghost use Rattle.record.specs.Fill.{placed};
 ghost use Rattle.record.specs.Write.{saturated, Puts};
 
 // The place n bytes after another, and the largest number there is where that is larger.
-fn after(at: usize, n: usize) -> usize
+pub fn after(at: usize, n: usize) -> usize
     ensures { λ r. ⌜ r ≡ saturated (at + n) ⌝ }
 {
     if 0xffff_ffff_ffff_ffff - at < n {
@@ -99,6 +99,19 @@ fn signed(v: u64) -> Digits
     Digits { bytes, start: at }
 }
 
+// How many digits a number has in decimal.
+pub fn number_len(n: u64) -> usize
+    ensures { λ r. ⌜ (r ≡ length (decimal n)) × (r ≤ 20) ⌝ }
+{
+    let mut len: usize = 1;
+    let mut rest = n;
+    while 10 <= rest {
+        len += 1;
+        rest /= 10;
+    }
+    len
+}
+
 // Puts a number's text.
 fn put_digits(out: &mut [u8], at: usize, d: Digits) -> usize
     ensures { λ r. ⌜ Puts (now (out .entry)) at (drop (d .start) (d .bytes)) (now (out .exit)) r × (r ≤ at + 21) ⌝ }
@@ -108,10 +121,26 @@ fn put_digits(out: &mut [u8], at: usize, d: Digits) -> usize
     put(out, at, from(&b, s))
 }
 
-// Puts a number in decimal.
+// The last digit of a number.
+fn digit(n: u64) -> u8
+    ensures { λ r. ⌜ r ≡ 48 + n % 10 ⌝ }
+{
+    48 + (n % 10) as u8
+}
+
+// Puts a number in decimal. Most are short, and need no loop.
 pub fn put_number(out: &mut [u8], at: usize, n: u64) -> usize
     ensures { λ r. ⌜ Puts (now (out .entry)) at (decimal n) (now (out .exit)) r × (r ≤ at + 21) ⌝ }
 {
+    if n < 10 {
+        return put(out, at, &[digit(n)]);
+    }
+    if n < 100 {
+        return put(out, at, &[digit(n / 10), digit(n)]);
+    }
+    if n < 1000 {
+        return put(out, at, &[digit(n / 100), digit(n / 10), digit(n)]);
+    }
     put_digits(out, at, decimal(n))
 }
 

@@ -1,4 +1,4 @@
-use Rattle.layout.proofs.LineLaws.{line-put}
+use Rattle.layout.proofs.LineLaws.{spot-put}
 use Rattle.record.proofs.WriterLaws.{puts-near}
 use native.Mathlib.Omega.{arith}
 use Rattle.record.specs.Base.{bytes}
@@ -26,7 +26,7 @@ same-length c = search needs
 
 returns : tie.Need-returns
 unfolding bytes
-returns c = (search line-put, omega (arith, puts-near))
+returns c = (search spot-put, omega (arith, puts-near))
 
 pub put-line-spec : {M : Type 1} → statement M
 put-line-spec =
