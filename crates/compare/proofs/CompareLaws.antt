@@ -48,7 +48,7 @@ then-none (D.stop w m) = refl
 
 -- nine passes, in the groups in which the code has them
 pub grouped : (a b c d e f g h i : D.Verdict)
-    → ((a then b) then (c then d) then (e then f) then ((g then h) then i)) ≡ firstOf (a ∷ b ∷ c ∷ d ∷ e ∷ f ∷ g ∷ h ∷ i ∷ [])
+    → (a then (b then (c then d) then (e then f) then ((g then h) then i))) ≡ firstOf (a ∷ b ∷ c ∷ d ∷ e ∷ f ∷ g ∷ h ∷ i ∷ [])
 unfolding firstOf
 grouped a b c d e f g h i = simp (then-assoc, then-none)
 
@@ -100,12 +100,12 @@ module _ (cur rel : Rec) where
 
       pub compared : (v : Verdict) → b ≡ false
           → meaning (cur .pool) (rel .pool) v
-          ≡ ((checkReleaseOrder N C then checkFirstReleases N C (constantsAt (cur .stream) (cur .pool) 0) (constantsAt (rel .stream) (rel .pool) 0) (enumsAt (cur .stream) (cur .pool) 0) (enumsAt (rel .stream) (rel .pool) 0)
-          (pluginKeys (structsAt (cur .stream) (cur .pool) 0) (unstoredAt (cur .stream) (cur .pool) 0)) (pluginKeys (structsAt (rel .stream) (rel .pool) 0) (unstoredAt (rel .stream) (rel .pool) 0)))
+          ≡ (checkReleaseOrder N C then (checkFirstReleases N C (constantsAt (cur .stream) (cur .pool) 0) (constantsAt (rel .stream) (rel .pool) 0) (enumsAt (cur .stream) (cur .pool) 0) (enumsAt (rel .stream) (rel .pool) 0)
+          (pluginKeys (structsAt (cur .stream) (cur .pool) 0) (unstoredAt (cur .stream) (cur .pool) 0)) (pluginKeys (structsAt (rel .stream) (rel .pool) 0) (unstoredAt (rel .stream) (rel .pool) 0))
           then (checkConstants (structsAt (cur .stream) (cur .pool) 0) (constantsAt (cur .stream) (cur .pool) 0) (constantsAt (rel .stream) (rel .pool) 0) then checkEnums (enumsAt (cur .stream) (cur .pool) 0) (enumsAt (rel .stream) (rel .pool) 0))
           then (checkBitfields (bitfieldsAt (cur .stream) (cur .pool) 0) (bitfieldsAt (rel .stream) (rel .pool) 0) then checkBitfieldReleases N (bitfieldsAt (cur .stream) (cur .pool) 0) (bitfieldsAt (rel .stream) (rel .pool) 0))
           then ((checkFields (typesOf cur) (typesOf rel) then checkStandalone (familiesAt (cur .stream) (cur .pool) 0) (familiesAt (rel .stream) (rel .pool) 0) (typesOf cur) (typesOf rel))
-          then checkGenerations N C (versionsAt (cur .stream) (cur .pool) 0) (typesAt (cur .stream) (cur .pool)) (constantsAt (cur .stream) (cur .pool) 0) (constantsAt (rel .stream) (rel .pool) 0) (changed (typesOf cur) (typesOf rel))))
+          then checkGenerations N C (versionsAt (cur .stream) (cur .pool) 0) (typesAt (cur .stream) (cur .pool)) (constantsAt (cur .stream) (cur .pool) 0) (constantsAt (rel .stream) (rel .pool) 0) (changed (typesOf cur) (typesOf rel)))))
           → meaning (cur .pool) (rel .pool) v ≡ compare S T
       unfolding compare
       compared v e h = h ∙ grouped _ _ _ _ _ _ _ _ _ ∙ sym (ap firstOf passes-are) ∙ sym (rw (flag-is ∙ e))

@@ -16,7 +16,7 @@ use Rattle.record.specs.Write.{Puts}
 use Rattle.record.specs.Steps.{familiesAt}
 use Rattle.record.specs.Index.{Alone}
 use Rattle.record.specs.Owner.{ownerOf}
-use Rattle.record.specs.Leads.{Led}
+use Rattle.record.specs.Leads.{LeadTable}
 use Rattle.record.specs.Versioned.{InSlots}
 use Rattle.record.specs.References.{typesAt}
 use Rattle.record.specs.Ownership.{Known, Answered, ownerMeant}
@@ -154,7 +154,7 @@ module _ (s p n : Str) (roots : Versioned) (marks index leads : List ℕ) (o : O
   unfolding coverMeant coverIn
   entry-alone t = rw (← e, t)
 
-  module _ (t : b ≡ false) (r : Owner) (a : Known s p marks index → InSlots s p roots → Led s p marks leads → Answered s p n r) where
+  module _ (t : b ≡ false) (r : Owner) (a : Known s p marks index → InSlots s p roots → LeadTable s p marks leads → Answered s p n r) where
     owner-is : ownerMeant p r ≡ ownerOf (typesAt s p) n
     owner-is = a (o .known) (o .slots) (o .leads) .owner
 

@@ -11,7 +11,7 @@ use Rattle.record.specs.Stretch.{textOf}
 use Rattle.record.specs.Owner.{Types, ownerOf}
 use Rattle.record.specs.References.{typesAt}
 use Rattle.record.specs.Reading.{Rec, schemaOf}
-use Rattle.record.specs.Leads.{Led}
+use Rattle.record.specs.Leads.{LeadTable}
 use Rattle.record.specs.Ownership.{Known}
 use Rattle.record.specs.Versioned.{InSlots}
 use Rattle.record.specs.declared.text.Text.{Text}
@@ -67,7 +67,7 @@ pub record Packed (t : Text) (n : ℕ) : Type 0 where
 pub record Owners (s p : Str) (roots : Versioned) (m x t : List ℕ) : Type 0 where
   pub known : Known s p m x
   pub slots : InSlots s p roots
-  pub leads : Led s p m t
+  pub leads : LeadTable s p m t
 
 -- an entry that was found is that of its type's name
 abbrev pub Knows : Str → Str → Last → Type 0

@@ -35,6 +35,7 @@ ghost use Rattle.record.specs.Scalars.{scalarsOf};
 ghost use Rattle.record.specs.Lists.{optOf, constantOf};
 ghost use Rattle.record.specs.Steps.{constantsAt, constantIn, structsAt, structFound, versionsAt};
 ghost use Rattle.record.specs.Owner.{withName};
+ghost use Rattle.record.specs.Index.{Indexed};
 ghost use Rattle.record.specs.References.{typesAt};
 ghost use Rattle.record.specs.Reading.{rec};
 ghost use Rattle.record.specs.Versioned.{versioned, InSlots};
@@ -314,11 +315,12 @@ fn check_filled(
     check_roots(stream, pool, types, past, old, cover, slots, current, copy)
 }
 
-// The pass; the marks of the owners, the index of the record and the table of what covers each type are lent to it.
+// The pass; the marks of the owners and the table of what covers each type are lent to it.
 pub(crate) fn check_generations(
     rows: &[u8],
     stream: &[u8],
     pool: &[u8],
+    index: &[u16],
     types: &[u32],
     sizes: &[u64],
     past: &[u8],
@@ -326,16 +328,15 @@ pub(crate) fn check_generations(
     shipped: &[u32],
     widths: &[u64],
     marks: &mut [u8],
-    index: &mut [u16],
     cover: &mut [u32],
     current: Text,
     copy: OptText,
 ) -> Verdict
-    requires { ⌜ Tables (rec (now stream) (now pool) (scalarsOf (now rows))) (now types) (now sizes) × Tables (rec (now past) (now old) (scalarsOf (now rows))) (now shipped) (now widths) × (length (now stream) ≤ length (now marks)) × (length (now types) ≤ length (now cover)) × (length (now stream) ≤ 32768) × (4938 ≤ length (now index)) ⌝ }
+    requires { ⌜ Tables (rec (now stream) (now pool) (scalarsOf (now rows))) (now types) (now sizes) × Tables (rec (now past) (now old) (scalarsOf (now rows))) (now shipped) (now widths) × (length (now stream) ≤ length (now marks)) × (length (now types) ≤ length (now cover)) × Indexed (now stream) (now pool) (now index) ⌝ }
     ensures { λ r. ⌜ meaning (now (pool .entry)) (now (old .entry)) r ≡ checkGenerations (textOf (now (pool .entry)) current) (optOf (now (old .entry)) copy) (versionsAt (now (stream .entry)) (now (pool .entry)) 0) (typesAt (now (stream .entry)) (now (pool .entry))) (constantsAt (now (stream .entry)) (now (pool .entry)) 0) (constantsAt (now (past .entry)) (now (old .entry)) 0) (changedTypes (rec (now (stream .entry)) (now (pool .entry)) (scalarsOf (now (rows .entry)))) (rec (now (past .entry)) (now (old .entry)) (scalarsOf (now (rows .entry))))) ⌝ }
 {
     let slots = versioned_structs(stream, pool);
-    mark_owners(stream, pool, marks, index);
+    mark_owners(stream, pool, index, marks);
     fill_cover(
         rows,
         stream,

@@ -17,7 +17,7 @@ use Rattle.record.specs.Commands.{operands, wide, widths, widthWith, wid
 use Rattle.record.specs.Lists.{anything, listed, aliases, enums, values, bitfields, members, structs, fields, families, variants}
 use Rattle.record.specs.Steps.{valuesAt, membersAt, fieldsAt, variantsAt, aliasesAt, enumsAt, bitfieldsAt, structsAt, familiesAt, aliasIn, enumIn, bitfieldIn, structIn, familyIn}
 use Rattle.record.specs.Seek.{afterAt}
-use Rattle.record.specs.Index.{hashOf, declaredName, declares, isNamed, isAlone, onto, declaring, declaredPlaces, keyAt, putAt, latest, Linked, Chained, Indexed, hitIn, linkBefore, Headless, FirstNamed, soughtAt, aliasPlaced, enumPlaced, bitfieldPlaced, structPlaced, familyPlaced, PlaceNamed, Declared, Alone}
+use Rattle.record.specs.Index.{hashOf, declaredName, declares, isNamed, isAlone, onto, declaring, declaredPlaces, keyAt, putAt, latest, Linked, IndexRoom, Chained, Indexed, hitIn, linkBefore, Headless, FirstNamed, soughtAt, aliasPlaced, enumPlaced, bitfieldPlaced, structPlaced, familyPlaced, PlaceNamed, Declared, Alone}
 use Rattle.record.specs.declared.text.Text.{Text}
 use Rattle.record.specs.declared.command.Cursor.{Cursor}
 use Rattle.record.specs.declared.command.Command.{Command}
@@ -208,7 +208,7 @@ pub ruleset put-laws = (put-over, put-there)
 pub record Filling (s p : Str) (before x : List ℕ) (at : ℕ) : Type 0 where
   pub places : List ℕ
   pub same-length : length x ≡ length before
-  pub room : 4938 ≤ length x
+  pub room : IndexRoom s x
   pub inside : at ≤ length s
   pub left : onto (declaring s) (commandsAt s at) places ≡ declaredPlaces s
   pub chained : Chained x (keyAt s p) at places
@@ -240,7 +240,7 @@ module _ (before x : List ℕ) (i : ℕ) (c : HeadlessTo before x i) where
 pub ruleset headless-laws = (headless-start, headless-on, headless-end)
 
 module _ (s p : Str) (before x : List ℕ) where
-  pub fill-start : Headless before x → 4938 ≤ length before → Filling s p x x 0
+  pub fill-start : Headless before x → IndexRoom s before → Filling s p x x 0
   unfolding declaredPlaces latest Linked
   fill-start c r = record { places = []; same-length = refl; room = let e = c .same-length in omega arith; inside = omega arith; left = refl; chained = record { heads = c .none; linked = tt } }
 
@@ -277,6 +277,9 @@ module _ (s p : Str) (before x : List ℕ) where
         pub fill-place : at < 32768
         fill-place = let a = before-it in let b = within in omega arith
 
+        pub fill-entry : 256 + at / 7 < length x
+        fill-entry = let a = before-it in let b = within in let k = f .room in omega arith
+
         pub fill-on : (to : List ℕ) → to ≡ putAt s p x at → Filling s p before to n
         fill-on to q = subst (λ (l : List ℕ). Filling s p before l n) (sym q) (go (declaring s at) refl)
           where
@@ -296,7 +299,7 @@ module _ (s p : Str) (before x : List ℕ) where
               room = let k = length-set (set x (256 + at / 7) (getD x h 0)) h (at + 1) ∙ length-set x (256 + at / 7) (getD x h 0) in let j = f .room in omega arith;
               inside = within;
               left = there true w;
-              chained = chained-put (keyAt s p) x at n h (f .places) (f .chained) (key-below s p x at) refl (let k = f .room in let j = fill-place in omega arith) (far w);
+              chained = chained-put (keyAt s p) x at n h (f .places) (f .chained) (key-below s p x at) refl fill-entry (far w);
             })
             go false w = subst (λ (l : List ℕ). Filling s p before l n) (sym (put-not s p x at w)) (record {
               places = f .places;
@@ -306,9 +309,6 @@ module _ (s p : Str) (before x : List ℕ) where
               left = there false w;
               chained = record { heads = f .chained .heads; linked = linked-above (keyAt s p) x at n (f .places) (let k = before-it in omega arith) (f .chained .linked) };
             })
-
-pub fill-room : (s p : Str) (before x : List ℕ) (at : ℕ) → Filling s p before x at → 4938 ≤ length x
-fill-room s p before x at f = f .room
 
 pub hash-small : (u : Str) (h : ℕ) → h ≡ hashOf u → h < 256
 hash-small u h e = subst (λ (z : ℕ). z < 256) (sym e) (hash-below u)

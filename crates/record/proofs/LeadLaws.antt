@@ -14,7 +14,7 @@ use Rattle.record.specs.Stretch.{textOf}
 use Rattle.record.specs.Lists.{optOf}
 use Rattle.record.specs.Index.{Indexed, FirstNamed}
 use Rattle.record.specs.Marks.{referenceAt}
-use Rattle.record.specs.Leads.{entryOf, EntryNamed, Least, IsLeast, PutLeast, LedTo, PutLead, Led, LeadsFilled, LeadsTo, LeadGiven}
+use Rattle.record.specs.Leads.{entryOf, EntryNamed, Least, IsLeast, PutLeast, LedTo, PutLead, LeadTable, LeadsFilled, LeadsTo, LeadGiven}
 use Rattle.record.specs.Ownership.{EightClear}
 use Rattle.record.specs.declared.text.Text.{Text}
 use Rattle.record.specs.declared.operands.OptText.{OptText}
@@ -175,7 +175,7 @@ pub leads-unknown : (s p : Str) (m : List ℕ) (n : Str) → LeadsTo s p m n Unk
 leads-unknown s p m n = record { none = λ e. absurd (Unknown≢NoField e); least = λ i e. absurd (Unknown≢AField e) }
 
 -- a table of no entries is that of any record
-pub led-none : (s p : Str) (m t : List ℕ) → length t ≤ 0 → Led s p m t
+pub led-none : (s p : Str) (m t : List ℕ) → length t ≤ 0 → LeadTable s p m t
 led-none s p m t h = record { each = λ q n a b c. absurd (omega arith) }
 
 module _ (s p : Str) (x t : List ℕ) (n : Str) where
@@ -183,7 +183,7 @@ module _ (s p : Str) (x t : List ℕ) (n : Str) where
   given-unknown = record { by = λ i m l. leads-unknown s p m n }
 
   module _ (e : ℕ) (named : EntryNamed s p x n e) (inside : e < length t) (link : ℕ) (is : link ≡ getD t e 0) where
-    there : Indexed s p x → (m : List ℕ) → Led s p m t → (q : ℕ) → (getD m q 0 ≡ 0 → ⊥) → referenceAt s p q ≡ some n → Least m link q
+    there : Indexed s p x → (m : List ℕ) → LeadTable s p m t → (q : ℕ) → (getD m q 0 ≡ 0 → ⊥) → referenceAt s p q ≡ some n → Least m link q
     there i m l q a b =
         let z : e ≡ entryOf s p n = named .is i in
         subst (λ (k : ℕ). Least m k q) (ap (λ (k : ℕ). getD t k 0) (sym z) ∙ sym is) (l .each q n a b (subst (λ (k : ℕ). k < length t) z inside))

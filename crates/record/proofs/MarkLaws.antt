@@ -16,9 +16,10 @@ use Rattle.record.specs.Schema.{Field, Key}
 use Rattle.record.specs.Commands.{fieldAt}
 use Rattle.record.specs.Lists.{optOf, fieldOf}
 use Rattle.record.specs.Steps.{fieldKeyAt}
+use Rattle.record.specs.Index.{Indexed}
 use Rattle.record.specs.Owner.{referenced, typeFields, Edge, Leads, here, along}
 use Rattle.record.specs.References.{typesAt}
-use Rattle.record.specs.Marks.{bodyAt, bodyOf, PlacesFrom, referenceAt, entered, targetAt, placePast, Clear, unseen, Ready, Named, Full, Fresh, Walked, TypeWalked, Beyond, FieldWalked}
+use Rattle.record.specs.Marks.{bodyAt, bodyOf, PlacesFrom, referenceAt, entered, targetAt, placePast, Clear, unseen, Ready, Named, Full, Fresh, Led, Walked, TypeWalked, Beyond, FieldWalked}
 use Rattle.record.specs.declared.text.Text.{Text}
 use Rattle.record.specs.declared.operands.OptText.{OptText}
 use Rattle.record.specs.declared.operands.OptText.the-variants.{Absent, Given}
@@ -91,22 +92,17 @@ module _ (s p : Str) where
     }
 
   pub walked-none : {mark : ℕ} {R : Str → Type 0} {a : List ℕ} → Walked s p mark R a a
-  walked-none = record { same-length = refl; fewer = omega arith; each = λ q. inl refl; closed = λ q h. inl h }
+  walked-none = record { each = λ q. inl refl; closed = λ q h. inl h }
 
   pub walked-into : {mark : ℕ} {R S : Str → Type 0} {a b : List ℕ} → ((n : Str) → R n → S n) → Walked s p mark R a b → Walked s p mark S a b
-  walked-into {mark} {R} {S} {a} {b} i w = record { same-length = w .same-length; fewer = w .fewer; each = λ q. go q (w .each q); closed = w .closed }
+  walked-into {mark} {R} {S} {a} {b} i w = record { each = λ q. go q (w .each q); closed = w .closed }
     where
       go : (q : ℕ) → (getD b q 0 ≡ getD a q 0) ⊎ Fresh s p mark R a b q → (getD b q 0 ≡ getD a q 0) ⊎ Fresh s p mark S a b q
       go q (inl e) = inl e
       go q (inr f) = inr (record { was = f .was; is = f .is; into = λ n e. i n (f .into n e) })
 
   pub walked-on : {mark : ℕ} {R : Str → Type 0} {a b c : List ℕ} → Walked s p mark R a b → Walked s p mark R b c → Walked s p mark R a c
-  walked-on {mark} {R} {a} {b} {c} v w = record {
-    same-length = w .same-length ∙ v .same-length;
-    fewer = let f = v .fewer in let g = w .fewer in omega arith;
-    each = λ q. go q (v .each q) (w .each q);
-    closed = λ q h. late q (w .closed q h);
-  }
+  walked-on {mark} {R} {a} {b} {c} v w = record { each = λ q. go q (v .each q) (w .each q); closed = λ q h. late q (w .closed q h) }
     where
       go : (q : ℕ) → (getD b q 0 ≡ getD a q 0) ⊎ Fresh s p mark R a b q → (getD c q 0 ≡ getD b q 0) ⊎ Fresh s p mark R b c q → (getD c q 0 ≡ getD a q 0) ⊎ Fresh s p mark R a c q
       go q (inl e) (inl g) = inl (g ∙ e)
@@ -125,8 +121,8 @@ module _ (s p : Str) where
 -- a field's walk ---------------------------------------------------------------------------------------------------------
 
 module _ (s p : Str) (mark q : ℕ) (m : List ℕ) where
-  pub field-seen : (getD m q 0 ≡ 0 → ⊥) → FieldWalked s p mark q m m
-  field-seen h = record { walked = walked-none s p; marked = h }
+  pub field-seen : (x : List ℕ) → (getD m q 0 ≡ 0 → ⊥) → Led s p x m m (FieldWalked s p mark q m m)
+  field-seen x h = record { same-length = refl; fewer = omega arith; so = λ i. record { walked = walked-none s p; marked = h } }
 
   module _ (ready : Ready s m mark) (within : q < length s) (free : getD m q 0 ≡ 0) where
     real : 0 < mark
@@ -146,8 +142,6 @@ module _ (s p : Str) (mark q : ℕ) (m : List ℕ) where
     marking : (after : List ℕ) → Walked s p mark (Beyond s p q) (set m q mark) after → ((n : Str) → targetAt s p q ≡ some n → Full s p after n) → FieldWalked s p mark q m after
     marking after w full = record {
       walked = record {
-        same-length = w .same-length ∙ length-set m q mark;
-        fewer = let f = w .fewer in let u = unseen-set m q mark inside free real in omega arith;
         each = λ x. each x (eqb x q) refl (w .each x);
         closed = λ x h. closed x (eqb x q) refl (w .closed x h);
       };
@@ -174,23 +168,31 @@ module _ (s p : Str) (mark q : ℕ) (m : List ℕ) where
         closed x false e (inl h) = inl (λ z. h (getD-set-other m q x mark 0 (eqb-false x q e) ∙ z))
         closed x false e (inr f) = inr f
 
-    module _ (r : OptText) (found : optOf p r ≡ targetAt s p q) where
-      pub field-ends : r ≡ Absent → FieldWalked s p mark q m (set m q mark)
-      field-ends e =
-          let nothing : targetAt s p q ≡ none = sym found ∙ ap (optOf p) e in
-          marking (set m q mark) (walked-none s p) (λ n t. absurd (let z : _≡_ {A = ℕ} 0 1 = cc in omega arith))
+    module _ (x : List ℕ) (r : OptText) (found : Indexed s p x → optOf p r ≡ targetAt s p q) where
+      pub field-ends : r ≡ Absent → Led s p x m (set m q mark) (FieldWalked s p mark q m (set m q mark))
+      field-ends e = record {
+        same-length = length-set m q mark;
+        fewer = let u = unseen-set m q mark inside free real in omega arith;
+        so = λ i.
+            let nothing : targetAt s p q ≡ none = sym (found i) ∙ ap (optOf p) e in
+            marking (set m q mark) (walked-none s p) (λ n t. absurd (let z : _≡_ {A = ℕ} 0 1 = cc in omega arith));
+      }
 
-      pub field-leads : (t : Text) (w : Str) (after : List ℕ) → r ≡ Given t → w ≡ textOf p t → TypeWalked s p mark w (set m q mark) after → FieldWalked s p mark q m after
-      field-leads t w after e h g =
-          let there : targetAt s p q ≡ some w = sym found ∙ ap (optOf p) e ∙ ap some (sym h) in
-          marking after
-          (walked-into s p (λ n l. record { through = w; target = there; leads = l }) (g .walked))
-          (λ n k. subst (Full s p after) (let y : w ≡ n = cc in y) (g .full))
+      pub field-leads : (t : Text) (w : Str) (after : List ℕ) → r ≡ Given t → w ≡ textOf p t → Led s p x (set m q mark) after (TypeWalked s p mark w (set m q mark) after) → Led s p x m after (FieldWalked s p mark q m after)
+      field-leads t w after e h g = record {
+        same-length = g .same-length ∙ length-set m q mark;
+        fewer = let f = g .fewer in let u = unseen-set m q mark inside free real in omega arith;
+        so = λ i.
+            let there : targetAt s p q ≡ some w = sym (found i) ∙ ap (optOf p) e ∙ ap some (sym h) in
+            marking after
+            (walked-into s p (λ n l. record { through = w; target = there; leads = l }) (g .so i .walked))
+            (λ n k. subst (Full s p after) (let y : w ≡ n = cc in y) (g .so i .full));
+      }
 
 pub ruleset field-laws = (field-seen, field-ends, field-leads)
 
-pub field-length : (s p : Str) (mark q : ℕ) (n : Str) (m after : List ℕ) → TypeWalked s p mark n (set m q mark) after → length after ≡ length m
-field-length s p mark q n m after w = w .walked .same-length ∙ length-set m q mark
+pub field-length : (s p : Str) (x : List ℕ) (mark q : ℕ) (n : Str) (m after : List ℕ) → Led s p x (set m q mark) after (TypeWalked s p mark n (set m q mark) after) → length after ≡ length m
+field-length s p x mark q n m after w = w .same-length ∙ length-set m q mark
 
 -- a type's walk ----------------------------------------------------------------------------------------------------------
 
@@ -200,13 +202,13 @@ pub record Going (s p : Str) (mark : ℕ) (n : Str) (before m : List ℕ) (field
   pub own : (f : Field) → List·Memᴰ f fields → List·Memᴰ f (typeFields (typesAt s p) n)
   pub done : (f : Field) → List·Memᴰ f (typeFields (typesAt s p) n) → List·Memᴰ f fields ⊎ ((x : Str) → entered (typesAt s p) (referenced f) ≡ some x → Named s p m x)
 
-module _ (s p : Str) (mark : ℕ) (n : Str) (before m : List ℕ) (fields : List Field) (g : Going s p mark n before m fields) where
+module _ (s p : Str) (x : List ℕ) (mark : ℕ) (n : Str) (before m : List ℕ) (fields : List Field) (g : Led s p x before m (Going s p mark n before m fields)) where
   pub going-length : length m ≡ length before
-  going-length = g .walked .same-length
+  going-length = g .same-length
 
   -- what the walk of a field asks
   pub going-less : (t : ℕ) → 2 * unseen before + 1 ≡ t → 2 * unseen m < t
-  going-less t e = let f = g .walked .fewer in omega arith
+  going-less t e = let f = g .fewer in omega arith
 
   pub going-ready : Ready s before mark → Ready s m mark
   going-ready r = record { room = let h = r .room in let l = going-length in omega arith; real = r .real }
@@ -215,12 +217,12 @@ pub place-inside : (f : Bool) (s : Str) (at : ℕ) (r : PlaceStep) → PlacesFro
 place-inside f s at r h q k m = let g : suc q ≤ length s = subst (λ x. placePast x ≤ length s) m (h .within) in omega arith
 
 module _ (s p : Str) (mark : ℕ) (n : Str) where
-  pub type-starts : (m : List ℕ) (fields : List Field) → typeFields (typesAt s p) n ≡ fields → Going s p mark n m m fields
-  type-starts m fields e = rw (← e) (record { walked = walked-none s p; own = λ f i. i; done = λ f i. inl i })
+  going-start : (m : List ℕ) (fields : List Field) → typeFields (typesAt s p) n ≡ fields → Going s p mark n m m fields
+  going-start m fields e = rw (← e) (record { walked = walked-none s p; own = λ f i. i; done = λ f i. inl i })
 
   module _ (family : Bool) (before m : List ℕ) (at : ℕ) (g : Going s p mark n before m (bodyAt family s p at)) (r : PlaceStep) (step : PlacesFrom family s at r) where
-    pub type-ends : r ≡ NoPlace → TypeWalked s p mark n before m
-    type-ends e = record { walked = g .walked; full = record { all = λ x h. go x h (g .done (h .field) (h .is-field)) } }
+    going-end : r ≡ NoPlace → TypeWalked s p mark n before m
+    going-end e = record { walked = g .walked; full = record { all = λ x h. go x h (g .done (h .field) (h .is-field)) } }
       where
         nil : bodyAt family s p at ≡ []
         nil = step .list p ∙ ap (bodyOf family s p) e
@@ -229,8 +231,8 @@ module _ (s p : Str) (mark : ℕ) (n : Str) where
         go x h (inl i) = absurd (List·Memᴰ·not-nil (subst (λ (l : List Field). List·Memᴰ (h .field) l) nil i))
         go x h (inr f) = f x (is-entered (typesAt s p) (referenced (h .field)) x (h .names) (h .free))
 
-    pub type-goes : (q : ℕ) (k : Cursor) (after : List ℕ) → r ≡ APlace q k → FieldWalked s p mark q m after → Going s p mark n before after (bodyAt family s p (k .at))
-    type-goes q k after e w = record {
+    going-on : (q : ℕ) (k : Cursor) (after : List ℕ) → r ≡ APlace q k → FieldWalked s p mark q m after → Going s p mark n before after (bodyAt family s p (k .at))
+    going-on q k after e w = record {
       walked = walked-on s p (g .walked) (walked-into s p through (w .walked));
       own = λ f i. g .own f (subst (λ (l : List Field). List·Memᴰ f l) (sym list) (List·Memᴰ·tail i));
       done = λ f i. done f (g .done f i);
@@ -263,3 +265,19 @@ module _ (s p : Str) (mark : ℕ) (n : Str) where
             → List·Memᴰ f (bodyAt family s p (k .at)) ⊎ ((x : Str) → entered (typesAt s p) (referenced f) ≡ some x → Named s p after x)
         done f (inl i) = rest f (List·Memᴰ·cases-cons (subst (λ (l : List Field). List·Memᴰ f l) list i))
         done f (inr h) = inr (λ x e. let y = h x e in record { place = y .place; marked = marked-stays s p (w .walked) (y .place) (y .marked); leads = y .leads })
+
+  -- the same by an index
+  module _ (x : List ℕ) where
+    pub type-starts : (m : List ℕ) (fields : List Field) → (Indexed s p x → typeFields (typesAt s p) n ≡ fields) → Led s p x m m (Going s p mark n m m fields)
+    type-starts m fields e = record { same-length = refl; fewer = omega arith; so = λ i. going-start m fields (e i) }
+
+    module _ (family : Bool) (before m : List ℕ) (at : ℕ) (g : Led s p x before m (Going s p mark n before m (bodyAt family s p at))) (r : PlaceStep) (step : PlacesFrom family s at r) where
+      pub type-ends : r ≡ NoPlace → Led s p x before m (TypeWalked s p mark n before m)
+      type-ends e = record { same-length = g .same-length; fewer = g .fewer; so = λ i. going-end family before m at (g .so i) r step e }
+
+      pub type-goes : (q : ℕ) (k : Cursor) (after : List ℕ) → r ≡ APlace q k → Led s p x m after (FieldWalked s p mark q m after) → Led s p x before after (Going s p mark n before after (bodyAt family s p (k .at)))
+      type-goes q k after e w = record {
+        same-length = w .same-length ∙ g .same-length;
+        fewer = let a = w .fewer in let b = g .fewer in omega arith;
+        so = λ i. going-on family before m at (g .so i) r step q k after e (w .so i);
+      }

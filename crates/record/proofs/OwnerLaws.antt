@@ -23,6 +23,7 @@ use Rattle.record.specs.References.{typesAt, HasSlot, structCommandsAt, 
 use Rattle.record.specs.Marks.{referenceAt, targetAt}
 use Rattle.record.specs.Leads.{LeadsTo}
 use Rattle.record.specs.Versioned.{InSlots}
+use Rattle.record.specs.Index.{IndexRoom, Indexed}
 use Rattle.record.specs.Ownership.{Within, Resolved, OwnerMarks, Known, OwnersMarked, EightClear, OwnerBy, MarkedName, NamedBy, Claims, OwnerIn, withStretch, stretchesIn, ownedBy, stretchOf, ownerAt, Answered, OwnerFound}
 use Rattle.record.specs.declared.text.Text.{Text}
 use Rattle.record.specs.declared.operands.OptText.{OptText}
@@ -481,6 +482,9 @@ module _ (s p n : Str) where
   pub found-beyond : 32768 < length s → OwnerFound 32768 s p n Nobody
   found-beyond h = record { within = λ l. absurd (omega arith); beyond = λ l. refl }
 
-  pub found-within : (r : Owner) (before room after x : List ℕ) (roots : Versioned) → 32768 ≤ length before → 4938 ≤ length room → length s ≤ 32768 → OwnersMarked s p before room after x → InSlots s p roots
-      → (Known s p after x → InSlots s p roots → LeadsTo s p after n Unknown → Answered s p n r) → OwnerFound 32768 s p n r
-  found-within r before room after x roots e i h f slots a = record { within = λ l. a (f .within (omega arith) h i) slots (leads-unknown s p after n); beyond = λ l. absurd (omega arith) }
+  pub found-within : (r : Owner) (before room after x : List ℕ) (roots : Versioned) → 32768 ≤ length before → 4938 ≤ length room → length s ≤ 32768 → (length s ≤ 32768 → IndexRoom s room → Indexed s p x) → OwnersMarked s p x before after
+      → InSlots s p roots → (Known s p after x → InSlots s p roots → LeadsTo s p after n Unknown → Answered s p n r) → OwnerFound 32768 s p n r
+  found-within r before room after x roots e i h fill f slots a = record {
+    within = λ l. let index = fill h (omega arith) in a (record { marks = f .within (omega arith) index; index = index }) slots (leads-unknown s p after n);
+    beyond = λ l. absurd (omega arith);
+  }

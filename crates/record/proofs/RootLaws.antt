@@ -15,7 +15,7 @@ use Rattle.record.specs.Steps.{structsAt, fieldsAt, structFound}
 use Rattle.record.specs.Owner.{structInSlot, Leads, here, along}
 use Rattle.record.specs.Index.{Indexed}
 use Rattle.record.specs.References.{typesAt, InSlot}
-use Rattle.record.specs.Marks.{targetAt, Clear, Full, Fresh, Walked, TypeWalked}
+use Rattle.record.specs.Marks.{targetAt, Clear, Full, Fresh, Led, Walked, TypeWalked}
 use Rattle.record.specs.Ownership.{Through, Claimed, Within, Resolved, OwnerMarks, OwnersMarked}
 use Rattle.record.specs.declared.command as D
 use Rattle.record.specs.declared.command.Cursor.{Cursor}
@@ -28,14 +28,14 @@ none≢some e = let z : _≡_ {A = ℕ} 0 1 = cc in omega arith
 
 -- a root's walk ----------------------------------------------------------------------------------------------------------
 
-module _ (s p slot : Str) (mark : ℕ) (r : StructStep) (i : InSlot s p slot r) (m : List ℕ) where
+module _ (s p slot : Str) (x : List ℕ) (j : Indexed s p x) (mark : ℕ) (r : StructStep) (i : InSlot s p slot r) (m : List ℕ) where
   pub root-none : r ≡ NoStruct → Claimed s p mark slot m m
   root-none e = record { walked = walked-none s p; full = λ root f. absurd (none≢some (sym (i .struct ∙ ap (structFound s p) e) ∙ f)) }
 
-  pub root-walked : (root : D.Struct.Struct) (k : Cursor) (w : Str) (after : List ℕ) → r ≡ AStruct root k → w ≡ textOf p (root .name) → TypeWalked s p mark w m after → Claimed s p mark slot m after
+  pub root-walked : (root : D.Struct.Struct) (k : Cursor) (w : Str) (after : List ℕ) → r ≡ AStruct root k → w ≡ textOf p (root .name) → Led s p x m after (TypeWalked s p mark w m after) → Claimed s p mark slot m after
   root-walked root k w after e h t = record {
-    walked = walked-into s p (λ n l. record { root = there; fills = fills; leads = subst (λ (x : Str). Leads (typesAt s p) x n) h l }) (t .walked);
-    full = λ x f. subst (Full s p after) (h ∙ ap (λ (y : Struct). y .name) (same x f)) (t .full);
+    walked = walked-into s p (λ n l. record { root = there; fills = fills; leads = subst (λ (x : Str). Leads (typesAt s p) x n) h l }) (t .so j .walked);
+    full = λ x f. subst (Full s p after) (h ∙ ap (λ (y : Struct). y .name) (same x f)) (t .so j .full);
   }
     where
       there : Struct
@@ -104,17 +104,11 @@ module _ (s p : Str) where
       complete n f (inl h) = record { place = f .place; leads = f .leads; marked = marked-stays s p w (f .place) (f .marked); most = let g = f .most in omega arith }
       complete n f (inr g) = absurd (f .marked (g .was))
 
-  pub marks-short : (before room : List ℕ) → length before < length s → OwnersMarked s p before room before room
-  marks-short before room h = record { within = λ l. absurd (omega arith); beyond = λ l. (refl, refl) }
+  pub marks-short : (x before : List ℕ) → length before < length s → OwnersMarked s p x before before
+  marks-short x before h = record { within = λ l. absurd (omega arith); beyond = λ l. refl }
 
-  pub index-short : (before room : List ℕ) → length s ≤ length before → length room < 4938 → OwnersMarked s p before room before room
-  index-short before room i h = record { within = λ l k j. absurd (omega arith); beyond = λ l. absurd (omega arith) }
-
-  pub stream-long : (before room : List ℕ) → length s ≤ length before → 32768 < length s → OwnersMarked s p before room before room
-  stream-long before room i h = record { within = λ l k j. absurd (omega arith); beyond = λ l. absurd (omega arith) }
-
-  pub marks-filled : (before room after x : List ℕ) → length s ≤ length before → Indexed s p x → OwnerMarks s p after → OwnersMarked s p before room after x
-  marks-filled before room after x h index marks = record { within = λ l i j. record { marks = marks; index = index }; beyond = λ l. absurd (omega arith) }
+  pub marks-filled : (x before after : List ℕ) → length s ≤ length before → (Indexed s p x → OwnerMarks s p after) → OwnersMarked s p x before after
+  marks-filled x before after h marks = record { within = λ l. marks; beyond = λ l. absurd (omega arith) }
 
   pub roots-marked : (a b c d : List ℕ) → Clear a → Claimed s p 1 (bytes "metadata") a b → Claimed s p 2 (bytes "runtime") b c → Claimed s p 3 (bytes "info") c d → OwnerMarks s p d
   roots-marked a b c d clear one two three = record {

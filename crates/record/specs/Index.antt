@@ -75,6 +75,10 @@ Linked x key top (q ∷ l) = (q + 7 ≤ top) × (getD x (256 + q / 7) 0 ≡ late
 unfoldable pub putAt : Str → Str → List ℕ → ℕ → List ℕ
 putAt s p x at = cond (declaring s at) (set (set x (256 + at / 7) (getD x (keyAt s p at) 0)) (keyAt s p at) (at + 1)) x
 
+-- how long an index has to be, by the length of the stream: a place for each number, and an entry for each seven bytes
+abbrev pub IndexRoom : Str → List ℕ → Type 0
+IndexRoom s x = 256 + length s / 7 < length x
+
 -- an index of these places: each number leads to the first of them that has it
 pub record Chained (x : List ℕ) (key : ℕ → ℕ) (top : ℕ) (l : List ℕ) : Type 0 where
   pub heads : (h : ℕ) → h < 256 → getD x h 0 ≡ latest key h l

@@ -50,12 +50,12 @@ pub record PutLead (s p : Str) (m x t : List ℕ) (q : ℕ) (after : List ℕ) :
   pub next : Indexed s p x → LedTo s p m t q → LedTo s p m after (q + 1)
 
 -- the table of a record's leads
-pub record Led (s p : Str) (m t : List ℕ) : Type 0 where
+pub record LeadTable (s p : Str) (m t : List ℕ) : Type 0 where
   pub each : (q : ℕ) (n : Str) → (getD m q 0 ≡ 0 → ⊥) → referenceAt s p q ≡ some n → entryOf s p n < length t → Least m (getD t (entryOf s p n) 0) q
 
 -- a table that was filled: the record's, where the index is and a place fits an entry
 pub record LeadsFilled (s p : Str) (m x t : List ℕ) : Type 0 where
-  pub led : Indexed s p x → length m ≤ 32768 → Led s p m t
+  pub led : Indexed s p x → length m ≤ 32768 → LeadTable s p m t
 
 -- what is known of the fields with a mark that refer to a name: that there is none, or that none has a lower mark than this one
 pub record LeadsTo (s p : Str) (m : List ℕ) (n : Str) (r : Lead) : Type 0 where
@@ -64,4 +64,4 @@ pub record LeadsTo (s p : Str) (m : List ℕ) (n : Str) (r : Lead) : Type 0 wher
 
 -- the answer, where the index and the table are the record's
 pub record LeadGiven (s p : Str) (x t : List ℕ) (n : Str) (r : Lead) : Type 0 where
-  pub by : Indexed s p x → (m : List ℕ) → Led s p m t → LeadsTo s p m n r
+  pub by : Indexed s p x → (m : List ℕ) → LeadTable s p m t → LeadsTo s p m n r

@@ -16,6 +16,7 @@ use Rattle.record.specs.Steps.{fieldKeyAt}
 use Rattle.record.specs.Seek.{overOf}
 use Rattle.record.specs.declared.seek.Between.{Between}
 use Rattle.record.specs.declared.seek.Between.the-variants.{Keys, Variants}
+use Rattle.record.specs.Index.{Indexed}
 use Rattle.record.specs.Owner.{Types, referenced, hasSlot, Edge, Leads}
 use Rattle.record.specs.References.{typesAt}
 use Rattle.record.specs.declared.marks.PlaceStep.{PlaceStep}
@@ -95,10 +96,14 @@ pub record Fresh (s p : Str) (mark : ℕ) (R : Str → Type 0) (before after : L
   pub is : getD after q 0 ≡ mark
   pub into : (n : Str) → targetAt s p q ≡ some n → R n
 
--- a walk: older marks stay, fresh ones are its own, and the type that a freshly marked field leads to is full
-pub record Walked (s p : Str) (mark : ℕ) (R : Str → Type 0) (before after : List ℕ) : Type 0 where
+-- a walk by an index: there are no more marks that are not set, and this is so where the index is the record's
+pub record Led (s p : Str) (x before after : List ℕ) (So : Type 0) : Type 0 where
   pub same-length : length after ≡ length before
   pub fewer : unseen after ≤ unseen before
+  pub so : Indexed s p x → So
+
+-- a walk: older marks stay, fresh ones are its own, and the type that a freshly marked field leads to is full
+pub record Walked (s p : Str) (mark : ℕ) (R : Str → Type 0) (before after : List ℕ) : Type 0 where
   pub each : (q : ℕ) → (getD after q 0 ≡ getD before q 0) ⊎ Fresh s p mark R before after q
   pub closed : (q : ℕ) → (getD after q 0 ≡ 0 → ⊥) → (getD before q 0 ≡ 0 → ⊥) ⊎ ((n : Str) → targetAt s p q ≡ some n → Full s p after n)
 

@@ -61,10 +61,10 @@ pub record Known (s p : Str) (m x : List ℕ) : Type 0 where
   pub marks : OwnerMarks s p m
   pub index : Indexed s p x
 
--- marks and an index that were filled: the record's where there is room, else as they were
-pub record OwnersMarked (s p : Str) (before room after x : List ℕ) : Type 0 where
-  pub within : length s ≤ length before → length s ≤ 32768 → 4938 ≤ length room → Known s p after x
-  pub beyond : length before < length s → (after ≡ before) × (x ≡ room)
+-- marks that were set by an index: the record's where there is room and the index is the record's, and as they were where there is no room
+pub record OwnersMarked (s p : Str) (x before after : List ℕ) : Type 0 where
+  pub within : length s ≤ length before → Indexed s p x → OwnerMarks s p after
+  pub beyond : length before < length s → after ≡ before
 
 -- answers ----------------------------------------------------------------------------------------------------------------
 

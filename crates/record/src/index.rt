@@ -1,7 +1,6 @@
 // An index of the names that a record declares, in a slice that the caller lends. Names are kept by a number below 256 that their last bytes give:
 // first the place of the last command of each number, then for each command the place of the one before it of its number. Every place is one
 // more than it is, and 0 is none. A declaring command takes seven bytes at least, so no two have one entry: their place divided by seven.
-// The most that a record of 32,768 bytes needs is 4,938 numbers.
 use crate::cut;
 use crate::le::byte_at;
 use crate::operands::flag_at;
@@ -14,7 +13,7 @@ ghost use mathlib.Core.Path.{_≡_};
 ghost use mathlib.Core.List.{List};
 ghost use Prim.Native.Nat.{_+_, _/_, _≤_, _<_};
 ghost use lib.ListN.{length, getD, set};
-ghost use Rattle.record.specs.Index.{hashOf, declaredName, declares, isNamed, isAlone, linkBefore, putAt, Indexed, Headless, FirstNamed, Declared, Alone};
+ghost use Rattle.record.specs.Index.{hashOf, declaredName, declares, isNamed, isAlone, linkBefore, putAt, IndexRoom, Indexed, Headless, FirstNamed, Declared, Alone};
 
 // A byte of a text as a larger number; 0 past its end.
 fn size_at(name: &[u8], at: usize) -> usize
@@ -107,7 +106,7 @@ fn clear(index: &mut [u16])
 
 // Puts a command at the front of those of its number.
 fn put(index: &mut [u16], hash: usize, place: usize)
-    requires { ⌜ (hash < 256) × (place < 32768) × (4938 ≤ length (now index)) ⌝ }
+    requires { ⌜ (hash < 256) × (place < 32768) × (256 + place / 7 < length (now index)) ⌝ }
     ensures { λ _. ⌜ now (index .exit) ≡ set (set (now (index .entry)) (256 + place / 7) (getD (now (index .entry)) hash 0)) hash (place + 1) ⌝ }
 {
     index[256 + place / 7] = index[hash];
@@ -116,7 +115,7 @@ fn put(index: &mut [u16], hash: usize, place: usize)
 
 // Puts the command at a place into the index, where it declares a name.
 fn put_declared(stream: &[u8], pool: &[u8], index: &mut [u16], at: usize)
-    requires { ⌜ (at < 32768) × (4938 ≤ length (now index)) ⌝ }
+    requires { ⌜ (at < 32768) × (256 + at / 7 < length (now index)) ⌝ }
     ensures { λ _. ⌜ now (index .exit) ≡ putAt (now (stream .entry)) (now (pool .entry)) (now (index .entry)) at ⌝ }
 {
     if declares(byte_at(stream, at)) {
@@ -125,9 +124,9 @@ fn put_declared(stream: &[u8], pool: &[u8], index: &mut [u16], at: usize)
     }
 }
 
-// Fills the index of a record.
-pub(crate) fn fill_index(stream: &[u8], pool: &[u8], index: &mut [u16])
-    requires { ⌜ (length (now stream) ≤ 32768) × (4938 ≤ length (now index)) ⌝ }
+// Puts every declaring command into an index that has room for them.
+fn fill_room(stream: &[u8], pool: &[u8], index: &mut [u16])
+    requires { ⌜ (length (now stream) ≤ 32768) × IndexRoom (now stream) (now index) ⌝ }
     ensures { λ _. ⌜ Indexed (now (stream .entry)) (now (pool .entry)) (now (index .exit)) ⌝ }
 {
     clear(index);
@@ -140,6 +139,19 @@ pub(crate) fn fill_index(stream: &[u8], pool: &[u8], index: &mut [u16])
         put_declared(stream, pool, index, at);
         at = after;
     }
+}
+
+// Fills the index of a record.
+pub fn fill_index(stream: &[u8], pool: &[u8], index: &mut [u16])
+    ensures { λ _. ⌜ (length (now (stream .entry)) ≤ 32768 → IndexRoom (now (stream .entry)) (now (index .entry)) → Indexed (now (stream .entry)) (now (pool .entry)) (now (index .exit))) ⌝ }
+{
+    if 32768 < stream.len() {
+        return;
+    }
+    if index.len() <= 256 + stream.len() / 7 {
+        return;
+    }
+    fill_room(stream, pool, index);
 }
 
 // Whether the command at a place has this number and name.

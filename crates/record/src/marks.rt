@@ -2,7 +2,6 @@
 // stream: a field is marked where its command begins, by the number of the root that led to it.
 use crate::command::Cursor;
 use crate::cut;
-use crate::index::fill_index;
 use crate::index::find_declared;
 use crate::lists::StructStep;
 use crate::operands::OptText;
@@ -20,7 +19,7 @@ ghost use Rattle.record.specs.Lists.{optOf};
 ghost use Rattle.record.specs.Owner.{typeFields};
 ghost use Rattle.record.specs.Index.{Indexed};
 ghost use Rattle.record.specs.References.{typesAt};
-ghost use Rattle.record.specs.Marks.{between, bodyAt, PlacesFrom, referenceAt, targetAt, Clear, Ready, TypeWalked, FieldWalked};
+ghost use Rattle.record.specs.Marks.{between, bodyAt, PlacesFrom, referenceAt, targetAt, Clear, Ready, Led, TypeWalked, FieldWalked};
 ghost use Rattle.record.specs.Ownership.{Claimed, OwnerMarks, OwnersMarked};
 
 // Where the fields of a type begin, and whether variants stand between them.
@@ -32,8 +31,7 @@ struct Body {
 // The fields of the first structure of a name, else of the first family. A name that nobody declares has none: its fields begin where the
 // stream ends.
 fn type_fields(stream: &[u8], pool: &[u8], index: &[u16], name: &[u8]) -> Body
-    requires { ⌜ Indexed (now stream) (now pool) (now index) ⌝ }
-    ensures { λ r. ⌜ typeFields (typesAt (now (stream .entry)) (now (pool .entry))) (now (name .entry)) ≡ bodyAt (r .family) (now (stream .entry)) (now (pool .entry)) (r .from .at) ⌝ }
+    ensures { λ r. ⌜ (Indexed (now (stream .entry)) (now (pool .entry)) (now (index .entry)) → typeFields (typesAt (now (stream .entry)) (now (pool .entry))) (now (name .entry)) ≡ bodyAt (r .family) (now (stream .entry)) (now (pool .entry)) (r .from .at)) ⌝ }
 {
     if let Sought::At(_, after) = find_declared(stream, pool, index, 8, name) {
         return Body {
@@ -89,8 +87,7 @@ pub fn reference_at(stream: &[u8], pool: &[u8], place: usize) -> OptText
 
 // The name that the field at a place leads to: no structure with slot text.
 fn target_at(stream: &[u8], pool: &[u8], index: &[u16], place: usize) -> OptText
-    requires { ⌜ Indexed (now stream) (now pool) (now index) ⌝ }
-    ensures { λ r. ⌜ optOf (now (pool .entry)) r ≡ targetAt (now (stream .entry)) (now (pool .entry)) place ⌝ }
+    ensures { λ r. ⌜ (Indexed (now (stream .entry)) (now (pool .entry)) (now (index .entry)) → optOf (now (pool .entry)) r ≡ targetAt (now (stream .entry)) (now (pool .entry)) place) ⌝ }
 {
     let OptText::Given(name) = reference_at(stream, pool, place) else {
         return OptText::Absent;
@@ -103,8 +100,8 @@ fn target_at(stream: &[u8], pool: &[u8], index: &[u16], place: usize) -> OptText
 
 // Visits a field that has no mark: marks it, and visits the type that it names.
 fn walk_field(stream: &[u8], pool: &[u8], index: &[u16], marks: &mut [u8], place: usize, mark: u8)
-    requires { ⌜ Ready (now stream) (now marks) mark × (place < length (now stream)) × Indexed (now stream) (now pool) (now index) ⌝ }
-    ensures { λ _. ⌜ FieldWalked (now (stream .entry)) (now (pool .entry)) mark place (now (marks .entry)) (now (marks .exit)) ⌝ }
+    requires { ⌜ Ready (now stream) (now marks) mark × (place < length (now stream)) ⌝ }
+    ensures { λ _. ⌜ Led (now (stream .entry)) (now (pool .entry)) (now (index .entry)) (now (marks .entry)) (now (marks .exit)) (FieldWalked (now (stream .entry)) (now (pool .entry)) mark place (now (marks .entry)) (now (marks .exit))) ⌝ }
 {
     if marks[place] != 0 {
         return;
@@ -118,8 +115,8 @@ fn walk_field(stream: &[u8], pool: &[u8], index: &[u16], marks: &mut [u8], place
 
 // Visits the fields of a type.
 fn walk_type(stream: &[u8], pool: &[u8], index: &[u16], marks: &mut [u8], name: &[u8], mark: u8)
-    requires { ⌜ Ready (now stream) (now marks) mark × Indexed (now stream) (now pool) (now index) ⌝ }
-    ensures { λ _. ⌜ TypeWalked (now (stream .entry)) (now (pool .entry)) mark (now (name .entry)) (now (marks .entry)) (now (marks .exit)) ⌝ }
+    requires { ⌜ Ready (now stream) (now marks) mark ⌝ }
+    ensures { λ _. ⌜ Led (now (stream .entry)) (now (pool .entry)) (now (index .entry)) (now (marks .entry)) (now (marks .exit)) (TypeWalked (now (stream .entry)) (now (pool .entry)) mark (now (name .entry)) (now (marks .entry)) (now (marks .exit))) ⌝ }
 {
     let body = type_fields(stream, pool, index, name);
     let family = body.family;
@@ -146,8 +143,8 @@ fn clear(marks: &mut [u8])
 
 // Marks what the structure in a slot leads to and no earlier root has taken.
 fn mark_root(stream: &[u8], pool: &[u8], index: &[u16], marks: &mut [u8], slot: &[u8], mark: u8)
-    requires { ⌜ Ready (now stream) (now marks) mark × Indexed (now stream) (now pool) (now index) ⌝ }
-    ensures { λ _. ⌜ Claimed (now (stream .entry)) (now (pool .entry)) mark (now (slot .entry)) (now (marks .entry)) (now (marks .exit)) ⌝ }
+    requires { ⌜ Ready (now stream) (now marks) mark ⌝ }
+    ensures { λ _. ⌜ (Indexed (now (stream .entry)) (now (pool .entry)) (now (index .entry)) → Claimed (now (stream .entry)) (now (pool .entry)) mark (now (slot .entry)) (now (marks .entry)) (now (marks .exit))) ⌝ }
 {
     let StructStep::AStruct(root, _) = struct_in_slot(stream, pool, slot) else {
         return;
@@ -158,8 +155,8 @@ fn mark_root(stream: &[u8], pool: &[u8], index: &[u16], marks: &mut [u8], slot: 
 
 // Marks each field that a root leads to by the number of the first such root.
 fn mark_roots(stream: &[u8], pool: &[u8], index: &[u16], marks: &mut [u8])
-    requires { ⌜ (length (now stream) ≤ length (now marks)) × Indexed (now stream) (now pool) (now index) ⌝ }
-    ensures { λ _. ⌜ OwnerMarks (now (stream .entry)) (now (pool .entry)) (now (marks .exit)) ⌝ }
+    requires { ⌜ length (now stream) ≤ length (now marks) ⌝ }
+    ensures { λ _. ⌜ (Indexed (now (stream .entry)) (now (pool .entry)) (now (index .entry)) → OwnerMarks (now (stream .entry)) (now (pool .entry)) (now (marks .exit))) ⌝ }
 {
     clear(marks);
     mark_root(stream, pool, index, marks, b"metadata", 1);
@@ -167,19 +164,12 @@ fn mark_roots(stream: &[u8], pool: &[u8], index: &[u16], marks: &mut [u8])
     mark_root(stream, pool, index, marks, b"info", 3);
 }
 
-// Fills the index of a record, and marks its fields by the roots that lead to them.
-pub fn mark_owners(stream: &[u8], pool: &[u8], marks: &mut [u8], index: &mut [u16])
-    ensures { λ _. ⌜ OwnersMarked (now (stream .entry)) (now (pool .entry)) (now (marks .entry)) (now (index .entry)) (now (marks .exit)) (now (index .exit)) ⌝ }
+// Marks the fields of a record by the roots that lead to them, where the index is the record's.
+pub fn mark_owners(stream: &[u8], pool: &[u8], index: &[u16], marks: &mut [u8])
+    ensures { λ _. ⌜ OwnersMarked (now (stream .entry)) (now (pool .entry)) (now (index .entry)) (now (marks .entry)) (now (marks .exit)) ⌝ }
 {
     if marks.len() < stream.len() {
         return;
     }
-    if index.len() < 4938 {
-        return;
-    }
-    if 32768 < stream.len() {
-        return;
-    }
-    fill_index(stream, pool, index);
     mark_roots(stream, pool, index, marks);
 }

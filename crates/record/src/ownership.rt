@@ -1,5 +1,6 @@
 // The owner of a name: the first root, in slot order metadata, runtime, info, from which references lead to it.
 use crate::cut;
+use crate::index::fill_index;
 use crate::le::byte_at;
 use crate::le::word;
 use crate::leads::Lead;
@@ -20,7 +21,7 @@ ghost use Prim.Native.Nat.{_≤_, _<_};
 ghost use lib.ListN.{length};
 ghost use Rattle.record.specs.Base.{isText};
 ghost use Rattle.record.specs.Marks.{referenceAt};
-ghost use Rattle.record.specs.Leads.{Led, LeadsTo};
+ghost use Rattle.record.specs.Leads.{LeadTable, LeadsTo};
 ghost use Rattle.record.specs.Versioned.{InSlots};
 ghost use Rattle.record.specs.declared.leads.Lead.the-variants.{AField};
 ghost use Rattle.record.specs.Ownership.{EightClear, MarkedName, Known, OwnerBy, Answered, OwnerFound};
@@ -181,7 +182,7 @@ pub fn owner_among(
     leads: &[u16],
     name: &[u8],
 ) -> Owner
-    ensures { λ r. ⌜ (Known (now (stream .entry)) (now (pool .entry)) (now (marks .entry)) (now (index .entry)) → InSlots (now (stream .entry)) (now (pool .entry)) roots → Led (now (stream .entry)) (now (pool .entry)) (now (marks .entry)) (now (leads .entry)) → Answered (now (stream .entry)) (now (pool .entry)) (now (name .entry)) r) ⌝ }
+    ensures { λ r. ⌜ (Known (now (stream .entry)) (now (pool .entry)) (now (marks .entry)) (now (index .entry)) → InSlots (now (stream .entry)) (now (pool .entry)) roots → LeadTable (now (stream .entry)) (now (pool .entry)) (now (marks .entry)) (now (leads .entry)) → Answered (now (stream .entry)) (now (pool .entry)) (now (name .entry)) r) ⌝ }
 {
     let lead = lead_to(stream, pool, index, leads, name);
     owner_by(stream, pool, roots, marks, index, lead, name)
@@ -195,7 +196,8 @@ fn owner_lent(stream: &[u8], pool: &[u8], marks: &mut [u8], index: &mut [u16], n
     if 32768 < stream.len() {
         return Owner::Nobody;
     }
-    mark_owners(stream, pool, marks, index);
+    fill_index(stream, pool, index);
+    mark_owners(stream, pool, index, marks);
     let roots = versioned_structs(stream, pool);
     owner_by(stream, pool, roots, marks, index, Lead::Unknown, name)
 }

@@ -3,8 +3,8 @@ use borrow.Author.Needs.{needs}
 use Rattle.compare.proofs.compare.check_declared.Statement.{statement}
 use Rattle.compare.proofs.compare.check_declared.Tie as tie
 
-check-releases-requires : tie.Need-check-releases-requires
-check-releases-requires c κs = search needs
+check-first-releases-requires : tie.Need-check-first-releases-requires
+check-first-releases-requires c κs = search needs
 
 enum-told : tie.Need-enum-told
 enum-told c = search needs
@@ -43,7 +43,7 @@ pub check-declared-spec : {M : Type 1} → statement M
 check-declared-spec =
     tie.close
     (tie.spec
-    check-releases-requires
+    check-first-releases-requires
     enum-told
     returns
     check-numbers-requires

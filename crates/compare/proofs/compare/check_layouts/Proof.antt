@@ -18,9 +18,6 @@ same-length c = search needs
 same-length-2 : tie.Need-same-length-2
 same-length-2 c = search needs
 
-same-length-3 : tie.Need-same-length-3
-same-length-3 c = search needs
-
 returns : tie.Need-returns
 returns c = search then-on
 
@@ -36,6 +33,5 @@ check-layouts-spec =
     check-generations-requires
     same-length
     same-length-2
-    same-length-3
     returns
     returns-2)

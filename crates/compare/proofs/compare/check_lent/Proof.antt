@@ -1,75 +1,69 @@
-use Rattle.verdicts.proofs.PassLaws.{then-on, then-stop}
+use native.Mathlib.Omega.{arith}
 use borrow.Author.Needs.{needs}
 use Rattle.compare.proofs.compare.check_lent.Statement.{statement}
 use Rattle.compare.proofs.compare.check_lent.Tie as tie
 use Rattle.compare.proofs.compare.check_lent.Reads as reads
 use Rattle.compare.proofs.compare.check_lent.Lts as lts
-use Rattle.compare.proofs.compare.check_declared.Reads as check-declared-reads
-use Rattle.compare.proofs.compare.check_tables.Reads as check-tables-reads
+use Rattle.compare.proofs.compare.check_indexed.Reads as check-indexed-reads
+use Rattle.record.proofs.index.fill_index.Reads as fill-index-reads
 
--- src/compare.rt:244:9
-check-declared-requires : tie.Need-check-declared-requires
-check-declared-requires c κs = search needs
+-- src/compare.rt:287:5
+fill-index-requires : tie.Need-fill-index-requires
+fill-index-requires c κs = search needs
 
--- src/compare.rt:250:13
-enum-told : tie.Need-enum-told
-enum-told c = search needs
+-- src/compare.rt:288:5
+fill-index-requires-2 : tie.Need-fill-index-requires-2
+fill-index-requires-2 c κs = search needs
 
--- src/compare.rt:246:9
-check-tables-requires : tie.Need-check-tables-requires
-check-tables-requires c κs = (search needs, search needs, search needs, search needs, search needs, search needs, search needs, search needs, search needs, search needs, search needs, search needs)
+-- src/compare.rt:289:5
+check-indexed-requires : tie.Need-check-indexed-requires
+check-indexed-requires c κs =
+    let pre = c .before .before .before .before .before .before .before .before .before .before .before .before .before .before .before .before .before .before .before .before .before .before .before .before .before .before .before .before .before .pre in
+    (search needs, search needs, search needs, search needs, search needs, search needs, search needs, search needs, search needs, search needs, search needs, search needs, c .before .before .before .before .before .before .before .before .before .before .before .before .before .before .fill-index .ensures (pre .0) (omega (arith, pre .12)), c .before .before .before .before .before .before .before .before .before .before .fill-index2 .ensures (pre .2) (omega (arith, pre .13)))
 
--- src/compare.rt:246:9
+-- src/compare.rt:267:1
 same-length : tie.Need-same-length
 same-length c = search needs
 
--- src/compare.rt:246:9
+-- src/compare.rt:267:1
 same-length-2 : tie.Need-same-length-2
 same-length-2 c = search needs
 
--- src/compare.rt:246:9
+-- src/compare.rt:267:1
 same-length-3 : tie.Need-same-length-3
 same-length-3 c = search needs
 
--- src/compare.rt:246:9
+-- src/compare.rt:267:1
 same-length-4 : tie.Need-same-length-4
 same-length-4 c = search needs
 
--- src/compare.rt:246:9
+-- src/compare.rt:267:1
 same-length-5 : tie.Need-same-length-5
 same-length-5 c = search needs
 
--- src/compare.rt:246:9
+-- src/compare.rt:267:1
 same-length-6 : tie.Need-same-length-6
 same-length-6 c = search needs
 
--- src/compare.rt:246:9
+-- src/compare.rt:267:1
 same-length-7 : tie.Need-same-length-7
 same-length-7 c = search needs
 
--- src/compare.rt:246:9
-returns : tie.Need-returns
-returns c = search then-on
-
--- src/compare.rt:225:1
+-- src/compare.rt:267:1
 same-length-8 : tie.Need-same-length-8
 same-length-8 c = search needs
 
--- src/compare.rt:225:1
-same-length-9 : tie.Need-same-length-9
-same-length-9 c = search needs
-
--- src/compare.rt:225:1
-returns-2 : tie.Need-returns-2
-returns-2 c = search then-stop
+-- src/compare.rt:267:1
+returns : tie.Need-returns
+returns c = search needs
 
 pub check-lent-spec : {M : Type 1} → statement M
 check-lent-spec =
     tie.close
     (tie.spec
-    check-declared-requires
-    enum-told
-    check-tables-requires
+    fill-index-requires
+    fill-index-requires-2
+    check-indexed-requires
     same-length
     same-length-2
     same-length-3
@@ -77,7 +71,5 @@ check-lent-spec =
     same-length-5
     same-length-6
     same-length-7
-    returns
     same-length-8
-    same-length-9
-    returns-2)
+    returns)

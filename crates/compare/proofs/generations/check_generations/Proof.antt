@@ -11,8 +11,8 @@ mark-owners-requires c κs = search needs
 
 fill-cover-requires : tie.Need-fill-cover-requires
 fill-cover-requires c κs =
-    let pre = c .before .before .before .before .before .before .before .before .before .before .before .before .before .before .before .before .before .before .before .before .before .before .before .pre in
-    (pre .0, pre .1, c .before .before .before .before .before .before .before .mark-owners .ensures .within (pre .2) (pre .4) (pre .5), c .before .before .before .before .before .before .before .before .before .before .versioned-structs .ensures, pre .3)
+    let pre = c .before .before .before .before .before .before .before .before .before .before .before .before .before .before .before .before .before .before .before .pre in
+    (pre .0, pre .1, record { marks = c .before .before .before .before .mark-owners .ensures .within (pre .2) (pre .4); index = pre .4 }, c .before .before .before .before .before .before .versioned-structs .ensures, pre .3)
 
 check-filled-requires : tie.Need-check-filled-requires
 check-filled-requires c κs = search needs
@@ -23,11 +23,8 @@ same-length c = search needs
 same-length-2 : tie.Need-same-length-2
 same-length-2 c = search needs
 
-same-length-3 : tie.Need-same-length-3
-same-length-3 c = search needs
-
 returns : tie.Need-returns
-returns c = search (generations-are, c .before .before .before .before .before .before .before .before .before .before .before .before .before .before .before .before .before .before .before .before .before .before .before .before .before .before .before .before .pre .0)
+returns c = search (generations-are, c .before .before .before .before .before .before .before .before .before .before .before .before .before .before .before .before .before .before .before .before .before .before .before .before .pre .0)
 
 pub check-generations-spec : {M : Type 1} → statement M
 check-generations-spec =
@@ -39,5 +36,4 @@ check-generations-spec =
     check-filled-requires
     same-length
     same-length-2
-    same-length-3
     returns)

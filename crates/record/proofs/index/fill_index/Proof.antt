@@ -1,65 +1,35 @@
-use Prim.Native.Nat.{_-_}
-use lib.ListN.{length}
-use Rattle.record.proofs.SeekLaws.{after-nearer}
-use Rattle.record.proofs.IndexLaws.{Filling, fill-start, fill-end, fill-on, fill-place, fill-room}
+use native.Mathlib.Omega.{arith}
 use borrow.Author.Needs.{needs}
 use Rattle.record.proofs.index.fill_index.Statement.{statement}
 use Rattle.record.proofs.index.fill_index.Tie as tie
 use Rattle.record.proofs.index.fill_index.Reads as reads
 use Rattle.record.proofs.index.fill_index.Lts as lts
-use Rattle.record.proofs.index.clear.Reads as clear-reads
-use Rattle.record.proofs.index.put_declared.Reads as put-declared-reads
-use Rattle.record.proofs.seek.after_at.Reads as after-at-reads
+use Rattle.record.proofs.index.fill_room.Reads as fill-room-reads
 
-abbrev Inv-loop : tie.InvT-loop
-Inv-loop stream pool index₀ at₀ index at = Filling stream pool index₀ index at
+-- src/index.rt:148:9
+returns : tie.Need-returns
+returns c = λ h r. absurd (omega (arith, c .if1 .taken))
 
-abbrev μ-loop : tie.MeasureT-loop
-μ-loop stream pool index₀ at₀ index at = length stream - at
+-- src/index.rt:150:23
+add-if2 : tie.Need-add-if2
+add-if2 c = search needs
 
--- src/index.rt:132:5
-clear-requires : tie.Need-clear-requires Inv-loop μ-loop
-clear-requires c κs = search needs
+-- src/index.rt:151:9
+returns-2 : tie.Need-returns-2
+returns-2 c = λ h r. absurd (omega (arith, c .if2 .taken))
 
--- src/index.rt:134:5
-loop-holds : tie.Need-loop-holds Inv-loop μ-loop
-loop-holds c = search fill-start
+-- src/index.rt:153:5
+fill-room-requires : tie.Need-fill-room-requires
+fill-room-requires c κs = search needs
 
--- src/index.rt:135:13
-after-at-requires : tie.Need-after-at-requires Inv-loop μ-loop
-after-at-requires c κs = search needs
-
--- src/index.rt:137:13
-same-length : tie.Need-same-length Inv-loop μ-loop
+-- src/index.rt:144:1
+same-length : tie.Need-same-length
 same-length c = search needs
 
--- src/index.rt:137:13
-returns : tie.Need-returns Inv-loop μ-loop
-returns c = search fill-end
-
--- src/index.rt:139:9
-put-declared-requires : tie.Need-put-declared-requires Inv-loop μ-loop
-put-declared-requires c κs = (search fill-place, search fill-room)
-
--- src/index.rt:134:5
-loop-less : tie.Need-loop-less Inv-loop μ-loop
-loop-less c = search after-nearer
-
--- src/index.rt:134:5
-loop-again : tie.Need-loop-again Inv-loop μ-loop
-loop-again c = search fill-on
+-- src/index.rt:144:1
+returns-3 : tie.Need-returns-3
+returns-3 c = λ h r. c .before .before .fill-room .ensures
 
 pub fill-index-spec : {M : Type 1} → statement M
 fill-index-spec =
-    tie.close
-    (tie.spec
-    Inv-loop
-    μ-loop
-    clear-requires
-    loop-holds
-    after-at-requires
-    same-length
-    returns
-    put-declared-requires
-    loop-less
-    loop-again)
+    tie.close (tie.spec returns add-if2 returns-2 fill-room-requires same-length returns-3)

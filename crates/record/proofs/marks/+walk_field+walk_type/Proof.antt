@@ -1,7 +1,7 @@
 use borrow.Author.Needs.{needs}
 use Prim.Native.Nat.{ℕ, _+_, _*_, _-_, _<_}
 use lib.ListN.{length, length-set}
-use Rattle.record.specs.Marks.{bodyAt, unseen}
+use Rattle.record.specs.Marks.{bodyAt, unseen, Led}
 use Rattle.record.proofs.PlaceLaws.{places-nearer}
 use Rattle.record.proofs.MarkLaws.{field-laws, field-less, field-ready, field-length, Going, going-length, going-less, going-ready, place-inside, type-starts, type-ends, type-goes}
 use borrow.Fn.Kinds.{In}
@@ -148,7 +148,7 @@ walk-field-walk-type-requires : (t : ℕ) → walk-field-lts.Need-walk-type-requ
   walk-type-below t,
   walk-type.Post,
 ) (walk-field-at t) walk-field.Post
-walk-field-walk-type-requires t c κs = (search field-less, (search field-ready, search needs))
+walk-field-walk-type-requires t c κs = (search field-less, search field-ready)
 
 -- src/marks.rt:118:1
 walk-field-same-length-2 : (t : ℕ) → walk-field-lts.Need-same-length-2 (
@@ -173,7 +173,7 @@ walk-field-returns-3 : (t : ℕ) → walk-field-lts.Need-returns-3 (
 walk-field-returns-3 t c = search field-laws
 
 abbrev walk-type-Inv-loop : walk-type-lts.InvT-loop
-walk-type-Inv-loop stream pool index marks₀ name mark family cursor₀ marks cursor = Going stream pool mark name marks₀ marks (bodyAt family stream pool (cursor .at))
+walk-type-Inv-loop stream pool index marks₀ name mark family cursor₀ marks cursor = Led stream pool index marks₀ marks (Going stream pool mark name marks₀ marks (bodyAt family stream pool (cursor .at)))
 
 abbrev walk-type-μ-loop : walk-type-lts.MeasureT-loop
 walk-type-μ-loop stream pool index marks₀ name mark family cursor₀ marks cursor = length stream - cursor .at
@@ -264,7 +264,7 @@ walk-type-walk-field-requires : (t : ℕ) → walk-type-lts.Need-walk-field-requ
   walk-field-below t,
   walk-field.Post,
 ) (walk-type-at t) walk-type.Post walk-type-Inv-loop walk-type-μ-loop
-walk-type-walk-field-requires t c κs = (search going-less, (search going-ready, search place-inside, search needs))
+walk-type-walk-field-requires t c κs = (search going-less, (search going-ready, search place-inside))
 
 -- src/marks.rt:140:5
 walk-type-loop-less : (t : ℕ) → walk-type-lts.Need-loop-less (

@@ -22,7 +22,7 @@ enum-told c = search needs
 
 -- src/marks.rt:166:9
 returns : tie.Need-returns
-returns c = search root-laws
+returns c = λ j. search root-laws
 
 -- src/marks.rt:169:36
 bytes-of-requires : tie.Need-bytes-of-requires
@@ -38,7 +38,7 @@ same-length c = search needs
 
 -- src/marks.rt:161:1
 returns-2 : tie.Need-returns-2
-returns-2 c = search root-laws
+returns-2 c = λ j. search root-laws
 
 pub mark-root-spec : {M : Type 1} → statement M
 mark-root-spec =

@@ -30,7 +30,8 @@ same-length c = search needs
 
 returns : tie.Need-returns
 unfolding bytes
-returns c = search roots-marked
+returns c =
+    λ i. roots-marked _ _ _ _ _ _ (c .before .before .before .before .before .before .before .before .before .before .before .before .before .before .before .before .before .clear .ensures) (c .before .before .before .before .before .before .before .before .before .before .before .before .mark-root .ensures i) (c .before .before .before .before .before .before .before .mark-root2 .ensures i) (c .before .before .mark-root3 .ensures i)
 
 pub mark-roots-spec : {M : Type 1} → statement M
 mark-roots-spec =

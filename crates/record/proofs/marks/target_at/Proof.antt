@@ -22,7 +22,7 @@ enum-told c = search needs
 
 -- src/marks.rt:109:9
 returns : tie.Need-returns
-returns c = search target-laws
+returns c = λ i. search target-laws
 
 -- src/marks.rt:111:31
 bytes-of-requires : tie.Need-bytes-of-requires
@@ -34,11 +34,11 @@ has-slot-requires c κs = search needs
 
 -- src/marks.rt:112:9
 returns-2 : tie.Need-returns-2
-returns-2 c = search target-laws
+returns-2 c = λ i. search target-laws
 
 -- src/marks.rt:105:1
 returns-3 : tie.Need-returns-3
-returns-3 c = search target-laws
+returns-3 c = λ i. search target-laws
 
 pub target-at-spec : {M : Type 1} → statement M
 target-at-spec =

@@ -21,7 +21,7 @@ place-requires c κs = search needs
 
 -- src/marks.rt:40:9
 returns : tie.Need-returns
-returns c = search body-laws
+returns c = λ i. search body-laws
 
 enum-told : tie.Need-enum-told
 enum-told c = search needs
@@ -40,7 +40,7 @@ place-requires-2 c κs = search needs
 
 -- src/marks.rt:46:9
 returns-2 : tie.Need-returns-2
-returns-2 c = search body-laws
+returns-2 c = λ i. search body-laws
 
 enum-told-2 : tie.Need-enum-told-2
 enum-told-2 c = search needs
@@ -51,7 +51,7 @@ place-requires-3 c κs = search needs
 
 -- src/marks.rt:35:1
 returns-3 : tie.Need-returns-3
-returns-3 c = search body-laws
+returns-3 c = λ i. search body-laws
 
 pub type-fields-spec : {M : Type 1} → statement M
 type-fields-spec =

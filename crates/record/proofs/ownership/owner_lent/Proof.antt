@@ -4,6 +4,7 @@ use Rattle.record.proofs.ownership.owner_lent.Statement.{statement}
 use Rattle.record.proofs.ownership.owner_lent.Tie as tie
 use Rattle.record.proofs.ownership.owner_lent.Reads as reads
 use Rattle.record.proofs.ownership.owner_lent.Lts as lts
+use Rattle.record.proofs.index.fill_index.Reads as fill-index-reads
 use Rattle.record.proofs.marks.mark_owners.Reads as mark-owners-reads
 use Rattle.record.proofs.ownership.owner_by.Reads as owner-by-reads
 use Rattle.record.proofs.versioned.versioned_structs.Reads as versioned-structs-reads
@@ -13,6 +14,9 @@ returns : tie.Need-returns
 returns c = search found-beyond
 
 -- src/ownership.rt:198:5
+fill-index-requires : tie.Need-fill-index-requires
+fill-index-requires c κs = search needs
+
 mark-owners-requires : tie.Need-mark-owners-requires
 mark-owners-requires c κs = search needs
 
@@ -41,6 +45,7 @@ owner-lent-spec =
     tie.close
     (tie.spec
     returns
+    fill-index-requires
     mark-owners-requires
     versioned-structs-requires
     owner-by-requires
