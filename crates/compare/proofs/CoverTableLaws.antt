@@ -17,7 +17,11 @@ use Rattle.record.specs.Scalars.{Scalar}
 use Rattle.record.specs.Owner.{Types, ownerOf}
 use Rattle.record.specs.References.{typesAt}
 use Rattle.record.specs.Ownership.{Known}
+use Rattle.record.specs.Leads.{LeadsFilled}
+use Rattle.record.specs.Versioned.{InSlots}
 use Rattle.record.specs.Reading.{Rec, rec, schemaOf}
+use Rattle.record.specs.declared.versioned.Versioned.{Versioned}
+use Rattle.record.proofs.LeadLaws.{led-none}
 use Rattle.layout.specs.Layout.{TypeLayout, types, typeIn}
 use Rattle.layout.specs.Handles.{typeName, layoutOf}
 use Rattle.layout.specs.Names.{nameOf, stretchesOf}
@@ -32,7 +36,7 @@ use Rattle.definition.specs.Verdicts.{uncovered}
 use Rattle.definition.specs.Pass.{_then_, ensure, each, onFound}
 use Rattle.definition.specs.Fields.{eqPlaces, sameAs, changed}
 use Rattle.definition.specs.Coverage.{owning, standsAlone, checkCovered, checkAllCovered, under, firstUnder}
-use Rattle.compare.specs.CoverTable.{coverIn, coverFor, stretchIn, coverMeant, Knows, changedTypes, CoverTable, firstUncovered, isUnder, firstTouched, touchedName, touchedBy}
+use Rattle.compare.specs.CoverTable.{coverIn, coverFor, stretchIn, coverMeant, Owners, Knows, changedTypes, Changes, Entered, CoverTable, firstUncovered, isUnder, firstTouched, touchedName, touchedBy}
 use Rattle.verdicts.specs.Meaning.{meaning}
 use Rattle.verdicts.specs.declared.verdict.Verdict.{Verdict}
 use Rattle.verdicts.specs.declared.verdict.Verdict.the-variants.{Passed, Uncovered}
@@ -237,50 +241,113 @@ module _ (s p b q : Str) (w : List Scalar) (h : ℕ) (t z₀ : List ℕ) (o : Ty
 pub handle-typed : (s p : Str) (w : List Scalar) (t z : List ℕ) (i h : ℕ) → Tables (rec s p w) t z → i < length t → h ≡ getD t i 0 → Typed s h
 handle-typed s p w t z i h o l e = subst (λ (x : ℕ). Typed s x) (sym e) (o .types .typed i l)
 
--- the entries below an index are filled, and the last that was found is known
-pub record Covering (r r₀ : Rec) (t m₀ m : List ℕ) (i : ℕ) (last : Last) : Type 0 where
-  pub below : (j : ℕ) → j < i → coverMeant (r .pool) (getD m j 0) ≡ coverFor (typesAt (r .stream) (r .pool)) (types (schemaOf r₀)) (layoutOf r (getD t j 0))
-  pub known : Knows (r .stream) (r .pool) last
+-- below an index 0 stands for each type that is as it was
+pub record Changing (r r₀ : Rec) (t m₀ m : List ℕ) (i : ℕ) : Type 0 where
+  pub below : (j : ℕ) → j < i → eqb (getD m j 0) 0 ≡ sameAs (typeIn (typeName (r .stream) (r .pool) (getD t j 0)) (types (schemaOf r₀))) (layoutOf r (getD t j 0))
   pub room : length t ≤ length m
   pub long : length m ≡ length m₀
 
-pub covering-start : (r r₀ : Rec) (t m : List ℕ) → length t ≤ length m → Covering r r₀ t m m 0 NoLast
-covering-start r r₀ t m l = record { below = λ j h. absurd (omega arith); known = tt; room = l; long = refl }
+pub changing-start : (r r₀ : Rec) (t m : List ℕ) → length t ≤ length m → Changing r r₀ t m m 0
+changing-start r r₀ t m l = record { below = λ j h. absurd (omega arith); room = l; long = refl }
 
-pub covering-end : (r r₀ : Rec) (t m₀ m : List ℕ) (i : ℕ) (last : Last) → Covering r r₀ t m₀ m i last → length t ≤ i → CoverTable r r₀ t m
-covering-end r r₀ t m₀ m i last c l = record { entries = λ j h. c .below j (omega arith) }
+module _ (r r₀ : Rec) (t m₀ m : List ℕ) (i : ℕ) (c : Changing r r₀ t m₀ m i) where
+  pub changing-end : length t ≤ i → Changes r r₀ t m
+  changing-end l = record { same = λ j h. c .below j (omega arith) }
 
-module _ (s p b q : Str) (w : List Scalar) (t m₀ m : List ℕ) (i h : ℕ) (last : Last) (c : Covering (rec s p w) (rec b q w) t m₀ m i last) (l : i < length t) (e : h ≡ getD t i 0) where
-  abbrev was : List TypeLayout
-  was = types (schemaOf (rec b q w))
+  module _ (l : i < length t) (h : ℕ) (e : h ≡ getD t i 0) (y : Bool) (f : y ≡ sameAs (typeIn (typeName (r .stream) (r .pool) h) (types (schemaOf r₀))) (layoutOf r h)) where
+    changing-next : (n : ℕ) → eqb n 0 ≡ y → Changing r r₀ t m₀ (set m i n) (i + 1)
+    changing-next n g = record { below = λ j k. go j k (eqb j i) refl; room = let o = c .room in rw length-set (omega arith); long = rw length-set (c .long) }
+      where
+        go : (j : ℕ) → j < i + 1 → (v : Bool) → eqb j i ≡ v → eqb (getD (set m i n) j 0) 0 ≡ sameAs (typeIn (typeName (r .stream) (r .pool) (getD t j 0)) (types (schemaOf r₀))) (layoutOf r (getD t j 0))
+        go j k true d =
+            let o = c .room in
+            rw (eqb-true j i d, getD-set-same m i n 0 (omega arith), ← e) (g ∙ f)
+        go j k false d =
+            let a : j ≡ i → ⊥ = eqb-false j i d in
+            rw (getD-set-other m i j n 0 a) (c .below j (omega arith))
 
-  entry-put : (n : ℕ) → coverMeant p n ≡ coverFor (typesAt s p) was (layoutOf (rec s p w) h)
-      → (j : ℕ) → j < i + 1 → coverMeant p (getD (set m i n) j 0) ≡ coverFor (typesAt s p) was (layoutOf (rec s p w) (getD t j 0))
-  entry-put n f j k = go (eqb j i) refl
+    pub changing-same : y ≡ true → Changing r r₀ t m₀ (set m i 0) (i + 1)
+    changing-same g = changing-next 0 (sym g)
+
+    pub changing-other : y ≡ false → Changing r r₀ t m₀ (set m i 1) (i + 1)
+    changing-other g = changing-next 1 (sym g)
+
+-- below an index the entries are filled, and the last that was found is known
+pub record Entering (s p : Str) (t m₀ m : List ℕ) (i : ℕ) (last : Last) : Type 0 where
+  pub none : (j : ℕ) → j < i → getD m₀ j 0 ≡ 0 → getD m j 0 ≡ 0
+  pub found : (j : ℕ) → j < i → (getD m₀ j 0 ≡ 0 → ⊥) → coverMeant p (getD m j 0) ≡ coverIn (typesAt s p) (owning (typeName s p (getD t j 0)))
+  pub above : (j : ℕ) → i ≤ j → getD m j 0 ≡ getD m₀ j 0
+  pub known : Knows s p last
+  pub room : length t ≤ length m
+  pub long : length m ≡ length m₀
+
+pub entering-start : (s p : Str) (t m : List ℕ) → length t ≤ length m → Entering s p t m m 0 NoLast
+entering-start s p t m l = record { none = λ j h. absurd (omega arith); found = λ j h. absurd (omega arith); above = λ j h. refl; known = tt; room = l; long = refl }
+
+module _ (s p : Str) (t m₀ m : List ℕ) (i : ℕ) (last : Last) (c : Entering s p t m₀ m i last) where
+  pub entering-end : length t ≤ i → Entered s p t m₀ m
+  entering-end l = record { none = λ j h. c .none j (omega arith); found = λ j h. c .found j (omega arith) }
+
+  -- an entry that stays
+  pub entering-over : getD m i 0 ≡ 0 → Entering s p t m₀ m (i + 1) last
+  entering-over z = record {
+    none = λ j k e. none j k e (eqb j i) refl;
+    found = λ j k e. found j k e (eqb j i) refl;
+    above = λ j k. c .above j (omega arith);
+    known = c .known;
+    room = c .room;
+    long = c .long;
+  }
     where
-      go : (y : Bool) → eqb j i ≡ y → coverMeant p (getD (set m i n) j 0) ≡ coverFor (typesAt s p) was (layoutOf (rec s p w) (getD t j 0))
-      go true g =
-          let d : j ≡ i = eqb-true j i g in
-          let o = c .room in
-          rw (d, getD-set-same m i n 0 (omega arith), ← e) f
-      go false g =
-          let d : j ≡ i → ⊥ = eqb-false j i g in
-          rw (getD-set-other m i j n 0 d) (c .below j (omega arith))
+      none : (j : ℕ) → j < i + 1 → getD m₀ j 0 ≡ 0 → (v : Bool) → eqb j i ≡ v → getD m j 0 ≡ 0
+      none j k e true d = ap (λ (a : ℕ). getD m a 0) (eqb-true j i d) ∙ z
+      none j k e false d = c .none j (let a : j ≡ i → ⊥ = eqb-false j i d in omega arith) e
 
-  covering-next : (n : ℕ) (next : Last) → coverMeant p n ≡ coverFor (typesAt s p) was (layoutOf (rec s p w) h) → Knows s p next
-      → Covering (rec s p w) (rec b q w) t m₀ (set m i n) (i + 1) next
-  covering-next n next f k = record { below = entry-put n f; known = k; room = let o = c .room in rw length-set (omega arith); long = rw length-set (c .long) }
+      found : (j : ℕ) → j < i + 1 → (getD m₀ j 0 ≡ 0 → ⊥) → (v : Bool) → eqb j i ≡ v → coverMeant p (getD m j 0) ≡ coverIn (typesAt s p) (owning (typeName s p (getD t j 0)))
+      found j k e true d = absurd (e (ap (λ (a : ℕ). getD m₀ a 0) (eqb-true j i d) ∙ sym (c .above i (omega arith)) ∙ z))
+      found j k e false d = c .found j (let a : j ≡ i → ⊥ = eqb-false j i d in omega arith) e
 
-  module _ (y : Bool) (f : y ≡ sameAs (typeIn (typeName s p h) was) (layoutOf (rec s p w) h)) where
-    pub covering-same : y ≡ true → Covering (rec s p w) (rec b q w) t m₀ (set m i 0) (i + 1) last
-    unfolding coverMeant coverFor layoutOf
-    covering-same g = covering-next 0 last (rw (← f, g)) (c .known)
+  -- one that is put
+  pub entering-put : (h n : ℕ) (roots : Versioned) (marks index leads : List ℕ) → i < length t → (getD m i 0 ≡ 0 → ⊥) → h ≡ getD t i 0 → Owners s p roots marks index leads
+      → (Owners s p roots marks index leads → Knows s p last → coverMeant p n ≡ coverIn (typesAt s p) (owning (typeName s p h))) → Entering s p t m₀ (set m i n) (i + 1) (Entry h n)
+  entering-put h n roots marks index leads l z e o f = record {
+    none = λ j k g. none j k g (eqb j i) refl;
+    found = λ j k g. found j k g (eqb j i) refl;
+    above = λ j k. getD-set-other m i j n 0 (λ d. omega arith) ∙ c .above j (omega arith);
+    known = f o (c .known);
+    room = let a = c .room in rw length-set (omega arith);
+    long = rw length-set (c .long);
+  }
+    where
+      none : (j : ℕ) → j < i + 1 → getD m₀ j 0 ≡ 0 → (v : Bool) → eqb j i ≡ v → getD (set m i n) j 0 ≡ 0
+      none j k g true d = absurd (z (c .above i (omega arith) ∙ ap (λ (a : ℕ). getD m₀ a 0) (sym (eqb-true j i d)) ∙ g))
+      none j k g false d = let a : j ≡ i → ⊥ = eqb-false j i d in getD-set-other m i j n 0 a ∙ c .none j (omega arith) g
 
-    pub covering-changed : (n : ℕ) (marks index : List ℕ) → y ≡ false → Known s p marks index
-        → (Known s p marks index → Knows s p last → coverMeant p n ≡ coverIn (typesAt s p) (owning (typeName s p h)))
-        → Covering (rec s p w) (rec b q w) t m₀ (set m i n) (i + 1) (Entry h n)
-    unfolding coverFor layoutOf
-    covering-changed n marks index g o k = let d = k o (c .known) in covering-next n (Entry h n) (rw (← f, g) d) d
+      found : (j : ℕ) → j < i + 1 → (getD m₀ j 0 ≡ 0 → ⊥) → (v : Bool) → eqb j i ≡ v → coverMeant p (getD (set m i n) j 0) ≡ coverIn (typesAt s p) (owning (typeName s p (getD t j 0)))
+      found j k g true d =
+          let a = c .room in
+          rw (eqb-true j i d, getD-set-same m i n 0 (omega arith), ← e) (f o (c .known))
+      found j k g false d =
+          let a : j ≡ i → ⊥ = eqb-false j i d in
+          rw (getD-set-other m i j n 0 a) (c .found j (omega arith) g)
+
+-- what an owner is asked by, without leads and with them
+module _ (s p : Str) (roots : Versioned) (m x : List ℕ) (k : Known s p m x) (i : InSlots s p roots) where
+  pub owners-few : Owners s p roots m x []
+  owners-few = record { known = k; slots = i; leads = led-none s p m [] (omega arith) }
+
+  pub owners-many : (t : List ℕ) → length m ≤ 32768 → LeadsFilled s p m x t → Owners s p roots m x t
+  owners-many t h f = record { known = k; slots = i; leads = f .led (k .index) h }
+
+-- the changes and the entries are the table
+pub cover-filled : (s p b q : Str) (w : List Scalar) (t m n : List ℕ) → Changes (rec s p w) (rec b q w) t m → Entered s p t m n → CoverTable (rec s p w) (rec b q w) t n
+unfolding coverMeant coverFor layoutOf
+cover-filled s p b q w t m n c e = record { entries = λ i l. go i l (eqb (getD m i 0) 0) refl }
+  where
+    go : (i : ℕ) → i < length t → (v : Bool) → eqb (getD m i 0) 0 ≡ v
+        → coverMeant p (getD n i 0) ≡ coverFor (typesAt s p) (types (schemaOf (rec b q w))) (layoutOf (rec s p w) (getD t i 0))
+    go i l true h = rw (e .none i l (eqb-true (getD m i 0) 0 h), ← c .same i l, h)
+    go i l false h = rw (← c .same i l, h) (e .found i l (eqb-false (getD m i 0) 0 h))
 
 -- the pass asks the table ----------------------------------------------------------------------------------------------------
 

@@ -12,32 +12,29 @@ use lib.Seq.{take-all, take-suc, drop-cons, append-snoc}
 use borrow.Author.Tests.{eq-eqb, ne-eqb, eqb-true, not-true, le-ltb}
 use Rattle.record.specs.Base.{Str, eqs}
 use Rattle.record.specs.Stretch.{textOf}
-use Rattle.record.specs.Commands.{start}
 use Rattle.record.specs.Write.{Puts}
-use Rattle.record.specs.Schema as M
-use Rattle.record.specs.Steps.{familiesAt, FamiliesFrom}
+use Rattle.record.specs.Steps.{familiesAt}
+use Rattle.record.specs.Index.{Alone}
+use Rattle.record.specs.Owner.{ownerOf}
+use Rattle.record.specs.Leads.{LeadTable}
+use Rattle.record.specs.Versioned.{InSlots}
 use Rattle.record.specs.References.{typesAt}
 use Rattle.record.specs.Ownership.{Known, Answered, ownerMeant}
 use Rattle.record.specs.declared.text.Text.{Text}
-use Rattle.record.specs.declared.command.Cursor.{Cursor}
-use Rattle.record.specs.declared.command.Family.{Family}
-use Rattle.record.specs.declared.lists.FamilyStep.{FamilyStep}
-use Rattle.record.specs.declared.lists.FamilyStep.the-variants.{NoFamily, AFamily}
+use Rattle.record.specs.declared.versioned.Versioned.{Versioned}
 use Rattle.record.specs.declared.ownership.Owner.{Owner}
 use Rattle.record.specs.declared.ownership.Owner.the-variants.{Nobody, Owned}
 use Rattle.record.proofs.Basics.{both, eqs→eq, eqs-refl}
-use Rattle.record.proofs.StepLaws.{families-over-now, families-now}
 use Rattle.layout.specs.Layout.{variantName}
 use Rattle.layout.specs.Handles.{familyPart, placePart, nameAt, typeName}
 use Rattle.layout.specs.Names.{nameOf, stretchesOf}
 use Rattle.layout.specs.declared.names.TypeName.{TypeName}
 use Rattle.layout.proofs.NameLaws.{stretches-read}
 use Rattle.definition.specs.Coverage.{owning, standsAlone}
-use Rattle.compare.specs.CoverTable.{colonsFirst, oneFamily, coverIn, stretchIn, coverMeant, Packed, Knows}
+use Rattle.compare.specs.CoverTable.{colonsFirst, oneFamily, coverIn, stretchIn, coverMeant, Packed, Owners, Knows}
 use Rattle.compare.specs.declared.coverage.Last.{Last}
 use Rattle.compare.specs.declared.coverage.Last.the-variants.{Entry}
 use Rattle.compare.proofs.LayoutLaws.{read-back}
-use Rattle.compare.proofs.AnyLaws.{any-end, any-hit, any-miss}
 
 -- the name before its first two colons ------------------------------------------------------------------------------------
 
@@ -135,41 +132,9 @@ module _ (s p : Str) where
       → t ≡ eqs (owning (typeName s p g)) (owning (typeName s p h))
   owning-same g h n o x y t e f i l e₂ f₂ i₂ l₂ u v z = z ∙ ap₂ eqs (owning-read g n x e f i l u) (owning-read h o y e₂ f₂ i₂ l₂ v)
 
-  pub entry-read : (h : ℕ) (n : TypeName) {a a' : Str} {m : ℕ} (x : Str) (marks index : List ℕ) (r : ℕ) → n ≡ stretchesOf s h → Puts a 0 (nameOf p n) a' m → m ≤ 0 + 512 → length a ≡ 512
-      → x ≡ owning (take m a') → (Known s p marks index → coverMeant p r ≡ coverIn (typesAt s p) x) → Known s p marks index → coverMeant p r ≡ coverIn (typesAt s p) (owning (typeName s p h))
-  entry-read h n x marks index r e f k l g c o = c o ∙ ap (coverIn (typesAt s p)) (owning-read h n x e f k l g)
-
--- families that stand alone --------------------------------------------------------------------------------------------------
-
-module _ (p : Str) (f : Family) (n : Str) where
-  pub alone-named : (x : Str) (b : Bool) → f .standalone ≡ true → x ≡ textOf p (f .name) → b ≡ eqs x n → b ≡ (f .standalone && eqs (textOf p (f .name)) n)
-  alone-named x b h e g = rw (h, ← e) g
-
-  pub alone-not : f .standalone ≡ false → false ≡ (f .standalone && eqs (textOf p (f .name)) n)
-  alone-not h = rw h
-
-module _ (s p n : Str) where
-  pub alone-begin : (z : Cursor) → z ≡ start → standsAlone (familiesAt s p 0) n ≡ standsAlone (familiesAt s p (z .at)) n
-  alone-begin z y = ap (λ (c : Cursor). standsAlone (familiesAt s p (c .at)) n) (sym y)
-
-  module _ (at : ℕ) (r : FamilyStep) (f : FamiliesFrom s at r) where
-    abbrev test : M.Family → Bool
-    test m = m .standalone && eqs (m .name) n
-
-    pub alone-end : r ≡ NoFamily → standsAlone (familiesAt s p at) n ≡ false
-    unfolding standsAlone
-    alone-end m = any-end test _ (families-over-now s at r f p m)
-
-    module _ (e : Family) (k : Cursor) (b : Bool) (m : r ≡ AFamily e k) (h : b ≡ (e .standalone && eqs (textOf p (e .name)) n)) where
-      pub alone-hit : b ≡ true → standsAlone (familiesAt s p at) n ≡ true
-      unfolding standsAlone
-      alone-hit t = any-hit test _ _ _ (families-now s at r f p e k m) (sym h ∙ t)
-
-      pub alone-miss : b ≡ false → standsAlone (familiesAt s p at) n ≡ standsAlone (familiesAt s p (k .at)) n
-      unfolding standsAlone
-      alone-miss t = any-miss test _ _ _ (families-now s at r f p e k m) (sym h ∙ t)
-
-pub ruleset alone-laws = (alone-end, alone-hit, alone-miss)
+  pub entry-read : (h : ℕ) (n : TypeName) {a a' : Str} {m : ℕ} (x : Str) (roots : Versioned) (marks index leads : List ℕ) (r : ℕ) → n ≡ stretchesOf s h → Puts a 0 (nameOf p n) a' m → m ≤ 0 + 512 → length a ≡ 512
+      → x ≡ owning (take m a') → (Owners s p roots marks index leads → coverMeant p r ≡ coverIn (typesAt s p) x) → Owners s p roots marks index leads → coverMeant p r ≡ coverIn (typesAt s p) (owning (typeName s p h))
+  entry-read h n x roots marks index leads r e f k l g c o = c o ∙ ap (coverIn (typesAt s p)) (owning-read h n x e f k l g)
 
 -- entries --------------------------------------------------------------------------------------------------------------------
 
@@ -180,26 +145,33 @@ packed-is t h k =
     let b : (t .start * 256 + t .len + 2 - 2) % 256 ≡ t .len = omega arith in
     record { owned = omega arith; stretch = λ i. record { start = a i; len = b i } }
 
-module _ (s p n : Str) (b : Bool) (e : b ≡ standsAlone (familiesAt s p 0) n) where
+module _ (s p n : Str) (roots : Versioned) (marks index leads : List ℕ) (o : Owners s p roots marks index leads) (b : Bool) (alone : Alone s p index n b) where
+  e : b ≡ standsAlone (familiesAt s p 0) n
+  unfolding standsAlone
+  e = alone .is (o .known .index)
+
   pub entry-alone : b ≡ true → coverMeant p 0 ≡ coverIn (typesAt s p) n
   unfolding coverMeant coverIn
   entry-alone t = rw (← e, t)
 
-  module _ (t : b ≡ false) (marks index : List ℕ) (o : Known s p marks index) (r : Owner) (a : Known s p marks index → Answered s p n r) where
+  module _ (t : b ≡ false) (r : Owner) (a : Known s p marks index → InSlots s p roots → LeadTable s p marks leads → Answered s p n r) where
+    owner-is : ownerMeant p r ≡ ownerOf (typesAt s p) n
+    owner-is = a (o .known) (o .slots) (o .leads) .owner
+
     pub entry-nobody : r ≡ Nobody → coverMeant p 1 ≡ coverIn (typesAt s p) n
     unfolding coverMeant coverIn
-    entry-nobody m = rw (← e, t) (ap some (ap (ownerMeant p) (sym m) ∙ a o .owner))
+    entry-nobody m = rw (← e, t) (ap some (ap (ownerMeant p) (sym m) ∙ owner-is))
 
     pub entry-owned : (x : Text) (k : ℕ) → r ≡ Owned x → Packed x k → coverMeant p k ≡ coverIn (typesAt s p) n
     unfolding coverMeant coverIn
-    entry-owned x k m q = rw (← e, t, le-ltb k 2 (q .owned), q .stretch) (ap some (ap (ownerMeant p) (sym m) ∙ a o .owner))
+    entry-owned x k m q = rw (← e, t, le-ltb k 2 (q .owned), q .stretch) (ap some (ap (ownerMeant p) (sym m) ∙ owner-is))
 
 pub ruleset named-laws = (entry-alone, entry-nobody, entry-owned)
 
 module _ (s p : Str) (last : Last) (h : ℕ) where
-  pub after-other : (marks index : List ℕ) (r : ℕ) → (Known s p marks index → coverMeant p r ≡ coverIn (typesAt s p) (owning (typeName s p h))) → Known s p marks index
+  pub after-other : (roots : Versioned) (marks index leads : List ℕ) (r : ℕ) → (Owners s p roots marks index leads → coverMeant p r ≡ coverIn (typesAt s p) (owning (typeName s p h))) → Owners s p roots marks index leads
       → coverMeant p r ≡ coverIn (typesAt s p) (owning (typeName s p h))
-  after-other marks index r f o = f o
+  after-other roots marks index leads r f o = f o
 
   pub after-same : (g n : ℕ) (b : Bool) → last ≡ Entry g n → Knows s p last → b ≡ eqs (owning (typeName s p g)) (owning (typeName s p h)) → b ≡ true
       → coverMeant p n ≡ coverIn (typesAt s p) (owning (typeName s p h))

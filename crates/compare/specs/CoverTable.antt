@@ -11,7 +11,11 @@ use Rattle.record.specs.Stretch.{textOf}
 use Rattle.record.specs.Owner.{Types, ownerOf}
 use Rattle.record.specs.References.{typesAt}
 use Rattle.record.specs.Reading.{Rec, schemaOf}
+use Rattle.record.specs.Leads.{LeadTable}
+use Rattle.record.specs.Ownership.{Known}
+use Rattle.record.specs.Versioned.{InSlots}
 use Rattle.record.specs.declared.text.Text.{Text}
+use Rattle.record.specs.declared.versioned.Versioned.{Versioned}
 use Rattle.layout.specs.Layout.{TypeLayout, types, typeIn}
 use Rattle.layout.specs.Handles.{familyPart, typeName, layoutOf}
 use Rattle.layout.specs.Names.{stretchesOf}
@@ -59,6 +63,12 @@ pub record Packed (t : Text) (n : ℕ) : Type 0 where
   pub owned : 2 ≤ n
   pub stretch : stretchIn n ≡ t
 
+-- what an owner is asked by: the record's roots, marks, index and leads
+pub record Owners (s p : Str) (roots : Versioned) (m x t : List ℕ) : Type 0 where
+  pub known : Known s p m x
+  pub slots : InSlots s p roots
+  pub leads : LeadTable s p m t
+
 -- an entry that was found is that of its type's name
 abbrev pub Knows : Str → Str → Last → Type 0
 Knows s p NoLast = Unit
@@ -69,6 +79,16 @@ Knows s p (Entry h n) = coverMeant p n ≡ coverIn (typesAt s p) (owning (typeNa
 -- the types of a record whose layout is not the released one
 abbrev pub changedTypes : Rec → Rec → List TypeLayout
 changedTypes r r₀ = changed (types (schemaOf r)) (types (schemaOf r₀))
+
+-- a number for each type of a record, against a released one: 0 where the type is as it was
+pub record Changes (r r₀ : Rec) (t m : List ℕ) : Type 0 where
+  pub same : (i : ℕ) → i < length t
+      → eqb (getD m i 0) 0 ≡ sameAs (typeIn (typeName (r .stream) (r .pool) (getD t i 0)) (types (schemaOf r₀))) (layoutOf r (getD t i 0))
+
+-- each number but 0 has become the entry of its type's name
+pub record Entered (s p : Str) (t before m : List ℕ) : Type 0 where
+  pub none : (i : ℕ) → i < length t → getD before i 0 ≡ 0 → getD m i 0 ≡ 0
+  pub found : (i : ℕ) → i < length t → (getD before i 0 ≡ 0 → ⊥) → coverMeant p (getD m i 0) ≡ coverIn (typesAt s p) (owning (typeName s p (getD t i 0)))
 
 -- an entry for each type of a record, against a released one
 pub record CoverTable (r r₀ : Rec) (t m : List ℕ) : Type 0 where

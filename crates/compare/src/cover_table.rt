@@ -5,15 +5,18 @@ use crate::layouts::same_fields;
 use layout::names::type_name;
 use layout::table::TypeFound;
 use layout::table::find_same;
+use record::leads::fill_leads;
 use record::text::Text;
 use record::text::bytes_of;
 use record::text::same;
+use record::versioned::Versioned;
 use verdicts::verdict::Verdict;
 ghost use Prim.Native.Nat.{_≤_};
 ghost use mathlib.Core.Path.{_≡_};
 ghost use lib.ListN.{length, getD};
 ghost use Rattle.record.specs.Scalars.{scalarsOf};
 ghost use Rattle.record.specs.Ownership.{Known};
+ghost use Rattle.record.specs.Versioned.{InSlots};
 ghost use Rattle.record.specs.Reading.{rec, schemaOf};
 ghost use Rattle.record.specs.Read.{Exact};
 ghost use Rattle.layout.specs.Layout.{types, typeIn};
@@ -22,7 +25,7 @@ ghost use Rattle.layout.specs.Table.{Typed};
 ghost use Rattle.layout.specs.FieldSizes.{SizesTable};
 ghost use Rattle.layout.specs.Tables.{Tables};
 ghost use Rattle.definition.specs.Fields.{sameAs};
-ghost use Rattle.compare.specs.CoverTable.{CoverTable, firstUncovered, isUnder, firstTouched};
+ghost use Rattle.compare.specs.CoverTable.{Owners, Changes, Entered, CoverTable, firstUncovered, isUnder, firstTouched};
 
 // A number of a table; past its end 0.
 fn entry_at(table: &[u32], i: usize) -> u32
@@ -63,6 +66,110 @@ fn unchanged(
     )
 }
 
+// Puts 0 for each type that is as it was and 1 for each other, and counts the latter.
+fn fill_changed(
+    rows: &[u8],
+    stream: &[u8],
+    pool: &[u8],
+    types: &[u32],
+    sizes: &[u64],
+    past: &[u8],
+    old: &[u8],
+    shipped: &[u32],
+    widths: &[u64],
+    cover: &mut [u32],
+) -> usize
+    requires { ⌜ Tables (rec (now stream) (now pool) (scalarsOf (now rows))) (now types) (now sizes) × Tables (rec (now past) (now old) (scalarsOf (now rows))) (now shipped) (now widths) × (length (now types) ≤ length (now cover)) ⌝ }
+    ensures { λ _. ⌜ Changes (rec (now (stream .entry)) (now (pool .entry)) (scalarsOf (now (rows .entry)))) (rec (now (past .entry)) (now (old .entry)) (scalarsOf (now (rows .entry)))) (now (types .entry)) (now (cover .exit)) ⌝ }
+{
+    let mut changed = 0;
+    let mut i = 0;
+    while i < types.len() {
+        let h = types[i];
+        if unchanged(rows, stream, pool, sizes, h, past, old, shipped, widths, i) {
+            cover[i] = 0;
+            i += 1;
+        } else {
+            cover[i] = 1;
+            changed += 1;
+            i += 1;
+        }
+    }
+    changed
+}
+
+// Puts the entry of each type that is not as it was.
+fn fill_entries(
+    stream: &[u8],
+    pool: &[u8],
+    types: &[u32],
+    roots: Versioned,
+    marks: &[u8],
+    index: &[u16],
+    leads: &[u16],
+    cover: &mut [u32],
+)
+    requires { ⌜ Owners (now stream) (now pool) roots (now marks) (now index) (now leads) × (length (now types) ≤ length (now cover)) ⌝ }
+    ensures { λ _. ⌜ Entered (now (stream .entry)) (now (pool .entry)) (now (types .entry)) (now (cover .entry)) (now (cover .exit)) ⌝ }
+{
+    let mut last = Last::NoLast;
+    let mut i = 0;
+    while i < types.len() {
+        if cover[i] == 0 {
+            i += 1;
+        } else {
+            let h = types[i];
+            let entry = entry_after(stream, pool, roots, marks, index, leads, last, h);
+            cover[i] = entry;
+            last = Last::Entry(h, entry);
+            i += 1;
+        }
+    }
+}
+
+// The same without a table of leads.
+fn fill_few(
+    stream: &[u8],
+    pool: &[u8],
+    types: &[u32],
+    roots: Versioned,
+    marks: &[u8],
+    index: &[u16],
+    cover: &mut [u32],
+)
+    requires { ⌜ Known (now stream) (now pool) (now marks) (now index) × InSlots (now stream) (now pool) roots × (length (now types) ≤ length (now cover)) ⌝ }
+    ensures { λ _. ⌜ Entered (now (stream .entry)) (now (pool .entry)) (now (types .entry)) (now (cover .entry)) (now (cover .exit)) ⌝ }
+{
+    fill_entries(
+        stream,
+        pool,
+        types,
+        roots,
+        marks,
+        index,
+        &index[0..0],
+        cover,
+    );
+}
+
+// The same with one, which takes less time where many types changed. It has room for the types of a stream of 32,768 bytes.
+fn fill_many(
+    stream: &[u8],
+    pool: &[u8],
+    types: &[u32],
+    roots: Versioned,
+    marks: &[u8],
+    index: &[u16],
+    cover: &mut [u32],
+)
+    requires { ⌜ Known (now stream) (now pool) (now marks) (now index) × InSlots (now stream) (now pool) roots × (length (now types) ≤ length (now cover)) × (length (now marks) ≤ 32768) ⌝ }
+    ensures { λ _. ⌜ Entered (now (stream .entry)) (now (pool .entry)) (now (types .entry)) (now (cover .entry)) (now (cover .exit)) ⌝ }
+{
+    let mut leads = [0u16; 3277];
+    fill_leads(stream, pool, marks, index, &mut leads);
+    fill_entries(stream, pool, types, roots, marks, index, &leads, cover);
+}
+
 // Fills the table, where the marks are those of the owners and the index is the record's.
 pub(crate) fn fill_cover(
     rows: &[u8],
@@ -74,27 +181,35 @@ pub(crate) fn fill_cover(
     old: &[u8],
     shipped: &[u32],
     widths: &[u64],
+    roots: Versioned,
     marks: &[u8],
     index: &[u16],
     cover: &mut [u32],
 )
-    requires { ⌜ Tables (rec (now stream) (now pool) (scalarsOf (now rows))) (now types) (now sizes) × Tables (rec (now past) (now old) (scalarsOf (now rows))) (now shipped) (now widths) × Known (now stream) (now pool) (now marks) (now index) × (length (now types) ≤ length (now cover)) ⌝ }
+    requires { ⌜ Tables (rec (now stream) (now pool) (scalarsOf (now rows))) (now types) (now sizes) × Tables (rec (now past) (now old) (scalarsOf (now rows))) (now shipped) (now widths) × Known (now stream) (now pool) (now marks) (now index) × InSlots (now stream) (now pool) roots × (length (now types) ≤ length (now cover)) ⌝ }
     ensures { λ _. ⌜ CoverTable (rec (now (stream .entry)) (now (pool .entry)) (scalarsOf (now (rows .entry)))) (rec (now (past .entry)) (now (old .entry)) (scalarsOf (now (rows .entry)))) (now (types .entry)) (now (cover .exit)) ⌝ }
 {
-    let mut last = Last::NoLast;
-    let mut i = 0;
-    while i < types.len() {
-        let h = types[i];
-        if unchanged(rows, stream, pool, sizes, h, past, old, shipped, widths, i) {
-            cover[i] = 0;
-            i += 1;
-        } else {
-            let entry = entry_after(stream, pool, marks, index, last, h);
-            cover[i] = entry;
-            last = Last::Entry(h, entry);
-            i += 1;
-        }
+    let n = fill_changed(
+        rows,
+        stream,
+        pool,
+        types,
+        sizes,
+        past,
+        old,
+        shipped,
+        widths,
+        cover,
+    );
+    if n < 8 {
+        fill_few(stream, pool, types, roots, marks, index, cover);
+        return;
     }
+    if 32768 < marks.len() {
+        fill_few(stream, pool, types, roots, marks, index, cover);
+        return;
+    }
+    fill_many(stream, pool, types, roots, marks, index, cover);
 }
 
 // The first changed type that no number covers.

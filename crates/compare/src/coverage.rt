@@ -2,28 +2,21 @@
 use layout::names::family_part;
 use layout::names::put_name;
 use layout::names::type_name;
-use record::command::Cursor;
-use record::command::Family;
 use record::cut::from;
 use record::cut::upto;
+use record::index::stands_alone;
 use record::le::byte_at;
-use record::lists::FamilyStep;
-use record::lists::next_family;
 use record::ownership::Owner;
 use record::ownership::owner_among;
 use record::text::Text;
-use record::text::bytes_of;
 use record::text::same;
+use record::versioned::Versioned;
 ghost use mathlib.Core.Path.{_≡_};
-ghost use mathlib.Core.Bool.{_&&_};
 ghost use Rattle.record.specs.Base.{eqs};
-ghost use Rattle.record.specs.Stretch.{textOf};
-ghost use Rattle.record.specs.Steps.{familiesAt};
 ghost use Rattle.record.specs.References.{typesAt};
-ghost use Rattle.record.specs.Ownership.{Known};
 ghost use Rattle.layout.specs.Handles.{typeName};
-ghost use Rattle.definition.specs.Coverage.{owning, standsAlone};
-ghost use Rattle.compare.specs.CoverTable.{colonsFirst, oneFamily, coverIn, coverMeant, Packed, Knows};
+ghost use Rattle.definition.specs.Coverage.{owning};
+ghost use Rattle.compare.specs.CoverTable.{colonsFirst, oneFamily, coverIn, coverMeant, Packed, Owners, Knows};
 
 // Whether a text begins with two colons.
 fn colons_first(s: &[u8]) -> bool
@@ -80,33 +73,6 @@ fn same_owning(stream: &[u8], pool: &[u8], g: u32, h: u32) -> bool
     same(before_colons(&a[..m]), before_colons(&b[..n]))
 }
 
-// Whether a family is standalone and has this name.
-fn is_alone(pool: &[u8], f: Family, name: &[u8]) -> bool
-    ensures { λ r. ⌜ r ≡ (f .standalone && eqs (textOf (now (pool .entry)) (f .name)) (now (name .entry))) ⌝ }
-{
-    if f.standalone {
-        let own = f.name;
-        return same(bytes_of(pool, own), name);
-    }
-    false
-}
-
-// Whether a family of this name is standalone.
-fn stands_alone(stream: &[u8], pool: &[u8], name: &[u8]) -> bool
-    ensures { λ r. ⌜ r ≡ standsAlone (familiesAt (now (stream .entry)) (now (pool .entry)) 0) (now (name .entry)) ⌝ }
-{
-    let mut cursor = Cursor::new();
-    loop {
-        let FamilyStep::AFamily(f, after) = next_family(stream, cursor) else {
-            return false;
-        };
-        if is_alone(pool, f, name) {
-            return true;
-        }
-        cursor = after;
-    }
-}
-
 // The entry of a type that is under the root of this name: two more than the stretch as a number, since 0 and 1 are taken.
 fn packed(root: Text) -> u32
     ensures { λ r. ⌜ Packed root r ⌝ }
@@ -115,25 +81,49 @@ fn packed(root: Text) -> u32
 }
 
 // The entry of a changed type, by its name before the first "::".
-fn entry_named(stream: &[u8], pool: &[u8], marks: &[u8], index: &[u16], name: &[u8]) -> u32
-    ensures { λ r. ⌜ (Known (now (stream .entry)) (now (pool .entry)) (now (marks .entry)) (now (index .entry)) → coverMeant (now (pool .entry)) r ≡ coverIn (typesAt (now (stream .entry)) (now (pool .entry))) (now (name .entry))) ⌝ }
+fn entry_named(
+    stream: &[u8],
+    pool: &[u8],
+    roots: Versioned,
+    marks: &[u8],
+    index: &[u16],
+    leads: &[u16],
+    name: &[u8],
+) -> u32
+    ensures { λ r. ⌜ (Owners (now (stream .entry)) (now (pool .entry)) roots (now (marks .entry)) (now (index .entry)) (now (leads .entry)) → coverMeant (now (pool .entry)) r ≡ coverIn (typesAt (now (stream .entry)) (now (pool .entry))) (now (name .entry))) ⌝ }
 {
-    if stands_alone(stream, pool, name) {
+    if stands_alone(stream, pool, index, name) {
         return 0;
     }
-    let Owner::Owned(root) = owner_among(stream, pool, marks, index, name) else {
+    let Owner::Owned(root) = owner_among(stream, pool, roots, marks, index, leads, name) else {
         return 1;
     };
     packed(root)
 }
 
 // The entry of a changed type.
-fn entry_of(stream: &[u8], pool: &[u8], marks: &[u8], index: &[u16], handle: u32) -> u32
-    ensures { λ r. ⌜ (Known (now (stream .entry)) (now (pool .entry)) (now (marks .entry)) (now (index .entry)) → coverMeant (now (pool .entry)) r ≡ coverIn (typesAt (now (stream .entry)) (now (pool .entry))) (owning (typeName (now (stream .entry)) (now (pool .entry)) handle))) ⌝ }
+fn entry_of(
+    stream: &[u8],
+    pool: &[u8],
+    roots: Versioned,
+    marks: &[u8],
+    index: &[u16],
+    leads: &[u16],
+    handle: u32,
+) -> u32
+    ensures { λ r. ⌜ (Owners (now (stream .entry)) (now (pool .entry)) roots (now (marks .entry)) (now (index .entry)) (now (leads .entry)) → coverMeant (now (pool .entry)) r ≡ coverIn (typesAt (now (stream .entry)) (now (pool .entry))) (owning (typeName (now (stream .entry)) (now (pool .entry)) handle))) ⌝ }
 {
     let mut name = [0u8; 512];
     let n = put_name(&mut name, 0, pool, type_name(stream, handle));
-    entry_named(stream, pool, marks, index, before_colons(&name[..n]))
+    entry_named(
+        stream,
+        pool,
+        roots,
+        marks,
+        index,
+        leads,
+        before_colons(&name[..n]),
+    )
 }
 
 // The changed type before, by its handle, and its entry.
@@ -146,18 +136,20 @@ pub enum Last {
 pub(crate) fn entry_after(
     stream: &[u8],
     pool: &[u8],
+    roots: Versioned,
     marks: &[u8],
     index: &[u16],
+    leads: &[u16],
     last: Last,
     handle: u32,
 ) -> u32
-    ensures { λ r. ⌜ (Known (now (stream .entry)) (now (pool .entry)) (now (marks .entry)) (now (index .entry)) → Knows (now (stream .entry)) (now (pool .entry)) last → coverMeant (now (pool .entry)) r ≡ coverIn (typesAt (now (stream .entry)) (now (pool .entry))) (owning (typeName (now (stream .entry)) (now (pool .entry)) handle))) ⌝ }
+    ensures { λ r. ⌜ (Owners (now (stream .entry)) (now (pool .entry)) roots (now (marks .entry)) (now (index .entry)) (now (leads .entry)) → Knows (now (stream .entry)) (now (pool .entry)) last → coverMeant (now (pool .entry)) r ≡ coverIn (typesAt (now (stream .entry)) (now (pool .entry))) (owning (typeName (now (stream .entry)) (now (pool .entry)) handle))) ⌝ }
 {
     let Last::Entry(before, entry) = last else {
-        return entry_of(stream, pool, marks, index, handle);
+        return entry_of(stream, pool, roots, marks, index, leads, handle);
     };
     if same_owning(stream, pool, before, handle) {
         return entry;
     }
-    entry_of(stream, pool, marks, index, handle)
+    entry_of(stream, pool, roots, marks, index, leads, handle)
 }

@@ -20,6 +20,7 @@ use record::sizes::wide;
 use record::text::Text;
 use record::text::bytes_of;
 use record::text::same;
+use record::versioned::Versioned;
 use record::versioned::versioned_structs;
 use verdicts::verdict::Verdict;
 ghost use Prim.Native.Nat.{_≤_};
@@ -37,7 +38,7 @@ ghost use Rattle.record.specs.Owner.{withName};
 ghost use Rattle.record.specs.Index.{Indexed};
 ghost use Rattle.record.specs.References.{typesAt};
 ghost use Rattle.record.specs.Reading.{rec};
-ghost use Rattle.record.specs.Versioned.{versioned};
+ghost use Rattle.record.specs.Versioned.{versioned, InSlots};
 ghost use Rattle.layout.specs.Tables.{Tables};
 ghost use Rattle.definition.specs.Pass.{_then_};
 ghost use Rattle.definition.specs.Generations.{isListed, checkStill, checkRise, checkFrom, checkAgainst, checkGeneration, checkRoots, checkGenerations};
@@ -271,12 +272,13 @@ fn check_roots(
     past: &[u8],
     old: &[u8],
     cover: &[u32],
+    slots: Versioned,
     current: Text,
     copy: OptText,
 ) -> Verdict
+    requires { ⌜ InSlots (now stream) (now pool) slots ⌝ }
     ensures { λ r. ⌜ meaning (now (pool .entry)) (now (old .entry)) r ≡ checkRoots (textOf (now (pool .entry)) current) (optOf (now (old .entry)) copy) (versionsAt (now (stream .entry)) (now (pool .entry)) 0) (structsAt (now (stream .entry)) (now (pool .entry)) 0) (constantsAt (now (stream .entry)) (now (pool .entry)) 0) (constantsAt (now (past .entry)) (now (old .entry)) 0) (touchedBy (now (stream .entry)) (now (pool .entry)) (now (types .entry)) (now (cover .entry))) (versioned (structsAt (now (stream .entry)) (now (pool .entry)) 0)) ⌝ }
 {
-    let slots = versioned_structs(stream, pool);
     let first = slots.info;
     let second = slots.metadata;
     let third = slots.runtime;
@@ -299,16 +301,18 @@ fn check_filled(
     past: &[u8],
     old: &[u8],
     cover: &[u32],
+    slots: Versioned,
     current: Text,
     copy: OptText,
 ) -> Verdict
+    requires { ⌜ InSlots (now stream) (now pool) slots ⌝ }
     ensures { λ r. ⌜ meaning (now (pool .entry)) (now (old .entry)) r ≡ (meaning (now (pool .entry)) (now (old .entry)) (firstUncovered (now (stream .entry)) (now (types .entry)) (now (cover .entry))) then checkRoots (textOf (now (pool .entry)) current) (optOf (now (old .entry)) copy) (versionsAt (now (stream .entry)) (now (pool .entry)) 0) (structsAt (now (stream .entry)) (now (pool .entry)) 0) (constantsAt (now (stream .entry)) (now (pool .entry)) 0) (constantsAt (now (past .entry)) (now (old .entry)) 0) (touchedBy (now (stream .entry)) (now (pool .entry)) (now (types .entry)) (now (cover .entry))) (versioned (structsAt (now (stream .entry)) (now (pool .entry)) 0))) ⌝ }
 {
     let covered = check_covered(stream, types, cover);
     let Verdict::Passed = covered else {
         return covered;
     };
-    check_roots(stream, pool, types, past, old, cover, current, copy)
+    check_roots(stream, pool, types, past, old, cover, slots, current, copy)
 }
 
 // The pass; the marks of the owners and the table of what covers each type are lent to it.
@@ -331,6 +335,7 @@ pub(crate) fn check_generations(
     requires { ⌜ Tables (rec (now stream) (now pool) (scalarsOf (now rows))) (now types) (now sizes) × Tables (rec (now past) (now old) (scalarsOf (now rows))) (now shipped) (now widths) × (length (now stream) ≤ length (now marks)) × (length (now types) ≤ length (now cover)) × Indexed (now stream) (now pool) (now index) ⌝ }
     ensures { λ r. ⌜ meaning (now (pool .entry)) (now (old .entry)) r ≡ checkGenerations (textOf (now (pool .entry)) current) (optOf (now (old .entry)) copy) (versionsAt (now (stream .entry)) (now (pool .entry)) 0) (typesAt (now (stream .entry)) (now (pool .entry))) (constantsAt (now (stream .entry)) (now (pool .entry)) 0) (constantsAt (now (past .entry)) (now (old .entry)) 0) (changedTypes (rec (now (stream .entry)) (now (pool .entry)) (scalarsOf (now (rows .entry)))) (rec (now (past .entry)) (now (old .entry)) (scalarsOf (now (rows .entry))))) ⌝ }
 {
+    let slots = versioned_structs(stream, pool);
     mark_owners(stream, pool, index, marks);
     fill_cover(
         rows,
@@ -342,9 +347,10 @@ pub(crate) fn check_generations(
         old,
         shipped,
         widths,
+        slots,
         marks,
         index,
         cover,
     );
-    check_filled(stream, pool, types, past, old, cover, current, copy)
+    check_filled(stream, pool, types, past, old, cover, slots, current, copy)
 }

@@ -3,20 +3,21 @@ use Prim.Native.Nat.{ℕ, zero, suc, _+_, _-_, _*_, _/_, _%_, _≤_, _<_}
 use mathlib.Core.Path.{_≡_, refl, sym, ap, subst, _∙_}
 use mathlib.Core.List.{List, [], _∷_}
 use mathlib.Core.Option.{Option, none, some}
-use mathlib.Core.Bool.{Bool, true, false, _&&_, cond, false≢true}
+use mathlib.Core.Bool.{Bool, true, false, _&&_, _||_, cond, false≢true}
 use native.Mathlib.Omega.{arith}
 use borrow.Author.Tests.{eq-eqb, ne-eqb, eqb-true, eqb-false, lt-ltb, le-ltb, ltb-false}
 use lib.Dec.{eqb, ltb}
 use lib.ListN.{length, getD, set, drop, length-set, List·getD-eq-default}
 use lib.Seq.{getD-set-same, getD-set-other}
-use Rattle.record.specs.Base.{Str, bytes, eqs, find}
+use Rattle.record.specs.Base.{Str, bytes, eqs, find, any, isSome}
 use Rattle.record.specs.Stretch.{textOf}
-use Rattle.record.specs.Operands.{textAt}
+use Rattle.record.specs.Operands.{textAt, flagAt}
+use Rattle.record.specs.Schema.{Family}
 use Rattle.record.specs.Commands.{operands, wide, widths, widthWith, widthOf, stepAt, commandsAt}
 use Rattle.record.specs.Lists.{anything, listed, aliases, enums, values, bitfields, members, structs, fields, families, variants}
 use Rattle.record.specs.Steps.{valuesAt, membersAt, fieldsAt, variantsAt, aliasesAt, enumsAt, bitfieldsAt, structsAt, familiesAt, aliasIn, enumIn, bitfieldIn, structIn, familyIn}
 use Rattle.record.specs.Seek.{afterAt}
-use Rattle.record.specs.Index.{hashOf, declaredName, declares, isNamed, onto, declaring, declaredPlaces, keyAt, putAt, latest, Linked, IndexRoom, Chained, Indexed, hitIn, linkBefore, Headless, FirstNamed, soughtAt, aliasPlaced, enumPlaced, bitfieldPlaced, structPlaced, familyPlaced, PlaceNamed, Declared}
+use Rattle.record.specs.Index.{hashOf, declaredName, declares, isNamed, isAlone, onto, declaring, declaredPlaces, keyAt, putAt, latest, Linked, IndexRoom, Chained, Indexed, hitIn, linkBefore, Headless, FirstNamed, soughtAt, aliasPlaced, enumPlaced, bitfieldPlaced, structPlaced, familyPlaced, PlaceNamed, Declared, Alone}
 use Rattle.record.specs.declared.text.Text.{Text}
 use Rattle.record.specs.declared.command.Cursor.{Cursor}
 use Rattle.record.specs.declared.command.Command.{Command}
@@ -339,47 +340,9 @@ before-falls x at = go (ltb at (getD x (256 + at / 7) 0)) refl
 pub link-falls : (x : List ℕ) (link at to : ℕ) → (link ≡ 0 → ⊥) → at ≡ link - 1 → to ≡ linkBefore x at → to < link
 link-falls x link at to z e f = let h = before-falls x at in omega arith
 
-module _ (s p : Str) (x : List ℕ) (b : ℕ) (n : Str) where
+module _ (s p : Str) (x : List ℕ) (n : Str) (test : ℕ → Bool) where
   abbrev key : ℕ → ℕ
   key = keyAt s p
-
-  abbrev test : ℕ → Bool
-  test = isNamed s p b n
-
-  -- where no place has the number, none has the name
-  none-hit : (l : List ℕ) (f : ℕ) → latest key (hashOf n) l ≡ 0 → hitIn test l f ≡ f
-  unfolding latest hitIn
-  none-hit [] f e = refl
-  none-hit (q ∷ l) f e = go (none-hit l f) (eqb (key q) (hashOf n)) refl e
-    where
-      go : (latest key (hashOf n) l ≡ 0 → hitIn test l f ≡ f) → (v : Bool) → eqb (key q) (hashOf n) ≡ v → cond v (suc q) (latest key (hashOf n) l) ≡ 0 → hitIn test l (cond (test q) (suc q) f) ≡ f
-      go ih true h g = absurd (omega arith)
-      go ih false h g = ap (λ (v : Bool). hitIn test l (cond v (suc q) f)) (other-number s p b n q h) ∙ ih g
-
-  -- the places after the first that has the number
-  record Beyond (l : List ℕ) (q : ℕ) : Type 0 where
-    rest : List ℕ
-    linked : Linked x key q rest
-    entry : getD x (256 + q / 7) 0 ≡ latest key (hashOf n) rest
-    same : (f : ℕ) → hitIn test l f ≡ hitIn test rest (cond (test q) (suc q) f)
-
-  beyond : (l : List ℕ) (top q : ℕ) → Linked x key top l → latest key (hashOf n) l ≡ suc q → Beyond l q
-  unfolding latest Linked hitIn
-  beyond [] top q i e = absurd (omega arith)
-  beyond (r ∷ l) top q i e = go (beyond l r q (i .2)) (eqb (key r) (hashOf n)) refl e
-    where
-      go : (latest key (hashOf n) l ≡ suc q → Beyond l q) → (v : Bool) → eqb (key r) (hashOf n) ≡ v → cond v (suc r) (latest key (hashOf n) l) ≡ suc q → Beyond (r ∷ l) q
-      go ih true h g =
-          let j : r ≡ q = omega arith in
-          subst (Beyond (r ∷ l)) j (record { rest = l; linked = i .2; entry = i .1 ∙ ap (λ (k : ℕ). latest key k l) (eqb-true (key r) (hashOf n) h); same = λ f. refl })
-      go ih false h g =
-          let j = ih g in
-          record {
-            rest = j .rest;
-            linked = j .linked;
-            entry = j .entry;
-            same = λ f. ap (λ (v : Bool). hitIn test l (cond v (suc r) f)) (other-number s p b n r h) ∙ j .same f;
-          }
 
   -- what is left to see, and what was seen last
   pub record Reached (link found : ℕ) : Type 0 where
@@ -389,46 +352,91 @@ module _ (s p : Str) (x : List ℕ) (b : ℕ) (n : Str) where
     pub is : link ≡ latest key (hashOf n) rest
     pub same : hitIn test (declaredPlaces s) 0 ≡ hitIn test rest found
 
+  reached-start : (h link : ℕ) → h ≡ hashOf n → link ≡ getD x h 0 → Indexed s p x → Reached link 0
+  reached-start h link e f i = record {
+    rest = declaredPlaces s;
+    top = length s;
+    linked = i .chained .linked;
+    is = f ∙ ap (λ (k : ℕ). getD x k 0) e ∙ i .chained .heads (hashOf n) (hash-below n);
+    same = refl;
+  }
+
+  -- a place that passes the test has the name's number
+  module _ (other : (q : ℕ) → eqb (key q) (hashOf n) ≡ false → test q ≡ false) where
+    -- where no place has the number, none passes
+    none-hit : (l : List ℕ) (f : ℕ) → latest key (hashOf n) l ≡ 0 → hitIn test l f ≡ f
+    unfolding latest hitIn
+    none-hit [] f e = refl
+    none-hit (q ∷ l) f e = go (none-hit l f) (eqb (key q) (hashOf n)) refl e
+      where
+        go : (latest key (hashOf n) l ≡ 0 → hitIn test l f ≡ f) → (v : Bool) → eqb (key q) (hashOf n) ≡ v → cond v (suc q) (latest key (hashOf n) l) ≡ 0 → hitIn test l (cond (test q) (suc q) f) ≡ f
+        go ih true h g = absurd (omega arith)
+        go ih false h g = ap (λ (v : Bool). hitIn test l (cond v (suc q) f)) (other q h) ∙ ih g
+
+    -- the places after the first that has the number
+    record Beyond (l : List ℕ) (q : ℕ) : Type 0 where
+      rest : List ℕ
+      linked : Linked x key q rest
+      entry : getD x (256 + q / 7) 0 ≡ latest key (hashOf n) rest
+      same : (f : ℕ) → hitIn test l f ≡ hitIn test rest (cond (test q) (suc q) f)
+
+    beyond : (l : List ℕ) (top q : ℕ) → Linked x key top l → latest key (hashOf n) l ≡ suc q → Beyond l q
+    unfolding latest Linked hitIn
+    beyond [] top q i e = absurd (omega arith)
+    beyond (r ∷ l) top q i e = go (beyond l r q (i .2)) (eqb (key r) (hashOf n)) refl e
+      where
+        go : (latest key (hashOf n) l ≡ suc q → Beyond l q) → (v : Bool) → eqb (key r) (hashOf n) ≡ v → cond v (suc r) (latest key (hashOf n) l) ≡ suc q → Beyond (r ∷ l) q
+        go ih true h g =
+            let j : r ≡ q = omega arith in
+            subst (Beyond (r ∷ l)) j (record { rest = l; linked = i .2; entry = i .1 ∙ ap (λ (k : ℕ). latest key k l) (eqb-true (key r) (hashOf n) h); same = λ f. refl })
+        go ih false h g =
+            let j = ih g in
+            record {
+              rest = j .rest;
+              linked = j .linked;
+              entry = j .entry;
+              same = λ f. ap (λ (v : Bool). hitIn test l (cond v (suc r) f)) (other r h) ∙ j .same f;
+            }
+
+    reached-end : (link found : ℕ) → link ≡ 0 → Reached link found → found ≡ hitIn test (declaredPlaces s) 0
+    reached-end link found z r = sym (r .same ∙ none-hit (r .rest) found (sym (r .is) ∙ z))
+
+    reached-next : (link found at to a : ℕ) → (link ≡ 0 → ⊥) → at ≡ link - 1 → to ≡ linkBefore x at → cond (test at) (suc at) found ≡ a → Reached link found → Reached to a
+    reached-next link found at to a z e f h r =
+        let k : link ≡ suc at = omega arith in
+        let j = beyond (r .rest) (r .top) at (r .linked) (sym (r .is) ∙ k) in
+        let l = latest-below key x (hashOf n) at (j .rest) (j .linked) in
+        record {
+          rest = j .rest;
+          top = at;
+          linked = j .linked;
+          is = f ∙ sym (link-there x at _ refl (subst (λ (m : ℕ). m ≤ at) (sym (j .entry)) l)) ∙ j .entry;
+          same = r .same ∙ j .same found ∙ ap (hitIn test (j .rest)) h;
+        }
+
+-- the first of a number and a name
+module _ (s p : Str) (x : List ℕ) (b : ℕ) (n : Str) where
   pub record Sighted (link found : ℕ) : Type 0 where
-    pub reached : Indexed s p x → Reached link found
+    pub reached : Indexed s p x → Reached s p x n (isNamed s p b n) link found
 
   pub sighted-start : (h link : ℕ) → h ≡ hashOf n → link ≡ getD x h 0 → Sighted link 0
-  sighted-start h link e f = record {
-    reached = λ i. record {
-      rest = declaredPlaces s;
-      top = length s;
-      linked = i .chained .linked;
-      is = f ∙ ap (λ (k : ℕ). getD x k 0) e ∙ i .chained .heads (hashOf n) (hash-below n);
-      same = refl;
-    };
-  }
+  sighted-start h link e f = record { reached = reached-start s p x n (isNamed s p b n) h link e f }
 
   module _ (link found : ℕ) (g : Sighted link found) where
     pub sighted-end : link ≡ 0 → FirstNamed s p x b n found
-    sighted-end z = record { first = λ i. let r = g .reached i in sym (r .same ∙ none-hit (r .rest) found (sym (r .is) ∙ z)) }
+    sighted-end z = record { first = λ i. reached-end s p x n (isNamed s p b n) (other-number s p b n) link found z (g .reached i) }
 
-    module _ (z : link ≡ 0 → ⊥) (at to : ℕ) (e : at ≡ link - 1) (f : to ≡ linkBefore x at) (v : Bool) (w : v ≡ test at) where
-      next : (a : ℕ) → cond (test at) (suc at) found ≡ a → Sighted to a
-      next a h = record { reached = λ i. go (g .reached i) }
-        where
-          go : Reached link found → Reached to a
-          go r =
-              let k : link ≡ suc at = omega arith in
-              let j = beyond (r .rest) (r .top) at (r .linked) (sym (r .is) ∙ k) in
-              let l = latest-below key x (hashOf n) at (j .rest) (j .linked) in
-              record {
-                rest = j .rest;
-                top = at;
-                linked = j .linked;
-                is = f ∙ sym (link-there x at _ refl (subst (λ (m : ℕ). m ≤ at) (sym (j .entry)) l)) ∙ j .entry;
-                same = r .same ∙ j .same found ∙ ap (hitIn test (j .rest)) h;
-              }
+    module _ (z : link ≡ 0 → ⊥) (at to : ℕ) (e : at ≡ link - 1) (f : to ≡ linkBefore x at) (v : Bool) (w : v ≡ isNamed s p b n at) where
+      next : (a : ℕ) → cond v (suc at) found ≡ a → Sighted to a
+      next a h = record {
+        reached = λ i. reached-next s p x n (isNamed s p b n) (other-number s p b n) link found at to a z e f (ap (λ (m : Bool). cond m (suc at) found) (sym w) ∙ h) (g .reached i);
+      }
 
       pub sighted-hit : v ≡ true → Sighted to link
-      sighted-hit h = next link (ap (λ (m : Bool). cond m (suc at) found) (sym w ∙ h) ∙ (let k : suc at ≡ link = omega arith in k))
+      sighted-hit h = next link (ap (λ (m : Bool). cond m (suc at) found) h ∙ (let k : suc at ≡ link = omega arith in k))
 
       pub sighted-miss : v ≡ false → Sighted to found
-      sighted-miss h = next found (ap (λ (m : Bool). cond m (suc at) found) (sym w ∙ h))
+      sighted-miss h = next found (ap (λ (m : Bool). cond m (suc at) found) h)
 
 pub ruleset sighted-laws = (sighted-start, sighted-end, sighted-hit, sighted-miss)
 
@@ -443,20 +451,24 @@ onto-split t d (q ∷ l) r f = go (λ m. onto-split t d l m f) (d q)
     go ih true = ih (q ∷ r) ∙ ap (hitIn t r) (sym (ih (q ∷ [])))
     go ih false = ih r
 
-module _ {A : Type 0} (s p n : Str) (b : ℕ) (d : declares b ≡ true) (f : ℕ → List ℕ → A) (own : A → Bool) (named : (at : ℕ) (rest : List ℕ) → own (f at rest) ≡ eqs (declaredName s p at) n)
+module _ {A : Type 0} (s : Str) (b : ℕ) (d : declares b ≡ true) (such : ℕ → Bool) (f : ℕ → List ℕ → A) (own : A → Bool) (named : (at : ℕ) (rest : List ℕ) → own (f at rest) ≡ such at)
     (placed : Sought → Option A) (nowhere : placed Nowhere ≡ none) (there : (a k : ℕ) → placed (At a k) ≡ some (f a (commandsAt s k))) where
+  -- a command of the number that is such
+  test : ℕ → Bool
+  test at = eqb (getD s at 0) b && such at
+
   hit : ℕ → ℕ
-  hit at = hitIn (isNamed s p b n) (onto (declaring s) (commandsAt s at) []) 0
+  hit at = hitIn test (onto (declaring s) (commandsAt s at) []) 0
 
   module _ (at : ℕ) (c : Command) (k : Cursor) (e : stepAt s at ≡ Next c k) where
-    hit-next : hit at ≡ cond (declaring s at) (cond (isNamed s p b n at) (suc at) (hit (k .at))) (hit (k .at))
+    hit-next : hit at ≡ cond (declaring s at) (cond (test at) (suc at) (hit (k .at))) (hit (k .at))
     unfolding hit onto hitIn
     hit-next =
-        ap (λ (l : List ℕ). hitIn (isNamed s p b n) (onto (declaring s) l []) 0) (commands-next s at c k e)
-        ∙ onto-split (isNamed s p b n) (declaring s) (commandsAt s (k .at)) (cond (declaring s at) (at ∷ []) []) 0
+        ap (λ (l : List ℕ). hitIn test (onto (declaring s) l []) 0) (commands-next s at c k e)
+        ∙ onto-split test (declaring s) (commandsAt s (k .at)) (cond (declaring s at) (at ∷ []) []) 0
         ∙ go (declaring s at)
       where
-        go : (v : Bool) → hitIn (isNamed s p b n) (cond v (at ∷ []) []) (hit (k .at)) ≡ cond v (cond (isNamed s p b n at) (suc at) (hit (k .at))) (hit (k .at))
+        go : (v : Bool) → hitIn test (cond v (at ∷ []) []) (hit (k .at)) ≡ cond v (cond (test at) (suc at) (hit (k .at))) (hit (k .at))
         go true = refl
         go false = refl
 
@@ -469,13 +481,13 @@ module _ {A : Type 0} (s p n : Str) (b : ℕ) (d : declares b ≡ true) (f : ℕ
       byte : getD s at 0 ≡ b
       byte = byte-is s at c k e ∙ is
 
-      hit-here : (v : Bool) → eqs (declaredName s p at) n ≡ v → hit at ≡ cond v (suc at) (hit (k .at))
-      unfolding declaring isNamed
+      hit-here : (v : Bool) → such at ≡ v → hit at ≡ cond v (suc at) (hit (k .at))
+      unfolding declaring test
       hit-here v q = hit-next ∙ rw (byte, d, eq-eqb b b refl, q)
 
     -- another
     hit-over : (byteOf c ≡ b → ⊥) → hit at ≡ hit (k .at)
-    unfolding isNamed
+    unfolding test
     hit-over h = hit-next ∙ rw (byte-is s at c k e, ne-eqb (byteOf c) b h) (same (declaring s at))
       where
         same : (v : Bool) → cond v (hit (k .at)) (hit (k .at)) ≡ hit (k .at)
@@ -493,32 +505,32 @@ module _ {A : Type 0} (s p n : Str) (b : ℕ) (d : declares b ≡ true) (f : ℕ
   unfolding Finds soughtAt
   finds-next at c k e ih = go (eqb (byteOf c) b) refl
     where
-      here : byteOf c ≡ b → (v : Bool) → eqs (declaredName s p at) n ≡ v → Finds at
+      here : byteOf c ≡ b → (v : Bool) → such at ≡ v → Finds at
       here is true q = find-hit own _ (f at (commandsAt s (k .at))) _ (listed-here s anything b f at c k e is) (named at _ ∙ q) ∙ rw (hit-here at c k e is true q, after-is at c k e) (sym (there at (k .at)))
       here is false q =
           find-miss own _ (f at (commandsAt s (k .at))) _ (listed-here s anything b f at c k e is) (named at _ ∙ q) ∙ ih
           ∙ ap (λ (m : ℕ). placed (soughtAt s m)) (sym (hit-here at c k e is false q))
 
       go : (v : Bool) → eqb (byteOf c) b ≡ v → Finds at
-      go true h = here (eqb-true (byteOf c) b h) (eqs (declaredName s p at) n) refl
+      go true h = here (eqb-true (byteOf c) b h) (such at) refl
       go false h =
           ap (find own) (listed-over s anything b f at c k e (eqb-false (byteOf c) b h) refl) ∙ ih
           ∙ ap (λ (m : ℕ). placed (soughtAt s m)) (sym (hit-over at c k e (eqb-false (byteOf c) b h)))
 
-  found-in : (at : ℕ) → find own (listed s anything b f (commandsAt s at)) ≡ placed (soughtAt s (hitIn (isNamed s p b n) (onto (declaring s) (commandsAt s at) []) 0))
-  unfolding Finds hit
+  found-in : (at : ℕ) → find own (listed s anything b f (commandsAt s at)) ≡ placed (soughtAt s (hitIn (λ (q : ℕ). eqb (getD s q 0) b && such q) (onto (declaring s) (commandsAt s at) []) 0))
+  unfolding Finds hit test
   found-in = along s Finds finds-stop finds-next
 
 module _ (s p : Str) (x : List ℕ) (b : ℕ) (n : Str) (found : ℕ) (g : FirstNamed s p x b n found) where
   placed-at : (r : Sought) → r ≡ soughtAt s found → Declared s p x b n r
-  unfolding declaredPlaces hit declaredName declares aliasIn enumIn bitfieldIn structIn familyIn aliasesAt enumsAt bitfieldsAt structsAt familiesAt aliases enums bitfields structs families valuesAt membersAt fieldsAt variantsAt
+  unfolding declaredPlaces isNamed declaredName declares aliasIn enumIn bitfieldIn structIn familyIn aliasesAt enumsAt bitfieldsAt structsAt familiesAt aliases enums bitfields structs families valuesAt membersAt fieldsAt variantsAt
   placed-at r e = record {
     named = λ i. let h : r ≡ soughtAt s (hitIn (isNamed s p b n) (declaredPlaces s) 0) = e ∙ ap (soughtAt s) (g .first i) in record {
-      alias = λ q. rw (h, q) (found-in s p n 3 refl _ _ (λ at rest. refl) (aliasPlaced s p) refl (λ a k. refl) 0);
-      enum = λ q. rw (h, q) (found-in s p n 4 refl _ _ (λ at rest. refl) (enumPlaced s p) refl (λ a k. refl) 0);
-      bitfield = λ q. rw (h, q) (found-in s p n 6 refl _ _ (λ at rest. refl) (bitfieldPlaced s p) refl (λ a k. refl) 0);
-      struct = λ q. rw (h, q) (found-in s p n 8 refl _ _ (λ at rest. refl) (structPlaced s p) refl (λ a k. refl) 0);
-      family = λ q. rw (h, q) (found-in s p n 9 refl _ _ (λ at rest. refl) (familyPlaced s p) refl (λ a k. refl) 0);
+      alias = λ q. rw (h, q) (found-in s 3 refl (λ (q : ℕ). eqs (declaredName s p q) n) _ _ (λ at rest. refl) (aliasPlaced s p) refl (λ a k. refl) 0);
+      enum = λ q. rw (h, q) (found-in s 4 refl (λ (q : ℕ). eqs (declaredName s p q) n) _ _ (λ at rest. refl) (enumPlaced s p) refl (λ a k. refl) 0);
+      bitfield = λ q. rw (h, q) (found-in s 6 refl (λ (q : ℕ). eqs (declaredName s p q) n) _ _ (λ at rest. refl) (bitfieldPlaced s p) refl (λ a k. refl) 0);
+      struct = λ q. rw (h, q) (found-in s 8 refl (λ (q : ℕ). eqs (declaredName s p q) n) _ _ (λ at rest. refl) (structPlaced s p) refl (λ a k. refl) 0);
+      family = λ q. rw (h, q) (found-in s 9 refl (λ (q : ℕ). eqs (declaredName s p q) n) _ _ (λ at rest. refl) (familyPlaced s p) refl (λ a k. refl) 0);
     };
   }
 
@@ -531,3 +543,91 @@ module _ (s p : Str) (x : List ℕ) (b : ℕ) (n : Str) (found : ℕ) (g : First
   declared-at z at to e f = placed-at (At at to) (rw (let k : found ≡ suc at = omega arith in k, f))
 
 pub ruleset declared-laws = (declared-none, declared-at)
+
+-- families that stand alone ------------------------------------------------------------------------------------------------
+
+module _ (s p n : Str) (at : ℕ) (y : ℕ) (e : y ≡ getD s at 0) where
+  pub alone-other : (y ≡ 9 → ⊥) → false ≡ isAlone s p n at
+  unfolding isAlone
+  alone-other h = rw (← e, ne-eqb y 9 h)
+
+  module _ (h : y ≡ 9) (u : Str) (b : Bool) (d : u ≡ drop at s) (f : b ≡ flagAt u 16) where
+    pub alone-not : b ≡ false → false ≡ isAlone s p n at
+    unfolding isAlone
+    alone-not g = rw (← e, eq-eqb y 9 h, ← d, ← f, g)
+
+    pub alone-named : b ≡ true → (w : Str) (v : Bool) → w ≡ declaredName s p at → v ≡ eqs w n → v ≡ isAlone s p n at
+    unfolding isAlone
+    alone-named g w v i j = rw (← e, eq-eqb y 9 h, ← d, ← f, g) (j ∙ ap (λ (z : Str). eqs z n) i)
+
+pub ruleset is-alone-laws = (alone-other, alone-not, alone-named)
+
+-- one of the name has the name's number
+other-alone : (s p n : Str) (at : ℕ) → eqb (keyAt s p at) (hashOf n) ≡ false → isAlone s p n at ≡ false
+unfolding isAlone keyAt
+other-alone s p n at h = go (eqb (getD s at 0) 9) (flagAt (drop at s) 16) (eqs (declaredName s p at) n) refl
+  where
+    go : (u v w : Bool) → eqs (declaredName s p at) n ≡ w → u && (v && w) ≡ false
+    go true true true e = absurd (eqb-false _ _ h (ap hashOf (eqs→eq _ _ e)))
+    go true true false e = refl
+    go true false w e = refl
+    go false v w e = refl
+
+-- what was seen stays
+seen : (t : ℕ → Bool) (l : List ℕ) (f : ℕ) → 0 < f → 0 < hitIn t l f
+unfolding hitIn
+seen t [] f h = h
+seen t (q ∷ l) f h = seen t l (cond (t q) (suc q) f) (go (t q))
+  where
+    go : (v : Bool) → 0 < cond v (suc q) f
+    go true = omega arith
+    go false = h
+
+any-find : {A : Type 0} (q : A → Bool) (l : List A) → any q l ≡ isSome (find q l)
+unfolding any find isSome
+any-find q [] = refl
+any-find q (x ∷ l) = go (q x) (any-find q l)
+  where
+    go : (v : Bool) → any q l ≡ isSome (find q l) → (v || any q l) ≡ isSome (cond v (some x) (find q l))
+    go true e = refl
+    go false e = e
+
+module _ (s p : Str) (x : List ℕ) (n : Str) where
+  alone-are : any (λ (m : Family). m .standalone && eqs (m .name) n) (familiesAt s p 0) ≡ isSome (familyPlaced s p (soughtAt s (hitIn (isAlone s p n) (declaredPlaces s) 0)))
+  unfolding isAlone declaredPlaces declaredName declares familiesAt families fieldsAt variantsAt
+  alone-are =
+      any-find _ _
+      ∙ ap isSome (found-in s 9 refl (λ (q : ℕ). flagAt (drop q s) 16 && eqs (declaredName s p q) n) _ _ (λ at rest. refl) (familyPlaced s p) refl (λ a k. refl) 0)
+
+  -- none was seen so far
+  pub record Unseen (link : ℕ) : Type 0 where
+    pub reached : Indexed s p x → Reached s p x n (isAlone s p n) link 0
+
+  pub alone-start : (h link : ℕ) → h ≡ hashOf n → link ≡ getD x h 0 → Unseen link
+  alone-start h link e f = record { reached = reached-start s p x n (isAlone s p n) h link e f }
+
+  module _ (link : ℕ) (g : Unseen link) where
+    pub alone-end : link ≡ 0 → Alone s p x n false
+    unfolding soughtAt isSome
+    alone-end z = record { is = λ i. sym (alone-are ∙ ap (λ (k : ℕ). isSome (familyPlaced s p (soughtAt s k))) (sym (reached-end s p x n (isAlone s p n) (other-alone s p n) link 0 z (g .reached i)))) }
+
+    module _ (z : link ≡ 0 → ⊥) (at : ℕ) (e : at ≡ link - 1) (v : Bool) (w : v ≡ isAlone s p n at) where
+      pub alone-miss : (to : ℕ) → to ≡ linkBefore x at → v ≡ false → Unseen to
+      alone-miss to f h = record {
+        reached = λ i. reached-next s p x n (isAlone s p n) (other-alone s p n) link 0 at to 0 z e f (ap (λ (m : Bool). cond m (suc at) 0) (sym w ∙ h)) (g .reached i);
+      }
+
+      pub alone-hit : v ≡ true → Alone s p x n true
+      unfolding soughtAt isSome
+      alone-hit h = record { is = λ i. sym (alone-are ∙ there (hitIn (isAlone s p n) (declaredPlaces s) 0) (found i)) }
+        where
+          found : Indexed s p x → 0 < hitIn (isAlone s p n) (declaredPlaces s) 0
+          found i =
+              let r = reached-next s p x n (isAlone s p n) (other-alone s p n) link 0 at (linkBefore x at) (suc at) z e refl (ap (λ (m : Bool). cond m (suc at) 0) (sym w ∙ h)) (g .reached i) in
+              subst (λ (k : ℕ). 0 < k) (sym (r .same)) (seen (isAlone s p n) (r .rest) (suc at) (omega arith))
+
+          there : (k : ℕ) → 0 < k → isSome (familyPlaced s p (soughtAt s k)) ≡ true
+          there zero l = absurd (omega arith)
+          there (suc k) l = refl
+
+pub ruleset alone-laws = (alone-start, alone-end, alone-hit, alone-miss)

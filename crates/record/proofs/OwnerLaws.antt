@@ -21,6 +21,8 @@ use Rattle.record.specs.Steps.{structsAt, fieldsAt, structFound}
 use Rattle.record.specs.Owner.{Types, referenced, referencedAs, hasSlot, structInSlot, withName, rootsIn, ownershipOrder, roots, ownerOf, Leads, here, along, First, now, later}
 use Rattle.record.specs.References.{typesAt, HasSlot, structCommandsAt, commandFound, InSlot}
 use Rattle.record.specs.Marks.{referenceAt, targetAt}
+use Rattle.record.specs.Leads.{LeadsTo}
+use Rattle.record.specs.Versioned.{InSlots}
 use Rattle.record.specs.Index.{IndexRoom, Indexed}
 use Rattle.record.specs.Ownership.{Within, Resolved, OwnerMarks, Known, OwnersMarked, EightClear, OwnerBy, MarkedName, NamedBy, Claims, OwnerIn, withStretch, stretchesIn, ownedBy, stretchOf, ownerAt, Answered, OwnerFound}
 use Rattle.record.specs.declared.text.Text.{Text}
@@ -31,12 +33,16 @@ use Rattle.record.specs.declared.command as D
 use Rattle.record.specs.declared.command.Cursor.{Cursor}
 use Rattle.record.specs.declared.lists.StructStep.{StructStep}
 use Rattle.record.specs.declared.lists.StructStep.the-variants.{NoStruct, AStruct}
+use Rattle.record.specs.declared.versioned.Versioned.{Versioned}
+use Rattle.record.specs.declared.leads.Lead.{Lead}
+use Rattle.record.specs.declared.leads.Lead.the-variants.{Unknown, NoField, AField}
 use Rattle.record.specs.declared.ownership.Owner.{Owner}
 use Rattle.record.specs.declared.ownership.Owner.the-variants.{Nobody, Owned}
 use Rattle.record.proofs.Basics.{eqs→eq, eqs-refl}
 use Rattle.record.proofs.ListLaws.{find-hit, find-miss}
 use Rattle.record.proofs.Walk.{owner-is-first}
 use Rattle.record.proofs.RootLaws.{none≢some}
+use Rattle.record.proofs.LeadLaws.{leads-unknown}
 use Rattle.record.proofs.PlaceLaws.{entered-is, is-entered}
 
 -- a field with a mark that refers to the name ----------------------------------------------------------------------------
@@ -88,6 +94,34 @@ module _ (s p : Str) (m : List ℕ) (n : Str) (mark : ℕ) where
         yes = λ z. record { place = i; inside = l; is = g; name = text-is (referenceAt s p i) n (sym is ∙ e) };
         never = λ z. absurd (false≢true (sym z));
       }
+
+-- by what is known of the fields that refer to the name
+module _ (s p : Str) (m : List ℕ) (n : Str) (mark : ℕ) (real : 0 < mark) where
+  pub lead-none : (r : Lead) → LeadsTo s p m n r → r ≡ NoField → MarkedName s p m n mark false
+  lead-none r l e = record {
+    yes = λ z. absurd (false≢true z);
+    never = λ z f. l .none e (f .place) (λ y. let i = f .is in omega arith) (f .name);
+  }
+
+  pub lead-told : (r : Lead) (i : ℕ) (b : Bool) → r ≡ AField i → (LeadsTo s p m n (AField i) → MarkedName s p m n mark b) → LeadsTo s p m n r → MarkedName s p m n mark b
+  lead-told r i b e h l = h (subst (LeadsTo s p m n) e l)
+
+  module _ (i a : ℕ) (is : a ≡ getD m i 0) where
+    pub lead-later : LeadsTo s p m n (AField i) → mark < a → MarkedName s p m n mark false
+    lead-later l h = record {
+      yes = λ z. absurd (false≢true z);
+      never = λ z f. let k = l .least i refl (f .place) (λ y. let j = f .is in omega arith) (f .name) in let j = f .is in omega arith;
+    }
+
+    pub lead-same : (b : Bool) → mark ≡ a → b ≡ isText (referenceAt s p i) n → b ≡ true → MarkedName s p m n mark true
+    lead-same b h e t = record {
+      yes = λ z. record { place = i; inside = inside (ltb i (length m)) refl; is = sym (h ∙ is); name = text-is (referenceAt s p i) n (sym e ∙ t) };
+      never = λ z. absurd (false≢true (sym z));
+    }
+      where
+        inside : (v : Bool) → ltb i (length m) ≡ v → i < length m
+        inside true z = ltb-true i (length m) z
+        inside false z = absurd (let k = List·getD-eq-default m 0 {n = i} (ltb-false i (length m) z) in omega arith)
 
 -- bytes of a number that is 0
 module _ (m : List ℕ) (q : ℕ) where
@@ -175,9 +209,6 @@ module _ (s p : Str) (m : List ℕ) (n slot : Str) (mark : ℕ) (r : StructStep)
     nobody = λ g root k h c. let z : _≡_ {A = ℕ} 0 1 = cc in omega arith;
   }
 
-  pub owner-none : (x : List ℕ) → r ≡ NoStruct → OwnerBy s p m x n slot mark Nobody
-  owner-none x e = record { by = λ j. nobody-there e }
-
   module _ (root : D.Struct.Struct) (k : Cursor) (e : r ≡ AStruct root k) (x : Str) (b : Bool) (text : x ≡ textOf p (root .name)) (same : b ≡ eqs x n) where
     claimed : Claims s p m n mark root → OwnerIn s p m n slot mark (Owned (root .name))
     claimed c = record {
@@ -198,8 +229,8 @@ module _ (s p : Str) (m : List ℕ) (n slot : Str) (mark : ℕ) (r : StructStep)
         other : (y : D.Struct.Struct) (j : Cursor) → r ≡ AStruct y j → y ≡ root
         other y j h = let g : AStruct y j ≡ AStruct root k = sym h ∙ e in cc
 
-    pub owner-own : (z : List ℕ) → b ≡ true → OwnerBy s p m z n slot mark (Owned (root .name))
-    owner-own z h = record { by = λ j. claimed (inl (sym text ∙ eqs→eq x n (sym same ∙ h))) }
+    own : b ≡ true → OwnerIn s p m n slot mark (Owned (root .name))
+    own h = claimed (inl (sym text ∙ eqs→eq x n (sym same ∙ h)))
 
     module _ (d : b ≡ false) where
       differ : textOf p (root .name) ≡ n → ⊥
@@ -213,21 +244,37 @@ module _ (s p : Str) (m : List ℕ) (n slot : Str) (mark : ℕ) (r : StructStep)
       unfolding targetAt
       free g = entered-is (typesAt s p) (referenceAt s p (g .place)) n (g .leads)
 
-      module _ (z : List ℕ) (f : Bool) (slotted : HasSlot s p z n f) where
-        pub owner-slotted : f ≡ true → OwnerBy s p m z n slot mark Nobody
-        owner-slotted h = record { by = λ j. unclaimed (neither (λ g. false≢true (sym (free g .1) ∙ sym (slotted .is j) ∙ h))) }
+      slotted-so : hasSlot (typesAt s p) n ≡ true → OwnerIn s p m n slot mark Nobody
+      slotted-so h = unclaimed (neither (λ g. false≢true (sym (free g .1) ∙ h)))
 
-        module _ (v : Bool) (told : MarkedName s p m n mark v) (h : f ≡ false) where
-          pub owner-named : v ≡ true → OwnerBy s p m z n slot mark (Owned (root .name))
-          unfolding targetAt
-          owner-named y =
-              let g = told .yes y in
-              record {
-                by = λ j. claimed (inr (record { place = g .place; inside = g .inside; is = g .is; leads = is-entered (typesAt s p) _ n (g .name) (sym (slotted .is j) ∙ h) }));
-              }
+      module _ (v : Bool) (told : MarkedName s p m n mark v) where
+        named-so : hasSlot (typesAt s p) n ≡ false → v ≡ true → OwnerIn s p m n slot mark (Owned (root .name))
+        unfolding targetAt
+        named-so h y =
+            let g = told .yes y in
+            claimed (inr (record { place = g .place; inside = g .inside; is = g .is; leads = is-entered (typesAt s p) _ n (g .name) h }))
 
-          pub owner-not : v ≡ false → OwnerBy s p m z n slot mark Nobody
-          owner-not y = record { by = λ j. unclaimed (neither (λ g. told .never y (record { place = g .place; inside = g .inside; is = g .is; name = free g .0 }))) }
+        not-so : v ≡ false → OwnerIn s p m n slot mark Nobody
+        not-so y = unclaimed (neither (λ g. told .never y (record { place = g .place; inside = g .inside; is = g .is; name = free g .0 })))
+
+module _ (s p : Str) (m z : List ℕ) (n : Str) (mark : ℕ) (r : StructStep) (lead : Lead) where
+  pub owner-none : r ≡ NoStruct → OwnerBy s p m z r lead n mark Nobody
+  owner-none e = record { by = λ slot i j l. nobody-there s p m n slot mark r i e }
+
+  module _ (root : D.Struct.Struct) (k : Cursor) (e : r ≡ AStruct root k) (x : Str) (b : Bool) (text : x ≡ textOf p (root .name)) (same : b ≡ eqs x n) where
+    pub owner-own : b ≡ true → OwnerBy s p m z r lead n mark (Owned (root .name))
+    owner-own h = record { by = λ slot i j l. own s p m n slot mark r i root k e x b text same h }
+
+    module _ (d : b ≡ false) (f : Bool) (slotted : HasSlot s p z n f) where
+      pub owner-slotted : f ≡ true → OwnerBy s p m z r lead n mark Nobody
+      owner-slotted h = record { by = λ slot i j l. slotted-so s p m n slot mark r i root k e x b text same d (sym (slotted .is j) ∙ h) }
+
+      module _ (v : Bool) (told : LeadsTo s p m n lead → MarkedName s p m n mark v) (h : f ≡ false) where
+        pub owner-named : v ≡ true → OwnerBy s p m z r lead n mark (Owned (root .name))
+        owner-named y = record { by = λ slot i j l. named-so s p m n slot mark r i root k e x b text same d v (told l) (sym (slotted .is j) ∙ h) y }
+
+        pub owner-not : v ≡ false → OwnerBy s p m z r lead n mark Nobody
+        owner-not y = record { by = λ slot i j l. not-so s p m n slot mark r i root k e x b text same d v (told l) y }
 
 pub ruleset owner-in-laws = (owner-none, owner-own, owner-slotted, owner-named, owner-not)
 
@@ -388,12 +435,12 @@ module _ (s p n : Str) where
       owns = owner-is-first (typesAt s p) n (textOf p t) .1 (a .first t refl)
 
   -- the three slots, one after the other
-  module _ (m x : List ℕ) (known : Known s p m x) (a : Owner) (first : OwnerBy s p m x n (bytes "metadata") 1 a) where
+  module _ (m x : List ℕ) (roots : Versioned) (lead : Lead) (known : Known s p m x) (slots : InSlots s p roots) (led : LeadsTo s p m n lead) (a : Owner) (first : OwnerBy s p m x (roots .metadata) lead n 1 a) where
     g : OwnerMarks s p m
     g = known .marks
 
     one : OwnerIn s p m n (bytes "metadata") 1 a
-    one = first .by (known .index)
+    one = first .by (bytes "metadata") (slots .metadata) (known .index) led
 
     none-first : Within s p m 0 n → ⊥
     none-first h = h .marked (let l = h .most in omega arith)
@@ -402,9 +449,9 @@ module _ (s p n : Str) where
     unfolding ownershipOrder
     answer-first t e = answered (Owned t) (root-taken m (bytes "metadata") 0 (g .metadata) a one _ t e)
 
-    module _ (e : a ≡ Nobody) (b : Owner) (second : OwnerBy s p m x n (bytes "runtime") 2 b) where
+    module _ (e : a ≡ Nobody) (b : Owner) (second : OwnerBy s p m x (roots .runtime) lead n 2 b) where
       two : OwnerIn s p m n (bytes "runtime") 2 b
-      two = second .by (known .index)
+      two = second .by (bytes "runtime") (slots .runtime) (known .index) led
 
       none-second : Within s p m 1 n → ⊥
       none-second = none-so-far m (bytes "metadata") 0 (g .metadata) a one none-first e
@@ -416,9 +463,9 @@ module _ (s p n : Str) where
       unfolding ownershipOrder
       answer-second t h = answered (Owned t) (past-first _ (Owned t) (root-taken m (bytes "runtime") 1 (g .runtime) b two _ t h))
 
-      module _ (h : b ≡ Nobody) (c : Owner) (third : OwnerBy s p m x n (bytes "info") 3 c) where
+      module _ (h : b ≡ Nobody) (c : Owner) (third : OwnerBy s p m x (roots .info) lead n 3 c) where
         three : OwnerIn s p m n (bytes "info") 3 c
-        three = third .by (known .index)
+        three = third .by (bytes "info") (slots .info) (known .index) led
 
         last : (r : Owner) → c ≡ r → AnswerIn s p n (bytes "info" ∷ []) r
         last Nobody y =
@@ -435,9 +482,9 @@ module _ (s p n : Str) where
   pub found-beyond : 32768 < length s → OwnerFound 32768 s p n Nobody
   found-beyond h = record { within = λ l. absurd (omega arith); beyond = λ l. refl }
 
-  pub found-within : (r : Owner) (before room after x : List ℕ) → 32768 ≤ length before → 4938 ≤ length room → length s ≤ 32768 → (length s ≤ 32768 → IndexRoom s room → Indexed s p x) → OwnersMarked s p x before after
-      → (Known s p after x → Answered s p n r) → OwnerFound 32768 s p n r
-  found-within r before room after x e i h fill f a = record {
-    within = λ l. let index = fill h (omega arith) in a (record { marks = f .within (omega arith) index; index = index });
+  pub found-within : (r : Owner) (before room after x : List ℕ) (roots : Versioned) → 32768 ≤ length before → 4938 ≤ length room → length s ≤ 32768 → (length s ≤ 32768 → IndexRoom s room → Indexed s p x) → OwnersMarked s p x before after
+      → InSlots s p roots → (Known s p after x → InSlots s p roots → LeadsTo s p after n Unknown → Answered s p n r) → OwnerFound 32768 s p n r
+  found-within r before room after x roots e i h fill f slots a = record {
+    within = λ l. let index = fill h (omega arith) in a (record { marks = f .within (omega arith) index; index = index }) slots (leads-unknown s p after n);
     beyond = λ l. absurd (omega arith);
   }

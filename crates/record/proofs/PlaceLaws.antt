@@ -116,9 +116,9 @@ places-nearer f s at r h q k m = let g : suc (length s - k .at) ≤ length s - a
 -- what a field leads to --------------------------------------------------------------------------------------------------
 
 module _ (s p : Str) (q : ℕ) where
-  pub reference-is : (x : Str) (f : D.Field.Field) (r : OptText) → x ≡ drop q s → f ≡ fieldAt x → Refers p f r → optOf p r ≡ referenceAt s p q
+  pub reference-is : (x : Str) (r : OptText) → x ≡ drop q s → Refers p (fieldAt x) r → optOf p r ≡ referenceAt s p q
   unfolding referenceAt
-  reference-is x f r h e g = g .name none ∙ ap (λ (y : D.Field.Field). referenced (fieldOf p y none)) (e ∙ ap fieldAt h)
+  reference-is x r h g = g .name none ∙ ap (λ (y : Str). referenced (fieldOf p (fieldAt y) none)) h
 
   module _ (r : OptText) (found : optOf p r ≡ referenceAt s p q) where
     pub target-none : r ≡ Absent → optOf p Absent ≡ targetAt s p q

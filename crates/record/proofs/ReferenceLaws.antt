@@ -12,8 +12,8 @@ use Rattle.record.specs.Base.{Str, eqs, isText, isSome}
 use Rattle.record.specs.Stretch.{textOf}
 use Rattle.record.specs.Schema.{Field, Key, Struct}
 use Rattle.record.specs.Kind.{kindOf}
-use Rattle.record.specs.Operands.{optTextAt}
-use Rattle.record.specs.Commands.{place, structAt}
+use Rattle.record.specs.Operands.{textAt, optTextAt}
+use Rattle.record.specs.Commands.{place, structAt, fieldAt}
 use Rattle.record.specs.Lists.{optOf, fieldOf, structOf}
 use Rattle.record.specs.Seek.{SoughtFrom}
 use Rattle.record.specs.Index.{Indexed, Declared}
@@ -76,26 +76,26 @@ tag-gives K.Padding = refl
 tag-gives K.Text = refl
 tag-gives K.Other = refl
 
-module _ (p : Str) (f : D.Field.Field) (w : Str) (v : Kind) (named : w ≡ textOf p (f .kind)) (meant : v ≡ kindOf w) where
+module _ (p y : Str) (t : Text) (w : Str) (v : Kind) (word : t ≡ textAt y 4) (named : w ≡ textOf p t) (meant : v ≡ kindOf w) where
   -- a field of a kind with this tag refers to what r means
   abbrev As : OptText → ℕ → Type 0
-  As r n = (k : Option Key) → optOf p r ≡ referencedAs (kindAt n) (fieldOf p f k)
+  As r n = (k : Option Key) → optOf p r ≡ referencedAs (kindAt n) (fieldOf p (fieldAt y) k)
 
-  refers-as : (r : OptText) (ks : List ℕ) → All (As r) ks → OneOf ks (tagOf kinds v) → Refers p f r
+  refers-as : (r : OptText) (ks : List ℕ) → All (As r) ks → OneOf ks (tagOf kinds v) → Refers p (fieldAt y) r
   unfolding referenced
   refers-as r ks a h =
       let g = one-of (As r) ks a h in
-      record { name = λ k. g k ∙ ap (λ (x : Kind). referencedAs x (fieldOf p f k)) (tag-gives v ∙ meant ∙ ap kindOf named) }
+      record { name = λ k. g k ∙ ap (λ (x : Kind). referencedAs x (fieldOf p (fieldAt y) k)) (tag-gives v ∙ meant ∙ ap kindOf (named ∙ ap (textOf p) word)) }
 
-  pub refers-type : OneOf (7 ∷ 10 ∷ 11 ∷ []) (tagOf kinds v) → Refers p f (f .«type_name»)
+  pub refers-type : (r : OptText) → r ≡ optTextAt y 7 → OneOf (7 ∷ 10 ∷ 11 ∷ []) (tagOf kinds v) → Refers p (fieldAt y) r
   unfolding referencedAs kindAt
-  refers-type h = refers-as (f .«type_name») (7 ∷ 10 ∷ 11 ∷ []) (λ k. refl, (λ k. refl, (λ k. refl, tt))) h
+  refers-type r e h = rw e (refers-as (optTextAt y 7) (7 ∷ 10 ∷ 11 ∷ []) (λ k. refl, (λ k. refl, (λ k. refl, tt))) h)
 
-  pub refers-element : OneOf (8 ∷ 9 ∷ []) (tagOf kinds v) → Refers p f (f .element)
+  pub refers-element : (r : OptText) → r ≡ optTextAt y 10 → OneOf (8 ∷ 9 ∷ []) (tagOf kinds v) → Refers p (fieldAt y) r
   unfolding referencedAs kindAt
-  refers-element h = refers-as (f .element) (8 ∷ 9 ∷ []) (λ k. refl, (λ k. refl, tt)) h
+  refers-element r e h = rw e (refers-as (optTextAt y 10) (8 ∷ 9 ∷ []) (λ k. refl, (λ k. refl, tt)) h)
 
-  pub refers-nowhere : OneOf (0 ∷ 1 ∷ 2 ∷ 3 ∷ 4 ∷ 5 ∷ 6 ∷ 12 ∷ 13 ∷ 14 ∷ 15 ∷ 16 ∷ []) (tagOf kinds v) → Refers p f Absent
+  pub refers-nowhere : OneOf (0 ∷ 1 ∷ 2 ∷ 3 ∷ 4 ∷ 5 ∷ 6 ∷ 12 ∷ 13 ∷ 14 ∷ 15 ∷ 16 ∷ []) (tagOf kinds v) → Refers p (fieldAt y) Absent
   unfolding referencedAs kindAt
   refers-nowhere h =
       refers-as Absent (0 ∷ 1 ∷ 2 ∷ 3 ∷ 4 ∷ 5 ∷ 6 ∷ 12 ∷ 13 ∷ 14 ∷ 15 ∷ 16 ∷ [])

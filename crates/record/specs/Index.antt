@@ -7,9 +7,9 @@ use mathlib.Core.Bool.{Bool, true, false, _&&_, cond}
 use Prim.Native.Nat.{ℕ, zero, suc, _+_, _-_, _*_, _/_, _%_, _≤_, _<_}
 use lib.ListN.{length, getD, set, drop}
 use lib.Dec.{eqb, ltb}
-use Rattle.record.specs.Base.{Str, eqs}
+use Rattle.record.specs.Base.{Str, eqs, any}
 use Rattle.record.specs.Stretch.{textOf}
-use Rattle.record.specs.Operands.{textAt}
+use Rattle.record.specs.Operands.{textAt, flagAt}
 use Rattle.record.specs.Commands.{aliasAt, enumAt, bitfieldAt, structAt, familyAt, commandsAt}
 use Rattle.record.specs.Schema.{Alias, Enum, BitField, Struct, Family}
 use Rattle.record.specs.Lists.{aliasOf, enumOf, bitfieldOf, structOf, familyOf}
@@ -37,6 +37,10 @@ declares b = cond (eqb b 8) true (cond (eqb b 9) true (cond (eqb b 3) true (cond
 -- whether the command at a place has this number and name
 unfoldable pub isNamed : Str → Str → ℕ → Str → ℕ → Bool
 isNamed s p b n at = eqb (getD s at 0) b && eqs (declaredName s p at) n
+
+-- whether it is a standalone family of this name
+unfoldable pub isAlone : Str → Str → Str → ℕ → Bool
+isAlone s p n at = eqb (getD s at 0) 9 && (flagAt (drop at s) 16 && eqs (declaredName s p at) n)
 
 -- places -----------------------------------------------------------------------------------------------------------------
 
@@ -139,3 +143,7 @@ pub record PlaceNamed (s p n : Str) (b : ℕ) (r : Sought) : Type 0 where
 -- the same where the index is the record's
 pub record Declared (s p : Str) (x : List ℕ) (b : ℕ) (n : Str) (r : Sought) : Type 0 where
   pub named : Indexed s p x → PlaceNamed s p n b r
+
+-- the answer, where the index is the record's: whether a family of a name is standalone
+pub record Alone (s p : Str) (x : List ℕ) (n : Str) (r : Bool) : Type 0 where
+  pub is : Indexed s p x → r ≡ any (λ (m : Family). m .standalone && eqs (m .name) n) (familiesAt s p 0)

@@ -14,11 +14,13 @@ use Rattle.record.specs.Index.{Indexed}
 use Rattle.record.specs.Owner.{structInSlot, ownershipOrder, ownerOf, Edge, Leads}
 use Rattle.record.specs.References.{typesAt, structCommandsAt, commandInSlot, InSlot}
 use Rattle.record.specs.Marks.{targetAt, referenceAt, Full, Walked}
+use Rattle.record.specs.Leads.{LeadsTo}
 use Rattle.record.specs.declared.text.Text.{Text}
 use Rattle.record.specs.declared.command as D
 use Rattle.record.specs.declared.command.Cursor.{Cursor}
 use Rattle.record.specs.declared.lists.StructStep.{StructStep}
 use Rattle.record.specs.declared.lists.StructStep.the-variants.{AStruct}
+use Rattle.record.specs.declared.leads.Lead.{Lead}
 use Rattle.record.specs.declared.ownership.Owner.{Owner}
 use Rattle.record.specs.declared.ownership.Owner.the-variants.{Nobody, Owned}
 
@@ -108,9 +110,9 @@ pub record OwnerIn (s p : Str) (m : List ℕ) (n slot : Str) (mark : ℕ) (r : O
   pub owned : (t : Text) → r ≡ Owned t → Takes s p m n mark filled t
   pub nobody : r ≡ Nobody → (root : D.Struct.Struct) (after : Cursor) → filled ≡ AStruct root after → Claims s p m n mark root → ⊥
 
--- the same where the index is the record's
-pub record OwnerBy (s p : Str) (m x : List ℕ) (n slot : Str) (mark : ℕ) (r : Owner) : Type 0 where
-  pub by : Indexed s p x → OwnerIn s p m n slot mark r
+-- the same of what is taken for the root in a slot, where it is that root, the index is the record's, and what is said of the fields that refer to the name holds
+pub record OwnerBy (s p : Str) (m x : List ℕ) (filled : StructStep) (lead : Lead) (n : Str) (mark : ℕ) (r : Owner) : Type 0 where
+  pub by : (slot : Str) → InSlot s p slot filled → Indexed s p x → LeadsTo s p m n lead → OwnerIn s p m n slot mark r
 
 -- the names of the structures that fill these slots, as the stretches that their commands give
 unfoldable pub withStretch : Option D.Struct.Struct → List Text → List Text

@@ -3,6 +3,7 @@
 // more than it is, and 0 is none. A declaring command takes seven bytes at least, so no two have one entry: their place divided by seven.
 use crate::cut;
 use crate::le::byte_at;
+use crate::operands::flag_at;
 use crate::operands::text_at;
 use crate::seek::Sought;
 use crate::seek::after_at;
@@ -12,7 +13,7 @@ ghost use mathlib.Core.Path.{_≡_};
 ghost use mathlib.Core.List.{List};
 ghost use Prim.Native.Nat.{_+_, _/_, _≤_, _<_};
 ghost use lib.ListN.{length, getD, set};
-ghost use Rattle.record.specs.Index.{hashOf, declaredName, declares, isNamed, linkBefore, putAt, IndexRoom, Indexed, Headless, FirstNamed, Declared};
+ghost use Rattle.record.specs.Index.{hashOf, declaredName, declares, isNamed, isAlone, linkBefore, putAt, IndexRoom, Indexed, Headless, FirstNamed, Declared, Alone};
 
 // A byte of a text as a larger number; 0 past its end.
 fn size_at(name: &[u8], at: usize) -> usize
@@ -71,7 +72,7 @@ fn wide(x: u16) -> usize
 }
 
 // A number of the index; 0 past its end.
-fn link_at(index: &[u16], i: usize) -> usize
+pub(crate) fn link_at(index: &[u16], i: usize) -> usize
     ensures { λ r. ⌜ r ≡ getD (now (index .entry)) i 0 ⌝ }
 {
     if index.len() <= i {
@@ -165,7 +166,13 @@ fn is_named(stream: &[u8], pool: &[u8], number: u8, name: &[u8], place: usize) -
 
 // The first command of a number and a name, one more than its place; 0 where there is none. What is seen last on the way from the last command to
 // the first is the first.
-fn first_named(stream: &[u8], pool: &[u8], index: &[u16], number: u8, name: &[u8]) -> usize
+pub(crate) fn first_named(
+    stream: &[u8],
+    pool: &[u8],
+    index: &[u16],
+    number: u8,
+    name: &[u8],
+) -> usize
     ensures { λ r. ⌜ FirstNamed (now (stream .entry)) (now (pool .entry)) (now (index .entry)) number (now (name .entry)) r ⌝ }
 {
     let mut found = 0;
@@ -180,6 +187,34 @@ fn first_named(stream: &[u8], pool: &[u8], index: &[u16], number: u8, name: &[u8
         }
     }
     found
+}
+
+// Whether the command at a place is a standalone family of this name.
+fn is_alone(stream: &[u8], pool: &[u8], name: &[u8], place: usize) -> bool
+    ensures { λ r. ⌜ r ≡ isAlone (now (stream .entry)) (now (pool .entry)) (now (name .entry)) place ⌝ }
+{
+    if byte_at(stream, place) != 9 {
+        return false;
+    }
+    if flag_at(cut::from(stream, place), 16) {
+        return same(declared_name(stream, pool, place), name);
+    }
+    false
+}
+
+// Whether a family of this name is standalone.
+pub fn stands_alone(stream: &[u8], pool: &[u8], index: &[u16], name: &[u8]) -> bool
+    ensures { λ r. ⌜ Alone (now (stream .entry)) (now (pool .entry)) (now (index .entry)) (now (name .entry)) r ⌝ }
+{
+    let mut link = link_at(index, hash_of(name));
+    while link != 0 {
+        let place = link - 1;
+        if is_alone(stream, pool, name, place) {
+            return true;
+        }
+        link = link_before(index, place);
+    }
+    false
 }
 
 // The place of the first command of a number and a name, and the place after it.

@@ -1,7 +1,6 @@
 // The walks of ownership: a type's walk visits its fields, and a field's walk visits the type it names. Marks are lent, one for each byte of the
 // stream: a field is marked where its command begins, by the number of the root that led to it.
 use crate::command::Cursor;
-use crate::command::field_at;
 use crate::cut;
 use crate::index::find_declared;
 use crate::lists::StructStep;
@@ -83,7 +82,7 @@ fn next_place(stream: &[u8], from: Cursor, family: bool) -> PlaceStep
 pub fn reference_at(stream: &[u8], pool: &[u8], place: usize) -> OptText
     ensures { λ r. ⌜ optOf (now (pool .entry)) r ≡ referenceAt (now (stream .entry)) (now (pool .entry)) place ⌝ }
 {
-    referenced_type(pool, field_at(cut::from(stream, place)))
+    referenced_type(pool, cut::from(stream, place))
 }
 
 // The name that the field at a place leads to: no structure with slot text.

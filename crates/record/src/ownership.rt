@@ -1,22 +1,29 @@
 // The owner of a name: the first root, in slot order metadata, runtime, info, from which references lead to it.
 use crate::cut;
 use crate::index::fill_index;
+use crate::le::byte_at;
 use crate::le::word;
+use crate::leads::Lead;
+use crate::leads::lead_to;
 use crate::lists::StructStep;
 use crate::marks::mark_owners;
 use crate::marks::reference_at;
 use crate::operands::opt_text_at;
 use crate::references::has_slot;
 use crate::references::is_text;
-use crate::references::struct_in_slot;
 use crate::text::Text;
 use crate::text::bytes_of;
 use crate::text::same;
+use crate::versioned::Versioned;
+use crate::versioned::versioned_structs;
 ghost use mathlib.Core.Path.{_≡_};
 ghost use Prim.Native.Nat.{_≤_, _<_};
 ghost use lib.ListN.{length};
 ghost use Rattle.record.specs.Base.{isText};
 ghost use Rattle.record.specs.Marks.{referenceAt};
+ghost use Rattle.record.specs.Leads.{LeadTable, LeadsTo};
+ghost use Rattle.record.specs.Versioned.{InSlots};
+ghost use Rattle.record.specs.declared.leads.Lead.the-variants.{AField};
 ghost use Rattle.record.specs.Ownership.{EightClear, MarkedName, Known, OwnerBy, Answered, OwnerFound};
 
 // The owner's name, as the stretch that the root's own command gives.
@@ -40,7 +47,7 @@ fn refers_to(stream: &[u8], pool: &[u8], place: usize, name: &[u8]) -> bool
 }
 
 // Whether eight marks from a place on are there, and none is set.
-fn eight_clear(marks: &[u8], place: usize) -> bool
+pub(crate) fn eight_clear(marks: &[u8], place: usize) -> bool
     ensures { λ r. ⌜ EightClear (now (marks .entry)) place r ⌝ }
 {
     if marks.len() < 8 {
@@ -50,6 +57,30 @@ fn eight_clear(marks: &[u8], place: usize) -> bool
         return false;
     }
     word(marks, place) == 0
+}
+
+// Whether a field with this mark refers to the name, where none that refers to it has a lower mark than the one at a place.
+fn marked_first(
+    stream: &[u8],
+    pool: &[u8],
+    marks: &[u8],
+    place: usize,
+    name: &[u8],
+    mark: u8,
+) -> bool
+    requires { ⌜ 0 < mark ⌝ }
+    ensures { λ r. ⌜ (LeadsTo (now (stream .entry)) (now (pool .entry)) (now (marks .entry)) (now (name .entry)) (AField place) → MarkedName (now (stream .entry)) (now (pool .entry)) (now (marks .entry)) (now (name .entry)) mark r) ⌝ }
+{
+    let least = byte_at(marks, place);
+    if mark < least {
+        return false;
+    }
+    if mark == least {
+        if refers_to(stream, pool, place, name) {
+            return true;
+        }
+    }
+    marked_name(stream, pool, marks, name, mark)
 }
 
 // Whether a field with this mark refers to the name.
@@ -75,20 +106,33 @@ fn marked_name(stream: &[u8], pool: &[u8], marks: &[u8], name: &[u8], mark: u8) 
     false
 }
 
+// The same, where a field of the least mark among those that refer to the name may be known.
+fn marked_by(stream: &[u8], pool: &[u8], marks: &[u8], lead: Lead, name: &[u8], mark: u8) -> bool
+    requires { ⌜ 0 < mark ⌝ }
+    ensures { λ r. ⌜ (LeadsTo (now (stream .entry)) (now (pool .entry)) (now (marks .entry)) (now (name .entry)) lead → MarkedName (now (stream .entry)) (now (pool .entry)) (now (marks .entry)) (now (name .entry)) mark r) ⌝ }
+{
+    match lead {
+        Lead::Unknown => marked_name(stream, pool, marks, name, mark),
+        Lead::NoField => false,
+        Lead::AField(place) => marked_first(stream, pool, marks, place, name, mark),
+    }
+}
+
 // The root in a slot, where it is the name's or has marked a field that leads to the name.
 fn owner_in(
     stream: &[u8],
     pool: &[u8],
     marks: &[u8],
     index: &[u16],
+    root: StructStep,
+    lead: Lead,
     name: &[u8],
-    slot: &[u8],
     mark: u8,
 ) -> Owner
     requires { ⌜ 0 < mark ⌝ }
-    ensures { λ r. ⌜ OwnerBy (now (stream .entry)) (now (pool .entry)) (now (marks .entry)) (now (index .entry)) (now (name .entry)) (now (slot .entry)) mark r ⌝ }
+    ensures { λ r. ⌜ OwnerBy (now (stream .entry)) (now (pool .entry)) (now (marks .entry)) (now (index .entry)) root lead (now (name .entry)) mark r ⌝ }
 {
-    let StructStep::AStruct(root, _) = struct_in_slot(stream, pool, slot) else {
+    let StructStep::AStruct(root, _) = root else {
         return Owner::Nobody;
     };
     let own = root.name;
@@ -98,27 +142,54 @@ fn owner_in(
     if has_slot(stream, pool, index, name) {
         return Owner::Nobody;
     }
-    if marked_name(stream, pool, marks, name, mark) {
+    if marked_by(stream, pool, marks, lead, name, mark) {
         return Owner::Owned(own);
     }
     Owner::Nobody
 }
 
-// The owner of a name where the marks and the index are the record's: many names may be asked of one walk.
-pub fn owner_among(stream: &[u8], pool: &[u8], marks: &[u8], index: &[u16], name: &[u8]) -> Owner
-    ensures { λ r. ⌜ (Known (now (stream .entry)) (now (pool .entry)) (now (marks .entry)) (now (index .entry)) → Answered (now (stream .entry)) (now (pool .entry)) (now (name .entry)) r) ⌝ }
+// The owner of a name by the roots, where the marks and the index are the record's.
+fn owner_by(
+    stream: &[u8],
+    pool: &[u8],
+    roots: Versioned,
+    marks: &[u8],
+    index: &[u16],
+    lead: Lead,
+    name: &[u8],
+) -> Owner
+    ensures { λ r. ⌜ (Known (now (stream .entry)) (now (pool .entry)) (now (marks .entry)) (now (index .entry)) → InSlots (now (stream .entry)) (now (pool .entry)) roots → LeadsTo (now (stream .entry)) (now (pool .entry)) (now (marks .entry)) (now (name .entry)) lead → Answered (now (stream .entry)) (now (pool .entry)) (now (name .entry)) r) ⌝ }
 {
-    if let Owner::Owned(t) = owner_in(stream, pool, marks, index, name, b"metadata", 1) {
+    let first = roots.metadata;
+    if let Owner::Owned(t) = owner_in(stream, pool, marks, index, first, lead, name, 1) {
         return Owner::Owned(t);
     }
-    if let Owner::Owned(t) = owner_in(stream, pool, marks, index, name, b"runtime", 2) {
+    let second = roots.runtime;
+    if let Owner::Owned(t) = owner_in(stream, pool, marks, index, second, lead, name, 2) {
         return Owner::Owned(t);
     }
-    owner_in(stream, pool, marks, index, name, b"info", 3)
+    let third = roots.info;
+    owner_in(stream, pool, marks, index, third, lead, name, 3)
 }
 
-// The same on marks and an index that are lent for one walk.
-fn owner_by(stream: &[u8], pool: &[u8], marks: &mut [u8], index: &mut [u16], name: &[u8]) -> Owner
+// The same by a table of leads: many names may be asked of one walk.
+pub fn owner_among(
+    stream: &[u8],
+    pool: &[u8],
+    roots: Versioned,
+    marks: &[u8],
+    index: &[u16],
+    leads: &[u16],
+    name: &[u8],
+) -> Owner
+    ensures { λ r. ⌜ (Known (now (stream .entry)) (now (pool .entry)) (now (marks .entry)) (now (index .entry)) → InSlots (now (stream .entry)) (now (pool .entry)) roots → LeadTable (now (stream .entry)) (now (pool .entry)) (now (marks .entry)) (now (leads .entry)) → Answered (now (stream .entry)) (now (pool .entry)) (now (name .entry)) r) ⌝ }
+{
+    let lead = lead_to(stream, pool, index, leads, name);
+    owner_by(stream, pool, roots, marks, index, lead, name)
+}
+
+// The owner of one name, on marks and an index that are lent for its walk.
+fn owner_lent(stream: &[u8], pool: &[u8], marks: &mut [u8], index: &mut [u16], name: &[u8]) -> Owner
     requires { ⌜ (32768 ≤ length (now marks)) × (4938 ≤ length (now index)) ⌝ }
     ensures { λ r. ⌜ OwnerFound 32768 (now (stream .entry)) (now (pool .entry)) (now (name .entry)) r ⌝ }
 {
@@ -127,7 +198,8 @@ fn owner_by(stream: &[u8], pool: &[u8], marks: &mut [u8], index: &mut [u16], nam
     }
     fill_index(stream, pool, index);
     mark_owners(stream, pool, index, marks);
-    owner_among(stream, pool, marks, index, name)
+    let roots = versioned_structs(stream, pool);
+    owner_by(stream, pool, roots, marks, index, Lead::Unknown, name)
 }
 
 // The owner of a name. A stream of more than 32,768 bytes is no record, and nothing in it is owned.
@@ -136,5 +208,5 @@ pub fn owner_of(stream: &[u8], pool: &[u8], name: &[u8]) -> Owner
 {
     let mut marks = [0u8; 32768];
     let mut index = [0u16; 4938];
-    owner_by(stream, pool, &mut marks, &mut index, name)
+    owner_lent(stream, pool, &mut marks, &mut index, name)
 }

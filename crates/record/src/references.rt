@@ -1,6 +1,5 @@
 // What a field refers to, and the slots of structures: referenced_type, slot_of and struct_in_slot of the Rust.
 use crate::command::Cursor;
-use crate::command::Field;
 use crate::command::struct_at;
 use crate::cut;
 use crate::index::find_declared;
@@ -9,6 +8,7 @@ use crate::kind::kind_of;
 use crate::lists::StructStep;
 use crate::operands::OptText;
 use crate::operands::opt_text_at;
+use crate::operands::text_at;
 use crate::seek::Between;
 use crate::seek::Sought;
 use crate::seek::seek;
@@ -16,18 +16,18 @@ use crate::text::bytes_of;
 use crate::text::same;
 ghost use mathlib.Core.Path.{_≡_};
 ghost use Rattle.record.specs.Base.{isText};
+ghost use Rattle.record.specs.Commands.{fieldAt};
 ghost use Rattle.record.specs.Lists.{optOf};
 ghost use Rattle.record.specs.References.{Refers, HasSlot, InSlot};
 
-// The name that a field refers to, by its kind.
-pub fn referenced_type(pool: &[u8], f: Field) -> OptText
-    ensures { λ r. ⌜ Refers (now (pool .entry)) f r ⌝ }
+// The name that a field refers to, by its kind, from the bytes that begin with its command: only what the kind asks for is read.
+pub fn referenced_type(pool: &[u8], s: &[u8]) -> OptText
+    ensures { λ r. ⌜ Refers (now (pool .entry)) (fieldAt (now (s .entry))) r ⌝ }
 {
-    let word = f.kind;
-    let kind = kind_of(bytes_of(pool, word));
+    let kind = kind_of(bytes_of(pool, text_at(s, 4)));
     match kind {
-        Kind::StructPtr | Kind::TaggedFamPtr | Kind::SimpleFamPtr => f.type_name,
-        Kind::StructArrayPtr | Kind::StructPtrArrayPtr => f.element,
+        Kind::StructPtr | Kind::TaggedFamPtr | Kind::SimpleFamPtr => opt_text_at(s, 7),
+        Kind::StructArrayPtr | Kind::StructPtrArrayPtr => opt_text_at(s, 10),
         _ => OptText::Absent,
     }
 }

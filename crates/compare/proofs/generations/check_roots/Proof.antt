@@ -3,9 +3,6 @@ use borrow.Author.Needs.{needs}
 use Rattle.compare.proofs.generations.check_roots.Statement.{statement}
 use Rattle.compare.proofs.generations.check_roots.Tie as tie
 
-versioned-structs-requires : tie.Need-versioned-structs-requires
-versioned-structs-requires c κs = search needs
-
 check-slot-requires : tie.Need-check-slot-requires
 check-slot-requires c κs = search needs
 
@@ -34,7 +31,6 @@ pub check-roots-spec : {M : Type 1} → statement M
 check-roots-spec =
     tie.close
     (tie.spec
-    versioned-structs-requires
     check-slot-requires
     enum-told
     returns

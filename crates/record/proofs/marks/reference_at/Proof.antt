@@ -4,26 +4,20 @@ use Rattle.record.proofs.marks.reference_at.Statement.{statement}
 use Rattle.record.proofs.marks.reference_at.Tie as tie
 use Rattle.record.proofs.marks.reference_at.Reads as reads
 use Rattle.record.proofs.marks.reference_at.Lts as lts
-use Rattle.record.proofs.command.field_at.Reads as field-at-reads
 use Rattle.record.proofs.cut.from.Reads as from-reads
 use Rattle.record.proofs.references.referenced_type.Reads as referenced-type-reads
 
--- src/marks.rt:101:36
+-- src/marks.rt:87:27
 from-requires : tie.Need-from-requires
 from-requires c κs = search needs
 
--- src/marks.rt:101:27
-field-at-requires : tie.Need-field-at-requires
-field-at-requires c κs = search needs
-
--- src/marks.rt:101:5
+-- src/marks.rt:87:5
 referenced-type-requires : tie.Need-referenced-type-requires
 referenced-type-requires c κs = search needs
 
--- src/marks.rt:98:1
+-- src/marks.rt:84:1
 returns : tie.Need-returns
 returns c = search reference-is
 
 pub reference-at-spec : {M : Type 1} → statement M
-reference-at-spec =
-    tie.close (tie.spec from-requires field-at-requires referenced-type-requires returns)
+reference-at-spec = tie.close (tie.spec from-requires referenced-type-requires returns)

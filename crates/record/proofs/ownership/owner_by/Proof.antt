@@ -1,49 +1,60 @@
-use Rattle.record.proofs.OwnerLaws.{found-beyond, found-within}
+use Rattle.record.proofs.OwnerLaws.{answer-first, answer-second, answer-third}
 use borrow.Author.Needs.{needs}
 use Rattle.record.proofs.ownership.owner_by.Statement.{statement}
 use Rattle.record.proofs.ownership.owner_by.Tie as tie
 use Rattle.record.proofs.ownership.owner_by.Reads as reads
 use Rattle.record.proofs.ownership.owner_by.Lts as lts
-use Rattle.record.proofs.index.fill_index.Reads as fill-index-reads
-use Rattle.record.proofs.marks.mark_owners.Reads as mark-owners-reads
-use Rattle.record.proofs.ownership.owner_among.Reads as owner-among-reads
+use Rattle.record.proofs.ownership.owner_in.Reads as owner-in-reads
 
--- src/ownership.rt:126:9
+-- src/ownership.rt:163:30
+owner-in-requires : tie.Need-owner-in-requires
+owner-in-requires c κs = search needs
+
+-- src/ownership.rt:163:25
+enum-known-t : tie.Need-enum-known-t
+enum-known-t c = search needs
+
+-- src/ownership.rt:164:9
 returns : tie.Need-returns
-returns c = search found-beyond
+returns c = λ g i l. search answer-first
 
--- src/ownership.rt:128:5
-fill-index-requires : tie.Need-fill-index-requires
-fill-index-requires c κs = search needs
+enum-told : tie.Need-enum-told
+enum-told c = search needs
 
--- src/ownership.rt:129:5
-mark-owners-requires : tie.Need-mark-owners-requires
-mark-owners-requires c κs = search needs
+-- src/ownership.rt:167:30
+owner-in-requires-2 : tie.Need-owner-in-requires-2
+owner-in-requires-2 c κs = search needs
 
--- src/ownership.rt:130:5
-owner-among-requires : tie.Need-owner-among-requires
-owner-among-requires c κs = search needs
+-- src/ownership.rt:167:25
+enum-known-t-2 : tie.Need-enum-known-t-2
+enum-known-t-2 c = search needs
 
--- src/ownership.rt:121:1
-same-length : tie.Need-same-length
-same-length c = search needs
-
--- src/ownership.rt:121:1
-same-length-2 : tie.Need-same-length-2
-same-length-2 c = search needs
-
--- src/ownership.rt:121:1
+-- src/ownership.rt:168:9
 returns-2 : tie.Need-returns-2
-returns-2 c = search found-within
+returns-2 c = λ g i l. search answer-second
+
+enum-told-2 : tie.Need-enum-told-2
+enum-told-2 c = search needs
+
+-- src/ownership.rt:171:5
+owner-in-requires-3 : tie.Need-owner-in-requires-3
+owner-in-requires-3 c κs = search needs
+
+-- src/ownership.rt:151:1
+returns-3 : tie.Need-returns-3
+returns-3 c = λ g i l. search answer-third
 
 pub owner-by-spec : {M : Type 1} → statement M
 owner-by-spec =
     tie.close
     (tie.spec
+    owner-in-requires
+    enum-known-t
     returns
-    fill-index-requires
-    mark-owners-requires
-    owner-among-requires
-    same-length
-    same-length-2
-    returns-2)
+    enum-told
+    owner-in-requires-2
+    enum-known-t-2
+    returns-2
+    enum-told-2
+    owner-in-requires-3
+    returns-3)

@@ -1,0 +1,54 @@
+use Rattle.record.proofs.OwnerLaws.{found-beyond, found-within}
+use borrow.Author.Needs.{needs}
+use Rattle.record.proofs.ownership.owner_lent.Statement.{statement}
+use Rattle.record.proofs.ownership.owner_lent.Tie as tie
+use Rattle.record.proofs.ownership.owner_lent.Reads as reads
+use Rattle.record.proofs.ownership.owner_lent.Lts as lts
+use Rattle.record.proofs.index.fill_index.Reads as fill-index-reads
+use Rattle.record.proofs.marks.mark_owners.Reads as mark-owners-reads
+use Rattle.record.proofs.ownership.owner_by.Reads as owner-by-reads
+use Rattle.record.proofs.versioned.versioned_structs.Reads as versioned-structs-reads
+
+-- src/ownership.rt:196:9
+returns : tie.Need-returns
+returns c = search found-beyond
+
+-- src/ownership.rt:198:5
+fill-index-requires : tie.Need-fill-index-requires
+fill-index-requires c κs = search needs
+
+mark-owners-requires : tie.Need-mark-owners-requires
+mark-owners-requires c κs = search needs
+
+-- src/ownership.rt:199:9
+versioned-structs-requires : tie.Need-versioned-structs-requires
+versioned-structs-requires c κs = search needs
+
+-- src/ownership.rt:200:5
+owner-by-requires : tie.Need-owner-by-requires
+owner-by-requires c κs = search needs
+
+-- src/ownership.rt:191:1
+same-length : tie.Need-same-length
+same-length c = search needs
+
+-- src/ownership.rt:191:1
+same-length-2 : tie.Need-same-length-2
+same-length-2 c = search needs
+
+-- src/ownership.rt:191:1
+returns-2 : tie.Need-returns-2
+returns-2 c = search found-within
+
+pub owner-lent-spec : {M : Type 1} → statement M
+owner-lent-spec =
+    tie.close
+    (tie.spec
+    returns
+    fill-index-requires
+    mark-owners-requires
+    versioned-structs-requires
+    owner-by-requires
+    same-length
+    same-length-2
+    returns-2)
