@@ -3,6 +3,7 @@
 // more than it is, and 0 is none. A declaring command takes seven bytes at least, so no two have one entry: their place divided by seven.
 use crate::cut;
 use crate::le::byte_at;
+use crate::operands::flag_at;
 use crate::operands::text_at;
 use crate::seek::Sought;
 use crate::seek::after_at;
@@ -12,7 +13,7 @@ ghost use mathlib.Core.Path.{_≡_};
 ghost use mathlib.Core.List.{List};
 ghost use Prim.Native.Nat.{_+_, _/_, _≤_, _<_};
 ghost use lib.ListN.{length, getD, set};
-ghost use Rattle.record.specs.Index.{hashOf, declaredName, declares, isNamed, linkBefore, putAt, IndexRoom, Indexed, Headless, FirstNamed, Declared};
+ghost use Rattle.record.specs.Index.{hashOf, declaredName, declares, isNamed, linkBefore, putAt, IndexRoom, Indexed, Headless, FirstNamed, Declared, isFlagged, counts, LastNamed, LastDeclared};
 
 // A byte of a text as a larger number; 0 past its end.
 fn size_at(name: &[u8], at: usize) -> usize
@@ -44,7 +45,7 @@ fn declared_name<'a>(stream: &[u8], pool: &'a [u8], place: usize) -> &'a [u8]
     bytes_of(pool, text_at(cut::from(stream, place), 1))
 }
 
-// Whether a command declares a name that look-ups ask for: an alias, an enum, a bit field, a structure or a family.
+// Whether a command declares a name that look-ups ask for: a constant, an alias, an enum, a bit field, a structure or a family.
 fn declares(byte: u8) -> bool
     ensures { λ r. ⌜ r ≡ declares byte ⌝ }
 {
@@ -58,6 +59,9 @@ fn declares(byte: u8) -> bool
         return true;
     }
     if byte == 4 {
+        return true;
+    }
+    if byte == 2 {
         return true;
     }
     byte == 6
@@ -193,6 +197,67 @@ pub(crate) fn find_declared(
     ensures { λ r. ⌜ Declared (now (stream .entry)) (now (pool .entry)) (now (index .entry)) number (now (name .entry)) r ⌝ }
 {
     let found = first_named(stream, pool, index, number, name);
+    if found == 0 {
+        return Sought::Nowhere;
+    }
+    let place = found - 1;
+    Sought::At(place, after_at(stream, place))
+}
+
+// Whether the flag at this place of a command is set; any is where the place is 0.
+fn is_flagged(stream: &[u8], flag: usize, place: usize) -> bool
+    ensures { λ r. ⌜ r ≡ isFlagged (now (stream .entry)) flag place ⌝ }
+{
+    if flag == 0 {
+        return true;
+    }
+    flag_at(cut::from(stream, place), flag)
+}
+
+// Whether the command at a place has this number and name, and the flag.
+fn counts(stream: &[u8], pool: &[u8], number: u8, flag: usize, name: &[u8], place: usize) -> bool
+    ensures { λ r. ⌜ r ≡ counts (now (stream .entry)) (now (pool .entry)) number flag (now (name .entry)) place ⌝ }
+{
+    if is_named(stream, pool, number, name, place) {
+        return is_flagged(stream, flag, place);
+    }
+    false
+}
+
+// The last command of a number and a name that has a flag, one more than its place; 0 where there is none. It is the first that is seen.
+fn last_named(
+    stream: &[u8],
+    pool: &[u8],
+    index: &[u16],
+    number: u8,
+    flag: usize,
+    name: &[u8],
+) -> usize
+    ensures { λ r. ⌜ LastNamed (now (stream .entry)) (now (pool .entry)) (now (index .entry)) number flag (now (name .entry)) r ⌝ }
+{
+    let mut link = link_at(index, hash_of(name));
+    while link != 0 {
+        let place = link - 1;
+        if counts(stream, pool, number, flag, name, place) {
+            return link;
+        }
+        link = link_before(index, place);
+    }
+    0
+}
+
+// The place of the last command of a number and a name that has a flag, and the place after it.
+pub(crate) fn find_last(
+    stream: &[u8],
+    pool: &[u8],
+    index: &[u16],
+    number: u8,
+    flag: usize,
+    name: &[u8],
+) -> Sought
+    ensures { λ r. ⌜ LastDeclared (now (stream .entry)) (now (pool .entry)) (now (index .entry)) number flag (now (name .entry)) r ⌝ }
+{
+    let found = last_named(stream, pool, index, number, flag, name);
     if found == 0 {
         return Sought::Nowhere;
     }

@@ -8,7 +8,7 @@ mark-owners-requires c κs = search needs
 
 fill-cover-requires : tie.Need-fill-cover-requires
 fill-cover-requires c κs =
-    let pre = c .before .before .before .before .before .before .before .before .before .before .before .before .before .before .before .before .before .before .pre in
+    let pre = c .before .before .before .before .before .before .before .before .before .before .before .before .before .before .before .before .before .before .before .pre in
     (pre .0, pre .1, record { marks = c .before .before .before .before .mark-owners .ensures .within (pre .2) (pre .4); index = pre .4 }, pre .3)
 
 check-filled-requires : tie.Need-check-filled-requires
@@ -21,7 +21,7 @@ same-length-2 : tie.Need-same-length-2
 same-length-2 c = search needs
 
 returns : tie.Need-returns
-returns c = search (generations-are, c .before .before .before .before .before .before .before .before .before .before .before .before .before .before .before .before .before .before .before .before .before .before .before .pre .0)
+returns c = search (generations-are, c .before .before .before .before .before .before .before .before .before .before .before .before .before .before .before .before .before .before .before .before .before .before .before .before .pre .0)
 
 pub check-generations-spec : {M : Type 1} → statement M
 check-generations-spec =
