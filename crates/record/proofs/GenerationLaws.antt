@@ -23,7 +23,7 @@ use Rattle.record.specs.declared.lists.ConstantStep.{ConstantStep}
 use Rattle.record.specs.declared.lists.ConstantStep.the-variants.{NoConstant, AConstant}
 use Rattle.record.specs.declared.generation.Generation.{Generation}
 use Rattle.record.specs.declared.generation.Generation.the-variants.{NoGeneration, Held}
-use Rattle.record.specs.Generation.{asGeneration, ofConstant, ofVersion, ofStruct, generationOf, heldAs, HeldBy, HoldsGeneration}
+use Rattle.record.specs.Generation.{asGeneration, ofConstant, ofVersion, ofStruct, generationOf, HeldBy, HoldsGeneration}
 
 module _ (s p : Str) (x : List ℕ) (v : OptText) where
   pub no-version : v ≡ Absent → HeldBy s p x v NoGeneration

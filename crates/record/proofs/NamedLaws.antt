@@ -1,6 +1,6 @@
 -- The constants and enums that are found by the index, as their look-ups need them. Assumes nothing.
 use Prim.Native.Nat.{ℕ}
-use mathlib.Core.Path.{_≡_, refl, ap, _∙_}
+use mathlib.Core.Path.{_≡_, refl, _∙_}
 use mathlib.Core.List.{List}
 use lib.ListN.{drop}
 use Rattle.record.specs.Base.{Str}
