@@ -4,7 +4,8 @@ and the answers of the printed files proofs/lists/*/Proof.antt. Run from the rep
 `rt dev record` prints the proof files that are not there yet, and a second run answers them.
 
 A row: the list, one element, the function, the model's type, the command and its number, the step's enum with its two cases,
-what may stand between (Between of src/seek.rt), the lists that follow an element, whether it is looked up by name.
+what may stand between (Between of src/seek.rt), the lists that follow an element, how it is looked up by name: by a walk
+along the list, or by the index of src/index.rt.
 A step along the fields also says where the field stands."""
 import os
 import sys
@@ -14,20 +15,20 @@ from answers import fill, loop
 
 ROWS = [
     # list, one, function, model, command, number, struct, step, none, some, between, children, by name, words
-    ('heads', 'head', 'next_head', 'Heading', 'Head', 1, 'Head', 'HeadStep', 'NoHead', 'AHead', 'Anything', [], False, 'head'),
-    ('constants', 'constant', 'next_constant', 'Const', 'Constant', 2, 'Constant', 'ConstantStep', 'NoConstant', 'AConstant', 'Anything', [], True, 'constant'),
-    ('aliases', 'alias', 'next_alias', 'Alias', 'TypeAlias', 3, 'TypeAlias', 'AliasStep', 'NoAlias', 'AnAlias', 'Anything', [], True, 'alias'),
-    ('values', 'value', 'next_value', 'EnumValue', 'Value', 5, 'Value', 'ValueStep', 'NoValue', 'AValue', 'Nothing', [], True, 'value'),
-    ('enums', 'enum', 'next_enum', 'Enum', 'Enum', 4, 'Enum', 'EnumStep', 'NoEnum', 'AnEnum', 'Anything', ['valuesAt'], True, 'enum'),
-    ('members', 'member', 'next_member', 'Member', 'Member', 7, 'Member', 'MemberStep', 'NoMember', 'AMember', 'Nothing', [], True, 'member'),
-    ('bitfields', 'bitfield', 'next_bitfield', 'BitField', 'Bitfield', 6, 'Bitfield', 'BitfieldStep', 'NoBitfield', 'ABitfield', 'Anything', ['membersAt'], True, 'bit field'),
-    ('keys', 'key', 'next_key', 'Key', 'PluginKey', 12, 'PluginKey', 'KeyStep', 'NoKey', 'AKey', 'Nothing', [], False, 'plugin key'),
-    ('fields', 'field', 'next_field', 'Field', 'Field', 11, 'Field', 'FieldStep', 'NoField', 'AField', 'Keys', ['fieldKeyAt'], False, 'field'),
-    ('structs', 'struct', 'next_struct', 'Struct', 'Struct', 8, 'Struct', 'StructStep', 'NoStruct', 'AStruct', 'Anything', ['fieldsAt'], True, 'structure'),
-    ('variants', 'variant', 'next_variant', 'Variant', 'Variant', 10, 'Variant', 'VariantStep', 'NoVariant', 'AVariant', 'Fields', ['fieldsAt'], False, 'variant'),
-    ('families', 'family', 'next_family', 'Family', 'Family', 9, 'Family', 'FamilyStep', 'NoFamily', 'AFamily', 'Anything', ['fieldsAt', 'variantsAt'], True, 'family'),
-    ('unstored', 'unstored', 'next_unstored', 'Key', 'UnstoredKey', 13, 'PluginKey', 'UnstoredStep', 'NoUnstored', 'AnUnstored', 'Anything', [], False, 'unstored plugin key'),
-    ('versions', 'version', 'next_version', 'Version', 'Version', 14, 'Version', 'VersionStep', 'NoVersion', 'AVersion', 'Anything', [], False, 'version entry'),
+    ('heads', 'head', 'next_head', 'Heading', 'Head', 1, 'Head', 'HeadStep', 'NoHead', 'AHead', 'Anything', [], None, 'head'),
+    ('constants', 'constant', 'next_constant', 'Const', 'Constant', 2, 'Constant', 'ConstantStep', 'NoConstant', 'AConstant', 'Anything', [], 'index', 'constant'),
+    ('aliases', 'alias', 'next_alias', 'Alias', 'TypeAlias', 3, 'TypeAlias', 'AliasStep', 'NoAlias', 'AnAlias', 'Anything', [], 'walk', 'alias'),
+    ('values', 'value', 'next_value', 'EnumValue', 'Value', 5, 'Value', 'ValueStep', 'NoValue', 'AValue', 'Nothing', [], 'walk', 'value'),
+    ('enums', 'enum', 'next_enum', 'Enum', 'Enum', 4, 'Enum', 'EnumStep', 'NoEnum', 'AnEnum', 'Anything', ['valuesAt'], 'index', 'enum'),
+    ('members', 'member', 'next_member', 'Member', 'Member', 7, 'Member', 'MemberStep', 'NoMember', 'AMember', 'Nothing', [], 'walk', 'member'),
+    ('bitfields', 'bitfield', 'next_bitfield', 'BitField', 'Bitfield', 6, 'Bitfield', 'BitfieldStep', 'NoBitfield', 'ABitfield', 'Anything', ['membersAt'], 'walk', 'bit field'),
+    ('keys', 'key', 'next_key', 'Key', 'PluginKey', 12, 'PluginKey', 'KeyStep', 'NoKey', 'AKey', 'Nothing', [], None, 'plugin key'),
+    ('fields', 'field', 'next_field', 'Field', 'Field', 11, 'Field', 'FieldStep', 'NoField', 'AField', 'Keys', ['fieldKeyAt'], None, 'field'),
+    ('structs', 'struct', 'next_struct', 'Struct', 'Struct', 8, 'Struct', 'StructStep', 'NoStruct', 'AStruct', 'Anything', ['fieldsAt'], 'index', 'structure'),
+    ('variants', 'variant', 'next_variant', 'Variant', 'Variant', 10, 'Variant', 'VariantStep', 'NoVariant', 'AVariant', 'Fields', ['fieldsAt'], None, 'variant'),
+    ('families', 'family', 'next_family', 'Family', 'Family', 9, 'Family', 'FamilyStep', 'NoFamily', 'AFamily', 'Anything', ['fieldsAt', 'variantsAt'], 'walk', 'family'),
+    ('unstored', 'unstored', 'next_unstored', 'Key', 'UnstoredKey', 13, 'PluginKey', 'UnstoredStep', 'NoUnstored', 'AnUnstored', 'Anything', [], None, 'unstored plugin key'),
+    ('versions', 'version', 'next_version', 'Version', 'Version', 14, 'Version', 'VersionStep', 'NoVersion', 'AVersion', 'Anything', [], None, 'version entry'),
 ]
 KEYS = 'n one fn model cmd b struct step none some between kids named words'.split()
 LISTS = [dict(zip(KEYS, row)) for row in ROWS]
@@ -72,7 +73,7 @@ use crate::seek::seek;
     o += ''.join('use crate::command::%s;\n' % s for s in sorted({d['struct'] for d in LISTS} | {d['from'] for d in LISTS}))
     o += 'use crate::text::bytes_of;\nuse crate::text::same;\nghost use mathlib.Core.Path.{_≡_};\n'
     o += 'ghost use Rattle.record.specs.Steps.{%s};\n' % ', '.join(
-        ', '.join([d['C'] + 'From'] + ([d['n'] + 'At', d['one'] + 'In', d['one'] + 'Found'] if d['named'] else [])) for d in LISTS)
+        ', '.join([d['C'] + 'From'] + ([d['n'] + 'At', d['one'] + 'In', d['one'] + 'Found'] if d['named'] == 'walk' else [])) for d in LISTS)
     for d in LISTS:
         where = {'Anything': 'of the record from a cursor on', 'Nothing': 'of the list that goes on at a cursor',
                  'Keys': 'of the list that goes on at a cursor; plugin keys between the fields are passed over',
@@ -87,7 +88,7 @@ use crate::seek::seek;
 }
 ''' % d
     for d in LISTS:
-        if d['named']:
+        if d['named'] == 'walk':
             o += '''
 // The first %(words)s of that name from a cursor on.
 pub fn find_%(one)s(stream: &[u8], pool: &[u8], from: Cursor, name: &[u8]) -> %(step)s
@@ -191,7 +192,7 @@ use Rattle.record.proofs.SeekLaws.{sought-stands, sought-nearer, listed
 use Rattle.record.proofs.ListLaws.{find-none, find-hit, find-miss}
 ''' % (', '.join(sorted({d['model'] for d in LISTS})), ', '.join(sorted({d['at'] for d in LISTS})),
        ', '.join(sorted({d['of'] for d in LISTS} | {d['n'] for d in LISTS})),
-       ', '.join(', '.join([d['n'] + 'At', d['n'] + 'Of', d['n'] + 'Left', d['C'] + 'From'] + ([d['one'] + 'Found', d['one'] + 'In'] if d['named'] else [])) for d in LISTS))
+       ', '.join(', '.join([d['n'] + 'At', d['n'] + 'Of', d['n'] + 'Left', d['C'] + 'From'] + ([d['one'] + 'Found', d['one'] + 'In'] if d['named'] == 'walk' else [])) for d in LISTS))
     o += ''.join(declared(d) for d in LISTS)
     for d in LISTS:
         d = dict(d, kidopen=''.join(' ' + ('keysAt' if k == 'fieldKeyAt' else k) for k in d['kids']),
@@ -242,7 +243,7 @@ module _ (s : Str) (at : ℕ) (r : %(step)s) (f : %(C)sFrom s at r) where
   pub fields-stand : (e : D.Field.Field) (k : Cursor) → r ≡ AField e k → FieldPlace s at e k
   fields-stand e k m = subst (λ x. fieldPlaced s at x) m (f .placed)
 '''
-        if d['named']:
+        if d['named'] == 'walk':
             o += '''
   pub find-%(one)s-none : (p n : Str) → r ≡ %(none)s → %(one)sIn n (%(n)sAt s p at) ≡ %(one)sFound s p %(none)s
   unfolding %(one)sIn

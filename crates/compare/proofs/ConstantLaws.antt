@@ -8,17 +8,19 @@ use native.Mathlib.Numerals.{add-one}
 use native.Mathlib.Omega.{arith}
 use lib.ListN.{length, take, drop, getD, drop-of-length-le}
 use lib.Seq.{take-at, drop-cons}
-use Rattle.record.specs.Base.{Str, eqs, signed, orElse, lastOr, findLast, any}
-use Rattle.record.specs.Schema.{Const, Struct}
+use Rattle.record.specs.Base.{Str, eqs, signed, orElse, any}
+use Rattle.record.specs.Schema.{Struct}
 use Rattle.record.specs.Stretch.{textOf}
 use Rattle.record.specs.Fill.{fronted}
 use Rattle.record.specs.Write.{Puts}
-use Rattle.record.specs.Commands.{constantAt, start}
+use Rattle.record.specs.Commands.{constantAt}
 use Rattle.record.specs.Lists.{optOf, constantOf}
-use Rattle.record.specs.Steps.{structsAt, structFound, constantsAt, constantFound, ConstantsFrom}
+use Rattle.record.specs.Steps.{structsAt, structFound, constantsAt, constantFound}
+use Rattle.record.specs.Index.{Indexed}
+use Rattle.record.specs.Named.{LastConstant}
 use Rattle.record.specs.Owner.{withName}
 use Rattle.record.specs.Versioned.{InSlots}
-use Rattle.record.specs.Generation.{generationOf, heldAs}
+use Rattle.record.specs.Generation.{generationOf, heldAs, HoldsGeneration}
 use Rattle.record.specs.declared.text.Text.{Text}
 use Rattle.record.specs.declared.operands.OptText.{OptText}
 use Rattle.record.specs.declared.operands.OptText.the-variants.{Absent, Given}
@@ -34,7 +36,6 @@ use Rattle.record.specs.declared.lists.StructStep.the-variants.{NoStruct, AStru
 use Rattle.record.proofs.Basics.{eqs→eq, eqs-refl}
 use Rattle.record.proofs.VersionedLaws.{versioned-are-roots}
 use Rattle.record.proofs.WriterLaws.{puts-exact, puts-front}
-use Rattle.record.proofs.StepLaws.{constants-over-now, constants-now}
 use Rattle.layout.specs.Room.{Room}
 use Rattle.layout.specs.Constants.{placedConstant, ConstantsTable}
 use Rattle.definition.specs.Verdicts as D
@@ -113,42 +114,6 @@ pub ruleset other-value-laws = (words-same, integer-same, integer-turned)
 
 pub ruleset own-value-laws = (words-with, integer-with)
 
--- the last constant of a name ---------------------------------------------------------------------------------------------
-
--- the last one that passes, and this one where none does
-unfoldable pub lastFrom : Option Const → Str → List Const → Option Const
-lastFrom o n l = lastOr o (λ (c : Const). eqs (c .name) n) l
-
--- a list's last element that passes a test
-module _ {A : Type 0} (q : A → Bool) (o : Option A) (l : List A) (x : A) (m : List A) (e : l ≡ x ∷ m) where
-  last-passes : q x ≡ true → lastOr o q l ≡ lastOr (some x) q m
-  unfolding lastOr
-  last-passes h = rw (e, h)
-
-  last-fails : q x ≡ false → lastOr o q l ≡ lastOr o q m
-  unfolding lastOr
-  last-fails h = rw (e, h)
-
-pub last-begin : (s p n : Str) (z : Cursor) → z ≡ start → lastConstant n (constantsAt s p 0) ≡ lastFrom (constantFound s p NoConstant) n (constantsAt s p (z .at))
-unfolding lastConstant findLast lastFrom
-last-begin s p n z y = ap (λ (c : Cursor). lastFrom none n (constantsAt s p (c .at))) (sym y)
-
-module _ (s p n : Str) (l : ConstantStep) (at : ℕ) (r : ConstantStep) (f : ConstantsFrom s at r) where
-  pub last-end : r ≡ NoConstant → lastFrom (constantFound s p l) n (constantsAt s p at) ≡ constantFound s p l
-  unfolding lastFrom lastOr
-  last-end m = rw (constants-over-now s at r f p m)
-
-  module _ (e : C.Constant.Constant) (k : Cursor) (x : Str) (b : Bool) (m : r ≡ AConstant e k) (i : x ≡ textOf p (e .name)) (h : b ≡ eqs x n) where
-    pub last-hit : b ≡ true → lastFrom (constantFound s p l) n (constantsAt s p at) ≡ lastFrom (constantFound s p (AConstant e k)) n (constantsAt s p (k .at))
-    unfolding lastFrom
-    last-hit g = last-passes (λ (c : Const). eqs (c .name) n) (constantFound s p l) _ _ _ (constants-now s at r f p e k m) (ap (λ (y : Str). eqs y n) (sym i) ∙ sym h ∙ g)
-
-    pub last-miss : b ≡ false → lastFrom (constantFound s p l) n (constantsAt s p at) ≡ lastFrom (constantFound s p l) n (constantsAt s p (k .at))
-    unfolding lastFrom
-    last-miss g = last-fails (λ (c : Const). eqs (c .name) n) (constantFound s p l) _ _ _ (constants-now s at r f p e k m) (ap (λ (y : Str). eqs y n) (sym i) ∙ sym h ∙ g)
-
-pub ruleset last-laws = (last-end, last-hit, last-miss)
-
 -- the constants that hold generations -------------------------------------------------------------------------------------
 
 or-false : (b : Bool) → (b || false) ≡ b
@@ -168,19 +133,18 @@ module _ (s p n : Str) where
     unfolding heldByAny withName any
     slot-none m = rw m
 
-    module _ (e : C.Struct.Struct) (k : Cursor) (x : Str) (g : Generation) (m : r ≡ AStruct e k) (i : x ≡ textOf p (e .name))
-        (h : heldAs p g ≡ generationOf (structsAt s p 0) (constantsAt s p 0) x) where
+    module _ (y : List ℕ) (j : Indexed s p y) (e : C.Struct.Struct) (k : Cursor) (x : Str) (g : Generation) (m : r ≡ AStruct e k) (i : x ≡ textOf p (e .name)) (h : HoldsGeneration s p y x g) where
       of-root : held (withName (structFound s p r) []) ≡ holdsIn n (heldAs p g)
       unfolding heldByAny withName any
-      of-root = rw (m, ← i, ← h) (or-false (holdsIn n (heldAs p g)))
+      of-root = rw (m, ← i, ← h .this j) (or-false (holdsIn n (heldAs p g)))
 
       pub slot-without : g ≡ NoGeneration → false ≡ held (withName (structFound s p r) [])
       unfolding holdsIn
-      slot-without j = rw (of-root, j)
+      slot-without o = rw (of-root, o)
 
-      pub slot-with : (t : Text) (w : ℕ) (y : Str) (b : Bool) → g ≡ Held t w → y ≡ textOf p t → b ≡ eqs y n → b ≡ held (withName (structFound s p r) [])
+      pub slot-with : (t : Text) (w : ℕ) (z : Str) (b : Bool) → g ≡ Held t w → z ≡ textOf p t → b ≡ eqs z n → b ≡ held (withName (structFound s p r) [])
       unfolding holdsIn
-      slot-with t w y b j u v = rw (of-root, j, ← u) v
+      slot-with t w z b o u v = rw (of-root, o, ← u) v
 
   -- one more structure
   held-first : (o : Option Struct) (l : List Str) → held (withName o l) ≡ (held (withName o []) || held l)
@@ -212,12 +176,13 @@ pub ruleset generation-laws = (generation-info, generation-metadata, generation-
 
 -- one constant ------------------------------------------------------------------------------------------------------------
 
-module _ (s p q x : Str) (w : C.Constant.Constant) (r : ConstantStep) (t : x ≡ textOf q (w .name)) (h : lastConstant x (constantsAt s p 0) ≡ constantFound s p r) where
+module _ (s p q x : Str) (z : List ℕ) (w : C.Constant.Constant) (r : ConstantStep) (d : Indexed s p z) (t : x ≡ textOf q (w .name)) (h : LastConstant s p z x r) where
   abbrev asked : D.Verdict
   asked = checkConstant (structsAt s p 0) (constantsAt s p 0) (constantOf q w)
 
   found : lastConstant (textOf q (w .name)) (constantsAt s p 0) ≡ constantFound s p r
-  found = ap (λ (y : Str). lastConstant y (constantsAt s p 0)) (sym t) ∙ h
+  unfolding lastConstant
+  found = ap (λ (y : Str). lastConstant y (constantsAt s p 0)) (sym t) ∙ h .this d
 
   pub constant-gone : r ≡ NoConstant → meaning p q (ConstantGone (w .name)) ≡ asked
   unfolding meaning checkConstant onFound

@@ -1,5 +1,6 @@
 -- The cases of the pass over the enums. s and p are the current stream and pool, b and q the released ones. Assumes nothing.
 use mathlib.Core.Path.{_≡_, refl, sym, ap, _∙_}
+use mathlib.Core.List.{List}
 use mathlib.Core.Bool.{false}
 use Prim.Native.Nat.{ℕ}
 use lib.Dec.{eqb}
@@ -10,6 +11,8 @@ use Rattle.record.specs.Stretch.{textOf}
 use Rattle.record.specs.Commands.{start}
 use Rattle.record.specs.Lists.{enumOf, valueOf}
 use Rattle.record.specs.Steps.{enumsAt, valuesAt, EnumsFrom, ValuesFrom, enumIn, valueIn, enumFound, valueFound}
+use Rattle.record.specs.Index.{Indexed}
+use Rattle.record.specs.Named.{FirstEnum}
 use Rattle.record.specs.declared.text.Text.{Text}
 use Rattle.record.specs.declared.command.Cursor.{Cursor}
 use Rattle.record.specs.declared.command.Enum.{Enum}
@@ -100,9 +103,9 @@ module _ (s p b q : Str) (w : Enum) (at : ℕ) (r : ValueStep) (f : ValuesFrom b
   unfolding meaning checkEnum empty ensure
   enum-empty m = rw (values-over-now b at r f q m)
 
-  module _ (e : Value) (k : Cursor) (m : r ≡ AValue e k) (x : Str) (z : Cursor) (i : EnumStep) (t : x ≡ textOf q (w .name)) (y : z ≡ start) (h : enumIn x (enumsAt s p (z .at)) ≡ enumFound s p i) where
+  module _ (e : Value) (k : Cursor) (m : r ≡ AValue e k) (x : Str) (y : List ℕ) (i : EnumStep) (t : x ≡ textOf q (w .name)) (d : Indexed s p y) (h : FirstEnum s p y x i) where
     sought : enumIn (textOf q (w .name)) (enumsAt s p 0) ≡ enumFound s p i
-    sought = rw (← t, ← ap (λ (c : Cursor). c .at) y) h
+    sought = rw (← t) (h .this d)
 
     some-values : empty (valuesAt b q at) ≡ false
     unfolding empty
@@ -112,10 +115,10 @@ module _ (s p b q : Str) (w : Enum) (at : ℕ) (r : ValueStep) (f : ValuesFrom b
     unfolding meaning checkEnum ensure onFound
     enum-gone g = rw (some-values, sought, g)
 
-    pub enum-there : (d : Enum) (j : Cursor) (v : Verdict) → i ≡ AnEnum d j → meaning p q v ≡ checkValues (textOf q (w .name)) (valuesAt s p (j .at)) (valuesAt b q at)
+    pub enum-there : (c : Enum) (j : Cursor) (v : Verdict) → i ≡ AnEnum c j → meaning p q v ≡ checkValues (textOf q (w .name)) (valuesAt s p (j .at)) (valuesAt b q at)
         → meaning p q v ≡ checkEnum (enumsAt s p 0) (enumOf q w (valuesAt b q at))
     unfolding checkEnum ensure onFound
-    enum-there d j v g l = rw (some-values, sought, g) l
+    enum-there c j v g l = rw (some-values, sought, g) l
 
 pub ruleset enum-laws = (enum-empty, enum-gone, enum-there)
 

@@ -10,6 +10,8 @@ use Rattle.record.specs.Stretch.{textOf}
 use Rattle.record.specs.Commands.{start}
 use Rattle.record.specs.Lists.{optOf, constantOf, enumOf, valueOf, keyOf}
 use Rattle.record.specs.Steps.{constantsAt, enumsAt, valuesAt, structsAt, unstoredAt, ConstantsFrom, EnumsFrom, ValuesFrom, enumFound}
+use Rattle.record.specs.Index.{Indexed}
+use Rattle.record.specs.Named.{ApiEnum}
 use Rattle.record.specs.Keys.{pluginKeys, keysFrom, pluginKeysOf, AllKeys, PluginKeysFrom}
 use Rattle.record.specs.Dates.{Dated}
 use Rattle.record.specs.declared.text.Text.{Text}
@@ -205,11 +207,12 @@ module _ (s p b q : Str) (now : Text) (copy : OptText) (e : Enum) (at : ℕ) whe
     unfolding meaning checkEnumArrival ensure onFound
     enum-undated g = rw (a, g)
 
-    module _ (names : Text) (x : Str) (w : EnumStep) (u : Shipped) (v : Verdict) (g : e .«first_release» ≡ O.Given names) (t : x ≡ textOf p (e .name))
-        (h : apiEnum x (enumsAt b q 0) ≡ enumFound b q w) (i : EnumShipped w u)
+    module _ (names : Text) (x : Str) (y : List ℕ) (w : EnumStep) (u : Shipped) (v : Verdict) (g : e .«first_release» ≡ O.Given names) (t : x ≡ textOf p (e .name))
+        (d : Indexed b q y) (h : ApiEnum b q y x w) (i : EnumShipped w u)
         (j : meaning p q v ≡ checkArrival (textOf p now) (optOf q copy) (anEnum (textOf p (e .name))) (textOf p names) (shippedOf q u)) where
       found : apiEnum (textOf p (e .name)) (enumsAt b q 0) ≡ enumFound b q w
-      found = ap (λ y. apiEnum y (enumsAt b q 0)) (sym t) ∙ h
+      unfolding apiEnum
+      found = ap (λ z. apiEnum z (enumsAt b q 0)) (sym t) ∙ h .this d
 
       opened : checkEnumArrival (textOf p now) (optOf q copy) (enumsAt b q 0) (enumOf p e (valuesAt s p at))
           ≡ (meaning p q v then checkValueArrivals (textOf p now) (optOf q copy) (textOf p (e .name)) (optOf p (e .«first_release»)) (enumFound b q w) (valuesAt s p at))

@@ -15,12 +15,14 @@ use Rattle.record.specs.Stretch.{textOf}
 use Rattle.record.specs.Commands.{start}
 use Rattle.record.specs.Lists.{optOf, constantOf}
 use Rattle.record.specs.Steps.{structsAt, structFound, constantsAt, constantIn, constantFound, versionsAt, VersionsFrom}
+use Rattle.record.specs.Index.{Indexed}
+use Rattle.record.specs.Named.{FirstConstant}
 use Rattle.record.specs.Owner.{withName}
 use Rattle.record.specs.References.{typesAt}
 use Rattle.record.specs.Scalars.{Scalar}
 use Rattle.record.specs.Reading.{rec}
 use Rattle.record.specs.Versioned.{versioned, InSlots}
-use Rattle.record.specs.Generation.{generationOf, heldAs}
+use Rattle.record.specs.Generation.{generationOf, heldAs, HoldsGeneration}
 use Rattle.record.specs.declared.text.Text.{Text}
 use Rattle.record.specs.declared.operands.OptText.{OptText}
 use Rattle.record.specs.declared.command as C
@@ -160,10 +162,10 @@ pub ruleset from-laws = (from-text, from-large, from-rise)
 
 -- one root ----------------------------------------------------------------------------------------------------------------
 
-module _ (p b q now : Str) (copy : OptText) (vs : List M.Version) (touched : Option Str) (root : Str) (k : Text) (is : ℕ) (x : Str) (f : Cursor) (r : ConstantStep)
-    (e : x ≡ textOf p k) (z : f ≡ start) (l : constantIn x (constantsAt b q (f .at)) ≡ constantFound b q r) where
+module _ (p b q now : Str) (copy : OptText) (vs : List M.Version) (touched : Option Str) (root : Str) (k : Text) (is : ℕ) (x : Str) (y : List ℕ) (r : ConstantStep)
+    (e : x ≡ textOf p k) (d : Indexed b q y) (l : FirstConstant b q y x r) where
   found : constantIn (textOf p k) (constantsAt b q 0) ≡ constantFound b q r
-  found = rw (e, z) at l
+  found = rw e at (l .this d)
 
   pub against-none : r ≡ K.NoConstant → meaning p q Passed ≡ checkAgainst now (optOf q copy) vs touched root (textOf p k) is (constantIn (textOf p k) (constantsAt b q 0))
   unfolding meaning checkAgainst
@@ -177,10 +179,10 @@ module _ (p b q now : Str) (copy : OptText) (vs : List M.Version) (touched : Opt
 
 pub ruleset against-laws = (against-none, against-from)
 
-module _ (s p q now : Str) (copy : Option Str) (vs : List M.Version) (cs₀ : List Const) (t m : List ℕ) (root : Text) (x : Str) (g : Generation) (e : x ≡ textOf p root)
-    (h : heldAs p g ≡ generationOf (structsAt s p 0) (constantsAt s p 0) x) where
+module _ (s p q now : Str) (copy : Option Str) (vs : List M.Version) (cs₀ : List Const) (t m : List ℕ) (root : Text) (x : Str) (y : List ℕ) (g : Generation) (e : x ≡ textOf p root)
+    (d : Indexed s p y) (h : HoldsGeneration s p y x g) where
   gives : generationOf (structsAt s p 0) (constantsAt s p 0) (textOf p root) ≡ heldAs p g
-  gives = ap (generationOf (structsAt s p 0) (constantsAt s p 0)) (sym e) ∙ sym h
+  gives = ap (generationOf (structsAt s p 0) (constantsAt s p 0)) (sym e) ∙ sym (h .this d)
 
   pub generation-none : g ≡ G.NoGeneration
       → meaning p q (NoConstant root) ≡ checkGeneration now copy vs (structsAt s p 0) (constantsAt s p 0) cs₀ (touchedBy s p t m) (textOf p root)

@@ -3,15 +3,16 @@
 use mathlib.Core.Path.{_≡_, refl, sym, ap, _∙_}
 use mathlib.Core.List.{List, [], _∷_}
 use mathlib.Core.Option.{Option, none, some}
-use mathlib.Core.Bool.{Bool, true, false, _&&_, cond}
+use mathlib.Core.Bool.{Bool, true, false, cond}
 use Prim.Native.Nat.{ℕ, suc, _<_}
 use native.Mathlib.Omega.{arith}
 use lib.ListN.{length}
 use Rattle.record.specs.Base.{Str, eqs, mapOption, lastOr, findLast}
-use Rattle.record.specs.Schema.{Const, Enum, Key}
+use Rattle.record.specs.Schema.{Const, Key}
 use Rattle.record.specs.Stretch.{textOf}
-use Rattle.record.specs.Commands.{start}
-use Rattle.record.specs.Steps.{constantsAt, enumsAt, valuesAt, structsAt, unstoredAt, ConstantsFrom, EnumsFrom, valueIn, enumFound, valueFound}
+use Rattle.record.specs.Steps.{constantsAt, valuesAt, structsAt, unstoredAt, valueIn, constantFound, enumFound, valueFound}
+use Rattle.record.specs.Index.{Indexed}
+use Rattle.record.specs.Named.{ApiConstant}
 use Rattle.record.specs.Keys.{pluginKeys, keysFrom, pluginKeysOf, AllKeys, PluginKeysFrom}
 use Rattle.record.specs.Dates.{Dated}
 use Rattle.record.specs.declared.text.Text.{Text}
@@ -28,8 +29,7 @@ use Rattle.record.specs.declared.lists.EnumStep.{EnumStep}
 use Rattle.record.specs.declared.lists.EnumStep.the-variants.{NoEnum, AnEnum}
 use Rattle.record.specs.declared.lists.ValueStep.{ValueStep}
 use Rattle.record.specs.declared.lists.ValueStep.the-variants.{NoValue, AValue}
-use Rattle.record.proofs.StepLaws.{constants-now, constants-over-now, enums-now, enums-over-now}
-use Rattle.definition.specs.FirstReleases.{constantRelease, apiEnum, enumRelease, valueRelease, keyRelease}
+use Rattle.definition.specs.FirstReleases.{constantRelease, enumRelease, valueRelease, keyRelease}
 use Rattle.compare.specs.Shipped.{shippedOf, ShippedWith, EnumShipped}
 use Rattle.compare.specs.declared.shipped.Shipped.{Shipped}
 use Rattle.compare.specs.declared.shipped.Shipped.the-variants.{Absent, Named, Unstated}
@@ -51,15 +51,21 @@ module _ (t : OptText) where
 
 pub ruleset shipped-laws = (shipped-unstated, shipped-named)
 
--- whether it counts
-module _ (q n x : Str) (api : Bool) (own : Text) (h : x ≡ textOf q own) where
-  pub counts-named : (t : Bool) → api ≡ true → t ≡ eqs x n → t ≡ (api && eqs (textOf q own) n)
-  counts-named t a e = rw (a, ← h) e
+-- constants: x is the index of the copy
+module _ (b q : Str) (x : List ℕ) (n : Str) (r : ConstantStep) (i : Indexed b q x) (h : ApiConstant b q x n r) where
+  released : constantRelease n (constantsAt b q 0) ≡ mapOption (λ (c : Const). c .since) (constantFound b q r)
+  unfolding constantRelease
+  released = ap (mapOption (λ (c : Const). c .since)) (h .this i)
 
-pub counts-none : (q n : Str) (api : Bool) (own : Text) → api ≡ false → false ≡ (api && eqs (textOf q own) n)
-counts-none q n api own a = rw a
+  pub constant-absent : r ≡ NoConstant → shippedOf q Absent ≡ constantRelease n (constantsAt b q 0)
+  unfolding mapOption
+  constant-absent m = rw (released, m)
 
-pub ruleset counts-laws = (counts-named, counts-none)
+  pub constant-shipped : (c : D.Constant.Constant) (k : Cursor) (w : Shipped) → r ≡ AConstant c k → ShippedWith (c .«first_release») w → shippedOf q w ≡ constantRelease n (constantsAt b q 0)
+  unfolding mapOption
+  constant-shipped c k w m g = rw (released, m) (g .this q)
+
+pub ruleset constant-release-laws = (constant-absent, constant-shipped)
 
 -- the last of a list ---------------------------------------------------------------------------------------------------------------
 
@@ -91,62 +97,6 @@ module _ {A B : Type 0} (t : A → Bool) (f : A → B) where
       latest-miss : t x ≡ false → latest o l ≡ latest o m
       unfolding latest
       latest-miss h = rw (e, h)
-
-same-option : {A : Type 0} (o : Option A) → mapOption (λ (x : A). x) o ≡ o
-unfolding mapOption
-same-option none = refl
-same-option (some x) = refl
-
--- constants
-pub constantLatest : Str → Option (Option Str) → List Const → Option (Option Str)
-constantLatest n = latest (λ (c : Const). c .api && eqs (c .name) n) (λ (c : Const). c .since)
-
-module _ (b q n : Str) where
-  pub constant-begin : (z : Cursor) → z ≡ start → constantRelease n (constantsAt b q 0) ≡ constantLatest n (shippedOf q Absent) (constantsAt b q (z .at))
-  unfolding constantRelease constantLatest findLast mapOption
-  constant-begin z y = last-latest _ _ none _ ∙ ap (λ (c : Cursor). constantLatest n none (constantsAt b q (c .at))) (sym y)
-
-  module _ (at : ℕ) (r : ConstantStep) (f : ConstantsFrom b at r) (o : Shipped) where
-    pub constant-end : r ≡ NoConstant → constantLatest n (shippedOf q o) (constantsAt b q at) ≡ shippedOf q o
-    unfolding constantLatest
-    constant-end m = latest-end _ _ _ _ (constants-over-now b at r f q m)
-
-    module _ (e : D.Constant.Constant) (k : Cursor) (t : Bool) (m : r ≡ AConstant e k) (h : t ≡ (e .«ora_api» && eqs (textOf q (e .name)) n)) where
-      pub constant-hit : (w : Shipped) → t ≡ true → ShippedWith (e .«first_release») w
-          → constantLatest n (shippedOf q o) (constantsAt b q at) ≡ constantLatest n (shippedOf q w) (constantsAt b q (k .at))
-      unfolding constantLatest
-      constant-hit w g i = latest-hit _ _ _ _ _ _ (constants-now b at r f q e k m) (sym h ∙ g) ∙ ap (λ y. constantLatest n y (constantsAt b q (k .at))) (sym (i .this q))
-
-      pub constant-miss : t ≡ false → constantLatest n (shippedOf q o) (constantsAt b q at) ≡ constantLatest n (shippedOf q o) (constantsAt b q (k .at))
-      unfolding constantLatest
-      constant-miss g = latest-miss _ _ _ _ _ _ (constants-now b at r f q e k m) (sym h ∙ g)
-
-pub ruleset constant-release-laws = (constant-end, constant-hit, constant-miss)
-
--- enums
-pub enumLatest : Str → Option Enum → List Enum → Option Enum
-enumLatest n = latest (λ (e : Enum). e .api && eqs (e .name) n) (λ (e : Enum). e)
-
-module _ (b q n : Str) where
-  pub enum-begin : (z : Cursor) → z ≡ start → apiEnum n (enumsAt b q 0) ≡ enumLatest n (enumFound b q NoEnum) (enumsAt b q (z .at))
-  unfolding apiEnum enumLatest findLast mapOption
-  enum-begin z y = sym (same-option _) ∙ last-latest _ _ none _ ∙ ap (λ (c : Cursor). enumLatest n none (enumsAt b q (c .at))) (sym y)
-
-  module _ (at : ℕ) (r : EnumStep) (f : EnumsFrom b at r) (o : EnumStep) where
-    pub enum-end : r ≡ NoEnum → enumLatest n (enumFound b q o) (enumsAt b q at) ≡ enumFound b q o
-    unfolding enumLatest
-    enum-end m = latest-end _ _ _ _ (enums-over-now b at r f q m)
-
-    module _ (e : D.Enum.Enum) (k : Cursor) (t : Bool) (m : r ≡ AnEnum e k) (h : t ≡ (e .«ora_api» && eqs (textOf q (e .name)) n)) where
-      pub enum-hit : t ≡ true → enumLatest n (enumFound b q o) (enumsAt b q at) ≡ enumLatest n (enumFound b q (AnEnum e k)) (enumsAt b q (k .at))
-      unfolding enumLatest
-      enum-hit g = latest-hit _ _ _ _ _ _ (enums-now b at r f q e k m) (sym h ∙ g)
-
-      pub enum-miss : t ≡ false → enumLatest n (enumFound b q o) (enumsAt b q at) ≡ enumLatest n (enumFound b q o) (enumsAt b q (k .at))
-      unfolding enumLatest
-      enum-miss g = latest-miss _ _ _ _ _ _ (enums-now b at r f q e k m) (sym h ∙ g)
-
-pub ruleset api-enum-laws = (enum-end, enum-hit, enum-miss)
 
 -- plugin keys
 pub keyLatest : Str → Option (Option Str) → List Key → Option (Option Str)

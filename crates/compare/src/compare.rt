@@ -50,17 +50,18 @@ ghost use Rattle.verdicts.specs.Meaning.{meaning};
 fn check_numbers(
     stream: &[u8],
     pool: &[u8],
+    index: &[u16],
     past: &[u8],
     old: &[u8],
     table: &mut [u32],
     scratch: &mut [u32],
 ) -> Verdict
-    requires { ⌜ (length (now past) ≤ 32768) × Room (now past) (now table) × Room (now past) (now scratch) ⌝ }
+    requires { ⌜ (length (now past) ≤ 32768) × Room (now past) (now table) × Room (now past) (now scratch) × Indexed (now stream) (now pool) (now index) ⌝ }
     ensures { λ r. ⌜ meaning (now (pool .entry)) (now (old .entry)) r ≡ (checkConstants (structsAt (now (stream .entry)) (now (pool .entry)) 0) (constantsAt (now (stream .entry)) (now (pool .entry)) 0) (constantsAt (now (past .entry)) (now (old .entry)) 0) then checkEnums (enumsAt (now (stream .entry)) (now (pool .entry)) 0) (enumsAt (now (past .entry)) (now (old .entry)) 0)) ⌝ }
 {
-    let verdict = check_constants(stream, pool, past, old, table, scratch);
+    let verdict = check_constants(stream, pool, index, past, old, table, scratch);
     if let Verdict::Passed = verdict {
-        return check_enums(stream, pool, past, old);
+        return check_enums(stream, pool, index, past, old);
     }
     verdict
 }
@@ -92,11 +93,11 @@ fn check_declared(
     requires { ⌜ (length (now past) ≤ 32768) × Room (now past) (now table) × Room (now past) (now scratch) × Indexed (now stream) (now pool) (now index) × Indexed (now past) (now old) (now «old_index») ⌝ }
     ensures { λ r. ⌜ meaning (now (pool .entry)) (now (old .entry)) r ≡ (checkFirstReleases (textOf (now (pool .entry)) current) (optOf (now (old .entry)) copy) (constantsAt (now (stream .entry)) (now (pool .entry)) 0) (constantsAt (now (past .entry)) (now (old .entry)) 0) (enumsAt (now (stream .entry)) (now (pool .entry)) 0) (enumsAt (now (past .entry)) (now (old .entry)) 0) (pluginKeys (structsAt (now (stream .entry)) (now (pool .entry)) 0) (unstoredAt (now (stream .entry)) (now (pool .entry)) 0)) (pluginKeys (structsAt (now (past .entry)) (now (old .entry)) 0) (unstoredAt (now (past .entry)) (now (old .entry)) 0)) then (checkConstants (structsAt (now (stream .entry)) (now (pool .entry)) 0) (constantsAt (now (stream .entry)) (now (pool .entry)) 0) (constantsAt (now (past .entry)) (now (old .entry)) 0) then checkEnums (enumsAt (now (stream .entry)) (now (pool .entry)) 0) (enumsAt (now (past .entry)) (now (old .entry)) 0)) then (checkBitfields (bitfieldsAt (now (stream .entry)) (now (pool .entry)) 0) (bitfieldsAt (now (past .entry)) (now (old .entry)) 0) then checkBitfieldReleases (textOf (now (pool .entry)) current) (bitfieldsAt (now (stream .entry)) (now (pool .entry)) 0) (bitfieldsAt (now (past .entry)) (now (old .entry)) 0))) ⌝ }
 {
-    let first = check_first_releases(stream, pool, past, old, current, copy);
+    let first = check_first_releases(stream, pool, past, old, old_index, current, copy);
     let Verdict::Passed = first else {
         return first;
     };
-    let second = check_numbers(stream, pool, past, old, table, scratch);
+    let second = check_numbers(stream, pool, index, past, old, table, scratch);
     let Verdict::Passed = second else {
         return second;
     };
@@ -135,6 +136,7 @@ fn check_layouts(
     sizes: &[u64],
     past: &[u8],
     old: &[u8],
+    old_index: &[u16],
     shipped: &[u32],
     widths: &[u64],
     marks: &mut [u8],
@@ -142,7 +144,7 @@ fn check_layouts(
     current: Text,
     copy: OptText,
 ) -> Verdict
-    requires { ⌜ Tables (rec (now stream) (now pool) (scalarsOf (now rows))) (now types) (now sizes) × Tables (rec (now past) (now old) (scalarsOf (now rows))) (now shipped) (now widths) × (length (now stream) ≤ length (now marks)) × (length (now types) ≤ length (now cover)) × Indexed (now stream) (now pool) (now index) ⌝ }
+    requires { ⌜ Tables (rec (now stream) (now pool) (scalarsOf (now rows))) (now types) (now sizes) × Tables (rec (now past) (now old) (scalarsOf (now rows))) (now shipped) (now widths) × (length (now stream) ≤ length (now marks)) × (length (now types) ≤ length (now cover)) × Indexed (now stream) (now pool) (now index) × Indexed (now past) (now old) (now «old_index») ⌝ }
     ensures { λ r. ⌜ meaning (now (pool .entry)) (now (old .entry)) r ≡ ((checkFields (typesOf (rec (now (stream .entry)) (now (pool .entry)) (scalarsOf (now (rows .entry))))) (typesOf (rec (now (past .entry)) (now (old .entry)) (scalarsOf (now (rows .entry))))) then checkStandalone (familiesAt (now (stream .entry)) (now (pool .entry)) 0) (familiesAt (now (past .entry)) (now (old .entry)) 0) (typesOf (rec (now (stream .entry)) (now (pool .entry)) (scalarsOf (now (rows .entry))))) (typesOf (rec (now (past .entry)) (now (old .entry)) (scalarsOf (now (rows .entry)))))) then checkGenerations (textOf (now (pool .entry)) current) (optOf (now (old .entry)) copy) (versionsAt (now (stream .entry)) (now (pool .entry)) 0) (typesAt (now (stream .entry)) (now (pool .entry))) (constantsAt (now (stream .entry)) (now (pool .entry)) 0) (constantsAt (now (past .entry)) (now (old .entry)) 0) (changedTypes (rec (now (stream .entry)) (now (pool .entry)) (scalarsOf (now (rows .entry)))) (rec (now (past .entry)) (now (old .entry)) (scalarsOf (now (rows .entry)))))) ⌝ }
 {
     let verdict = check_types(rows, stream, pool, types, sizes, past, old, shipped, widths);
@@ -156,6 +158,7 @@ fn check_layouts(
             sizes,
             past,
             old,
+            old_index,
             shipped,
             widths,
             marks,
@@ -199,6 +202,7 @@ fn check_tables(
         sizes,
         past,
         old,
+        old_index,
         &shipped[..m],
         widths,
         marks,

@@ -3,13 +3,12 @@ use crate::required::required_text;
 use layout::constants::constant_table;
 use layout::constants::placed_constant;
 use record::command::Constant;
-use record::command::Cursor;
 use record::cut::upto;
 use record::generation::Generation;
 use record::generation::generation_constant;
 use record::lists::ConstantStep;
 use record::lists::StructStep;
-use record::lists::next_constant;
+use record::named::last_constant;
 use record::text::bytes_of;
 use record::text::same;
 use record::versioned::versioned_structs;
@@ -22,13 +21,14 @@ ghost use Prim.Native.Nat.{_≤_};
 ghost use lib.ListN.{length};
 ghost use Rattle.record.specs.Base.{eqs, signed};
 ghost use Rattle.record.specs.Lists.{constantOf};
-ghost use Rattle.record.specs.Steps.{structsAt, constantsAt, structFound, constantFound};
+ghost use Rattle.record.specs.Steps.{structsAt, constantsAt, structFound};
 ghost use Rattle.record.specs.Owner.{withName};
+ghost use Rattle.record.specs.Index.{Indexed};
 ghost use Rattle.layout.specs.Room.{Room};
 ghost use Rattle.layout.specs.Constants.{placedConstant};
 ghost use Rattle.definition.specs.Constants.{valueText};
 ghost use Rattle.verdicts.specs.Arguments.{valueMeant};
-ghost use Rattle.definition.specs.Constants.{lastConstant, heldByAny, isGeneration, checkConstant, checkConstantsIn, checkConstants};
+ghost use Rattle.definition.specs.Constants.{heldByAny, isGeneration, checkConstant, checkConstantsIn, checkConstants};
 ghost use Rattle.compare.specs.Sought.{HoldsValue};
 ghost use Rattle.verdicts.specs.Meaning.{meaning};
 
@@ -89,35 +89,16 @@ fn same_value(pool: &[u8], is: ConstantValue, old: &[u8], was: ConstantValue) ->
     }
 }
 
-// The last constant of that name.
-fn last_constant(stream: &[u8], pool: &[u8], name: &[u8]) -> ConstantStep
-    ensures { λ r. ⌜ lastConstant (now (name .entry)) (constantsAt (now (stream .entry)) (now (pool .entry)) 0) ≡ constantFound (now (stream .entry)) (now (pool .entry)) r ⌝ }
-{
-    let mut cursor = Cursor::new();
-    let mut last = ConstantStep::NoConstant;
-    loop {
-        let ConstantStep::AConstant(c, after) = next_constant(stream, cursor) else {
-            return last;
-        };
-        let own = c.name;
-        if same(bytes_of(pool, own), name) {
-            last = ConstantStep::AConstant(c, after);
-            cursor = after;
-        } else {
-            cursor = after;
-        }
-    }
-}
-
 // Whether the structure in a slot keeps its generation in the constant of that name.
-fn slot_holds(stream: &[u8], pool: &[u8], slot: StructStep, name: &[u8]) -> bool
+fn slot_holds(stream: &[u8], pool: &[u8], index: &[u16], slot: StructStep, name: &[u8]) -> bool
+    requires { ⌜ Indexed (now stream) (now pool) (now index) ⌝ }
     ensures { λ r. ⌜ r ≡ heldByAny (structsAt (now (stream .entry)) (now (pool .entry)) 0) (constantsAt (now (stream .entry)) (now (pool .entry)) 0) (withName (structFound (now (stream .entry)) (now (pool .entry)) slot) []) (now (name .entry)) ⌝ }
 {
     let StructStep::AStruct(e, _) = slot else {
         return false;
     };
     let root = e.name;
-    let generation = generation_constant(stream, pool, bytes_of(pool, root));
+    let generation = generation_constant(stream, pool, index, bytes_of(pool, root));
     let Generation::Held(constant, _) = generation else {
         return false;
     };
@@ -125,28 +106,31 @@ fn slot_holds(stream: &[u8], pool: &[u8], slot: StructStep, name: &[u8]) -> bool
 }
 
 // Whether the constant of that name holds a generation: these are meant to change.
-fn is_generation(stream: &[u8], pool: &[u8], name: &[u8]) -> bool
+fn is_generation(stream: &[u8], pool: &[u8], index: &[u16], name: &[u8]) -> bool
+    requires { ⌜ Indexed (now stream) (now pool) (now index) ⌝ }
     ensures { λ r. ⌜ r ≡ isGeneration (structsAt (now (stream .entry)) (now (pool .entry)) 0) (constantsAt (now (stream .entry)) (now (pool .entry)) 0) (now (name .entry)) ⌝ }
 {
     let slots = versioned_structs(stream, pool);
     let info = slots.info;
     let metadata = slots.metadata;
     let runtime = slots.runtime;
-    if slot_holds(stream, pool, info, name) {
+    if slot_holds(stream, pool, index, info, name) {
         return true;
     }
-    if slot_holds(stream, pool, metadata, name) {
+    if slot_holds(stream, pool, index, metadata, name) {
         return true;
     }
-    slot_holds(stream, pool, runtime, name)
+    slot_holds(stream, pool, index, runtime, name)
 }
 
 // One released constant against the last current one of its name; the values come first, since most are the same.
-fn check_constant(stream: &[u8], pool: &[u8], old: &[u8], was: Constant) -> Verdict
+fn check_constant(stream: &[u8], pool: &[u8], index: &[u16], old: &[u8], was: Constant) -> Verdict
+    requires { ⌜ Indexed (now stream) (now pool) (now index) ⌝ }
     ensures { λ r. ⌜ meaning (now (pool .entry)) (now (old .entry)) r ≡ checkConstant (structsAt (now (stream .entry)) (now (pool .entry)) 0) (constantsAt (now (stream .entry)) (now (pool .entry)) 0) (constantOf (now (old .entry)) was) ⌝ }
 {
     let name = was.name;
-    let ConstantStep::AConstant(c, _) = last_constant(stream, pool, bytes_of(old, name)) else {
+    let last = last_constant(stream, pool, index, bytes_of(old, name));
+    let ConstantStep::AConstant(c, _) = last else {
         return Verdict::ConstantGone { name };
     };
     let held = value_of(was);
@@ -154,7 +138,7 @@ fn check_constant(stream: &[u8], pool: &[u8], old: &[u8], was: Constant) -> Verd
     if same_value(pool, holds, old, held) {
         return Verdict::Passed;
     }
-    if is_generation(stream, pool, bytes_of(old, name)) {
+    if is_generation(stream, pool, index, bytes_of(old, name)) {
         return Verdict::Passed;
     }
     Verdict::ConstantChanged {
@@ -165,13 +149,21 @@ fn check_constant(stream: &[u8], pool: &[u8], old: &[u8], was: Constant) -> Verd
 }
 
 // The released constants at these places, one after the other.
-fn check_placed(stream: &[u8], pool: &[u8], past: &[u8], old: &[u8], table: &[u32]) -> Verdict
+fn check_placed(
+    stream: &[u8],
+    pool: &[u8],
+    index: &[u16],
+    past: &[u8],
+    old: &[u8],
+    table: &[u32],
+) -> Verdict
+    requires { ⌜ Indexed (now stream) (now pool) (now index) ⌝ }
     ensures { λ r. ⌜ meaning (now (pool .entry)) (now (old .entry)) r ≡ checkConstantsIn (structsAt (now (stream .entry)) (now (pool .entry)) 0) (constantsAt (now (stream .entry)) (now (pool .entry)) 0) (map (placedConstant (now (past .entry)) (now (old .entry))) (now (table .entry))) ⌝ }
 {
     let mut i = 0;
     while i < table.len() {
         let was = placed_constant(past, table[i]);
-        let verdict = check_constant(stream, pool, old, was);
+        let verdict = check_constant(stream, pool, index, old, was);
         if let Verdict::Passed = verdict {
             i += 1;
         } else {
@@ -185,14 +177,15 @@ fn check_placed(stream: &[u8], pool: &[u8], past: &[u8], old: &[u8], table: &[u3
 pub(crate) fn check_constants(
     stream: &[u8],
     pool: &[u8],
+    index: &[u16],
     past: &[u8],
     old: &[u8],
     table: &mut [u32],
     scratch: &mut [u32],
 ) -> Verdict
-    requires { ⌜ (length (now past) ≤ 32768) × Room (now past) (now table) × Room (now past) (now scratch) ⌝ }
+    requires { ⌜ (length (now past) ≤ 32768) × Room (now past) (now table) × Room (now past) (now scratch) × Indexed (now stream) (now pool) (now index) ⌝ }
     ensures { λ r. ⌜ meaning (now (pool .entry)) (now (old .entry)) r ≡ checkConstants (structsAt (now (stream .entry)) (now (pool .entry)) 0) (constantsAt (now (stream .entry)) (now (pool .entry)) 0) (constantsAt (now (past .entry)) (now (old .entry)) 0) ⌝ }
 {
     let n = constant_table(past, old, table, scratch);
-    check_placed(stream, pool, past, old, &table[..n])
+    check_placed(stream, pool, index, past, old, &table[..n])
 }

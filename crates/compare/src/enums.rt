@@ -4,10 +4,10 @@ use record::command::Enum;
 use record::command::Value;
 use record::lists::EnumStep;
 use record::lists::ValueStep;
-use record::lists::find_enum;
 use record::lists::find_value;
 use record::lists::next_enum;
 use record::lists::next_value;
+use record::named::first_enum;
 use record::text::Text;
 use record::text::bytes_of;
 use verdicts::verdict::Verdict;
@@ -15,6 +15,7 @@ ghost use mathlib.Core.Path.{_≡_};
 ghost use Rattle.record.specs.Stretch.{textOf};
 ghost use Rattle.record.specs.Lists.{enumOf, valueOf};
 ghost use Rattle.record.specs.Steps.{enumsAt, valuesAt};
+ghost use Rattle.record.specs.Index.{Indexed};
 ghost use Rattle.definition.specs.Enums.{checkValue, checkValues, checkEnum, checkEnums};
 ghost use Rattle.compare.specs.Sought.{NumberFrom};
 ghost use Rattle.verdicts.specs.Meaning.{meaning};
@@ -100,25 +101,34 @@ fn check_values(
 fn check_enum(
     stream: &[u8],
     pool: &[u8],
+    index: &[u16],
     past: &[u8],
     old: &[u8],
     was: Enum,
     from: Cursor,
 ) -> Verdict
+    requires { ⌜ Indexed (now stream) (now pool) (now index) ⌝ }
     ensures { λ r. ⌜ meaning (now (pool .entry)) (now (old .entry)) r ≡ checkEnum (enumsAt (now (stream .entry)) (now (pool .entry)) 0) (enumOf (now (old .entry)) was (valuesAt (now (past .entry)) (now (old .entry)) (from .at))) ⌝ }
 {
     let ValueStep::AValue(_, _) = next_value(past, from) else {
         return Verdict::Passed;
     };
     let name = was.name;
-    let EnumStep::AnEnum(_, is) = find_enum(stream, pool, Cursor::new(), bytes_of(old, name)) else {
+    let EnumStep::AnEnum(_, is) = first_enum(stream, pool, index, bytes_of(old, name)) else {
         return Verdict::EnumGone { name };
     };
     check_values(stream, pool, past, old, is, name, from)
 }
 
 // The first enum or value of the release that does not stand as it was.
-pub fn check_enums(stream: &[u8], pool: &[u8], past: &[u8], old: &[u8]) -> Verdict
+pub(crate) fn check_enums(
+    stream: &[u8],
+    pool: &[u8],
+    index: &[u16],
+    past: &[u8],
+    old: &[u8],
+) -> Verdict
+    requires { ⌜ Indexed (now stream) (now pool) (now index) ⌝ }
     ensures { λ r. ⌜ meaning (now (pool .entry)) (now (old .entry)) r ≡ checkEnums (enumsAt (now (stream .entry)) (now (pool .entry)) 0) (enumsAt (now (past .entry)) (now (old .entry)) 0) ⌝ }
 {
     let mut cursor = Cursor::new();
@@ -126,7 +136,7 @@ pub fn check_enums(stream: &[u8], pool: &[u8], past: &[u8], old: &[u8]) -> Verdi
         let EnumStep::AnEnum(was, after) = next_enum(past, cursor) else {
             return Verdict::Passed;
         };
-        let verdict = check_enum(stream, pool, past, old, was, after);
+        let verdict = check_enum(stream, pool, index, past, old, was, after);
         if let Verdict::Passed = verdict {
             cursor = after;
         } else {

@@ -1,7 +1,6 @@
 // The pass over the first releases of the plugin API: each says what the last release did. First releases compare as texts.
 use crate::required::required_text;
 use crate::shipped::Shipped;
-use crate::shipped::api_enum;
 use crate::shipped::constant_release;
 use crate::shipped::enum_release;
 use crate::shipped::key_release;
@@ -21,6 +20,7 @@ use record::lists::ValueStep;
 use record::lists::next_constant;
 use record::lists::next_enum;
 use record::lists::next_value;
+use record::named::api_enum;
 use record::operands::OptText;
 use record::text::Text;
 use record::text::bytes_of;
@@ -31,6 +31,7 @@ ghost use mathlib.Core.Path.{_≡_};
 ghost use Rattle.record.specs.Stretch.{textOf};
 ghost use Rattle.record.specs.Lists.{optOf, constantOf, enumOf, valueOf, keyOf};
 ghost use Rattle.record.specs.Steps.{constantsAt, enumsAt, valuesAt, structsAt, unstoredAt, enumFound};
+ghost use Rattle.record.specs.Index.{Indexed};
 ghost use Rattle.record.specs.Keys.{pluginKeys};
 ghost use Rattle.verdicts.specs.Arguments.{itemOf};
 ghost use Rattle.compare.specs.Shipped.{shippedOf};
@@ -93,10 +94,12 @@ fn check_constant_arrival(
     pool: &[u8],
     past: &[u8],
     old: &[u8],
+    index: &[u16],
     current: Text,
     copy: OptText,
     is: Constant,
 ) -> Verdict
+    requires { ⌜ Indexed (now past) (now old) (now index) ⌝ }
     ensures { λ r. ⌜ meaning (now (pool .entry)) (now (old .entry)) r ≡ checkConstantArrival (textOf (now (pool .entry)) current) (optOf (now (old .entry)) copy) (constantsAt (now (past .entry)) (now (old .entry)) 0) (constantOf (now (pool .entry)) is) ⌝ }
 {
     if !is.ora_api {
@@ -107,7 +110,7 @@ fn check_constant_arrival(
         return Verdict::Passed;
     };
     let name = is.name;
-    let was = constant_release(past, old, bytes_of(pool, name));
+    let was = constant_release(past, old, index, bytes_of(pool, name));
     check_arrival(pool, old, current, copy, Item::Constant(name), names, was)
 }
 
@@ -117,9 +120,11 @@ fn check_constant_arrivals(
     pool: &[u8],
     past: &[u8],
     old: &[u8],
+    index: &[u16],
     current: Text,
     copy: OptText,
 ) -> Verdict
+    requires { ⌜ Indexed (now past) (now old) (now index) ⌝ }
     ensures { λ r. ⌜ meaning (now (pool .entry)) (now (old .entry)) r ≡ checkConstantArrivals (textOf (now (pool .entry)) current) (optOf (now (old .entry)) copy) (constantsAt (now (stream .entry)) (now (pool .entry)) 0) (constantsAt (now (past .entry)) (now (old .entry)) 0) ⌝ }
 {
     let mut cursor = Cursor::new();
@@ -127,7 +132,7 @@ fn check_constant_arrivals(
         let ConstantStep::AConstant(is, after) = next_constant(stream, cursor) else {
             return Verdict::Passed;
         };
-        let verdict = check_constant_arrival(pool, past, old, current, copy, is);
+        let verdict = check_constant_arrival(pool, past, old, index, current, copy, is);
         if let Verdict::Passed = verdict {
             cursor = after;
         } else {
@@ -226,11 +231,13 @@ fn check_enum_arrival(
     pool: &[u8],
     past: &[u8],
     old: &[u8],
+    index: &[u16],
     current: Text,
     copy: OptText,
     is: Enum,
     from: Cursor,
 ) -> Verdict
+    requires { ⌜ Indexed (now past) (now old) (now index) ⌝ }
     ensures { λ r. ⌜ meaning (now (pool .entry)) (now (old .entry)) r ≡ checkEnumArrival (textOf (now (pool .entry)) current) (optOf (now (old .entry)) copy) (enumsAt (now (past .entry)) (now (old .entry)) 0) (enumOf (now (pool .entry)) is (valuesAt (now (stream .entry)) (now (pool .entry)) (from .at))) ⌝ }
 {
     if !is.ora_api {
@@ -241,7 +248,7 @@ fn check_enum_arrival(
         return Verdict::Passed;
     };
     let name = is.name;
-    let was = api_enum(past, old, bytes_of(pool, name));
+    let was = api_enum(past, old, index, bytes_of(pool, name));
     let verdict = check_arrival(
         pool,
         old,
@@ -263,9 +270,11 @@ fn check_enum_arrivals(
     pool: &[u8],
     past: &[u8],
     old: &[u8],
+    index: &[u16],
     current: Text,
     copy: OptText,
 ) -> Verdict
+    requires { ⌜ Indexed (now past) (now old) (now index) ⌝ }
     ensures { λ r. ⌜ meaning (now (pool .entry)) (now (old .entry)) r ≡ checkEnumArrivals (textOf (now (pool .entry)) current) (optOf (now (old .entry)) copy) (enumsAt (now (stream .entry)) (now (pool .entry)) 0) (enumsAt (now (past .entry)) (now (old .entry)) 0) ⌝ }
 {
     let mut cursor = Cursor::new();
@@ -273,7 +282,7 @@ fn check_enum_arrivals(
         let EnumStep::AnEnum(is, after) = next_enum(stream, cursor) else {
             return Verdict::Passed;
         };
-        let verdict = check_enum_arrival(stream, pool, past, old, current, copy, is, after);
+        let verdict = check_enum_arrival(stream, pool, past, old, index, current, copy, is, after);
         if let Verdict::Passed = verdict {
             cursor = after;
         } else {
@@ -326,21 +335,23 @@ fn check_key_arrivals(
 }
 
 // The constants, then the enums with their values, then the plugin keys.
-pub fn check_first_releases(
+pub(crate) fn check_first_releases(
     stream: &[u8],
     pool: &[u8],
     past: &[u8],
     old: &[u8],
+    index: &[u16],
     current: Text,
     copy: OptText,
 ) -> Verdict
+    requires { ⌜ Indexed (now past) (now old) (now index) ⌝ }
     ensures { λ r. ⌜ meaning (now (pool .entry)) (now (old .entry)) r ≡ checkFirstReleases (textOf (now (pool .entry)) current) (optOf (now (old .entry)) copy) (constantsAt (now (stream .entry)) (now (pool .entry)) 0) (constantsAt (now (past .entry)) (now (old .entry)) 0) (enumsAt (now (stream .entry)) (now (pool .entry)) 0) (enumsAt (now (past .entry)) (now (old .entry)) 0) (pluginKeys (structsAt (now (stream .entry)) (now (pool .entry)) 0) (unstoredAt (now (stream .entry)) (now (pool .entry)) 0)) (pluginKeys (structsAt (now (past .entry)) (now (old .entry)) 0) (unstoredAt (now (past .entry)) (now (old .entry)) 0)) ⌝ }
 {
-    let constants = check_constant_arrivals(stream, pool, past, old, current, copy);
+    let constants = check_constant_arrivals(stream, pool, past, old, index, current, copy);
     let Verdict::Passed = constants else {
         return constants;
     };
-    let enums = check_enum_arrivals(stream, pool, past, old, current, copy);
+    let enums = check_enum_arrivals(stream, pool, past, old, index, current, copy);
     let Verdict::Passed = enums else {
         return enums;
     };

@@ -12,9 +12,9 @@ use record::generation::generation_constant;
 use record::lists::ConstantStep;
 use record::lists::StructStep;
 use record::lists::VersionStep;
-use record::lists::find_constant;
 use record::lists::next_version;
 use record::marks::mark_owners;
+use record::named::first_constant;
 use record::operands::OptText;
 use record::sizes::wide;
 use record::text::Text;
@@ -34,8 +34,8 @@ ghost use Rattle.record.specs.Stretch.{textOf};
 ghost use Rattle.record.specs.Scalars.{scalarsOf};
 ghost use Rattle.record.specs.Lists.{optOf, constantOf};
 ghost use Rattle.record.specs.Steps.{constantsAt, constantIn, structsAt, structFound, versionsAt};
-ghost use Rattle.record.specs.Owner.{withName};
 ghost use Rattle.record.specs.Index.{Indexed};
+ghost use Rattle.record.specs.Owner.{withName};
 ghost use Rattle.record.specs.References.{typesAt};
 ghost use Rattle.record.specs.Reading.{rec};
 ghost use Rattle.record.specs.Versioned.{versioned, InSlots};
@@ -183,6 +183,7 @@ fn check_against(
     types: &[u32],
     past: &[u8],
     old: &[u8],
+    old_index: &[u16],
     cover: &[u32],
     root: Text,
     constant: Text,
@@ -190,9 +191,10 @@ fn check_against(
     current: Text,
     copy: OptText,
 ) -> Verdict
+    requires { ⌜ Indexed (now past) (now old) (now «old_index») ⌝ }
     ensures { λ r. ⌜ meaning (now (pool .entry)) (now (old .entry)) r ≡ checkAgainst (textOf (now (pool .entry)) current) (optOf (now (old .entry)) copy) (versionsAt (now (stream .entry)) (now (pool .entry)) 0) (touchedBy (now (stream .entry)) (now (pool .entry)) (now (types .entry)) (now (cover .entry)) (textOf (now (pool .entry)) root)) (textOf (now (pool .entry)) root) (textOf (now (pool .entry)) constant) is (constantIn (textOf (now (pool .entry)) constant) (constantsAt (now (past .entry)) (now (old .entry)) 0)) ⌝ }
 {
-    let found = find_constant(past, old, Cursor::new(), bytes_of(pool, constant));
+    let found = first_constant(past, old, old_index, bytes_of(pool, constant));
     let ConstantStep::AConstant(was, _) = found else {
         return Verdict::Passed;
     };
@@ -214,17 +216,20 @@ fn check_against(
 fn check_generation(
     stream: &[u8],
     pool: &[u8],
+    index: &[u16],
     types: &[u32],
     past: &[u8],
     old: &[u8],
+    old_index: &[u16],
     cover: &[u32],
     root: Text,
     current: Text,
     copy: OptText,
 ) -> Verdict
+    requires { ⌜ Indexed (now stream) (now pool) (now index) × Indexed (now past) (now old) (now «old_index») ⌝ }
     ensures { λ r. ⌜ meaning (now (pool .entry)) (now (old .entry)) r ≡ checkGeneration (textOf (now (pool .entry)) current) (optOf (now (old .entry)) copy) (versionsAt (now (stream .entry)) (now (pool .entry)) 0) (structsAt (now (stream .entry)) (now (pool .entry)) 0) (constantsAt (now (stream .entry)) (now (pool .entry)) 0) (constantsAt (now (past .entry)) (now (old .entry)) 0) (touchedBy (now (stream .entry)) (now (pool .entry)) (now (types .entry)) (now (cover .entry))) (textOf (now (pool .entry)) root) ⌝ }
 {
-    let held = generation_constant(stream, pool, bytes_of(pool, root));
+    let held = generation_constant(stream, pool, index, bytes_of(pool, root));
     let Generation::Held(constant, is) = held else {
         return Verdict::NoConstant { name: root };
     };
@@ -234,6 +239,7 @@ fn check_generation(
         types,
         past,
         old,
+        old_index,
         cover,
         root,
         constant,
@@ -247,72 +253,139 @@ fn check_generation(
 fn check_slot(
     stream: &[u8],
     pool: &[u8],
+    index: &[u16],
     types: &[u32],
     past: &[u8],
     old: &[u8],
+    old_index: &[u16],
     cover: &[u32],
     slot: StructStep,
     current: Text,
     copy: OptText,
 ) -> Verdict
+    requires { ⌜ Indexed (now stream) (now pool) (now index) × Indexed (now past) (now old) (now «old_index») ⌝ }
     ensures { λ r. ⌜ meaning (now (pool .entry)) (now (old .entry)) r ≡ checkRoots (textOf (now (pool .entry)) current) (optOf (now (old .entry)) copy) (versionsAt (now (stream .entry)) (now (pool .entry)) 0) (structsAt (now (stream .entry)) (now (pool .entry)) 0) (constantsAt (now (stream .entry)) (now (pool .entry)) 0) (constantsAt (now (past .entry)) (now (old .entry)) 0) (touchedBy (now (stream .entry)) (now (pool .entry)) (now (types .entry)) (now (cover .entry))) (withName (structFound (now (stream .entry)) (now (pool .entry)) slot) []) ⌝ }
 {
     let StructStep::AStruct(root, _) = slot else {
         return Verdict::Passed;
     };
     let name = root.name;
-    check_generation(stream, pool, types, past, old, cover, name, current, copy)
+    check_generation(
+        stream,
+        pool,
+        index,
+        types,
+        past,
+        old,
+        old_index,
+        cover,
+        name,
+        current,
+        copy,
+    )
 }
 
 // The roots in the order of their slots.
 fn check_roots(
     stream: &[u8],
     pool: &[u8],
+    index: &[u16],
     types: &[u32],
     past: &[u8],
     old: &[u8],
+    old_index: &[u16],
     cover: &[u32],
     slots: Versioned,
     current: Text,
     copy: OptText,
 ) -> Verdict
-    requires { ⌜ InSlots (now stream) (now pool) slots ⌝ }
+    requires { ⌜ InSlots (now stream) (now pool) slots × Indexed (now stream) (now pool) (now index) × Indexed (now past) (now old) (now «old_index») ⌝ }
     ensures { λ r. ⌜ meaning (now (pool .entry)) (now (old .entry)) r ≡ checkRoots (textOf (now (pool .entry)) current) (optOf (now (old .entry)) copy) (versionsAt (now (stream .entry)) (now (pool .entry)) 0) (structsAt (now (stream .entry)) (now (pool .entry)) 0) (constantsAt (now (stream .entry)) (now (pool .entry)) 0) (constantsAt (now (past .entry)) (now (old .entry)) 0) (touchedBy (now (stream .entry)) (now (pool .entry)) (now (types .entry)) (now (cover .entry))) (versioned (structsAt (now (stream .entry)) (now (pool .entry)) 0)) ⌝ }
 {
     let first = slots.info;
     let second = slots.metadata;
     let third = slots.runtime;
-    let info = check_slot(stream, pool, types, past, old, cover, first, current, copy);
+    let info = check_slot(
+        stream,
+        pool,
+        index,
+        types,
+        past,
+        old,
+        old_index,
+        cover,
+        first,
+        current,
+        copy,
+    );
     let Verdict::Passed = info else {
         return info;
     };
-    let metadata = check_slot(stream, pool, types, past, old, cover, second, current, copy);
+    let metadata = check_slot(
+        stream,
+        pool,
+        index,
+        types,
+        past,
+        old,
+        old_index,
+        cover,
+        second,
+        current,
+        copy,
+    );
     let Verdict::Passed = metadata else {
         return metadata;
     };
-    check_slot(stream, pool, types, past, old, cover, third, current, copy)
+    check_slot(
+        stream,
+        pool,
+        index,
+        types,
+        past,
+        old,
+        old_index,
+        cover,
+        third,
+        current,
+        copy,
+    )
 }
 
 // The first changed type that no number covers, then the first root whose number is not what it has to be.
 fn check_filled(
     stream: &[u8],
     pool: &[u8],
+    index: &[u16],
     types: &[u32],
     past: &[u8],
     old: &[u8],
+    old_index: &[u16],
     cover: &[u32],
     slots: Versioned,
     current: Text,
     copy: OptText,
 ) -> Verdict
-    requires { ⌜ InSlots (now stream) (now pool) slots ⌝ }
+    requires { ⌜ InSlots (now stream) (now pool) slots × Indexed (now stream) (now pool) (now index) × Indexed (now past) (now old) (now «old_index») ⌝ }
     ensures { λ r. ⌜ meaning (now (pool .entry)) (now (old .entry)) r ≡ (meaning (now (pool .entry)) (now (old .entry)) (firstUncovered (now (stream .entry)) (now (types .entry)) (now (cover .entry))) then checkRoots (textOf (now (pool .entry)) current) (optOf (now (old .entry)) copy) (versionsAt (now (stream .entry)) (now (pool .entry)) 0) (structsAt (now (stream .entry)) (now (pool .entry)) 0) (constantsAt (now (stream .entry)) (now (pool .entry)) 0) (constantsAt (now (past .entry)) (now (old .entry)) 0) (touchedBy (now (stream .entry)) (now (pool .entry)) (now (types .entry)) (now (cover .entry))) (versioned (structsAt (now (stream .entry)) (now (pool .entry)) 0))) ⌝ }
 {
     let covered = check_covered(stream, types, cover);
     let Verdict::Passed = covered else {
         return covered;
     };
-    check_roots(stream, pool, types, past, old, cover, slots, current, copy)
+    check_roots(
+        stream,
+        pool,
+        index,
+        types,
+        past,
+        old,
+        old_index,
+        cover,
+        slots,
+        current,
+        copy,
+    )
 }
 
 // The pass; the marks of the owners and the table of what covers each type are lent to it.
@@ -325,6 +398,7 @@ pub(crate) fn check_generations(
     sizes: &[u64],
     past: &[u8],
     old: &[u8],
+    old_index: &[u16],
     shipped: &[u32],
     widths: &[u64],
     marks: &mut [u8],
@@ -332,7 +406,7 @@ pub(crate) fn check_generations(
     current: Text,
     copy: OptText,
 ) -> Verdict
-    requires { ⌜ Tables (rec (now stream) (now pool) (scalarsOf (now rows))) (now types) (now sizes) × Tables (rec (now past) (now old) (scalarsOf (now rows))) (now shipped) (now widths) × (length (now stream) ≤ length (now marks)) × (length (now types) ≤ length (now cover)) × Indexed (now stream) (now pool) (now index) ⌝ }
+    requires { ⌜ Tables (rec (now stream) (now pool) (scalarsOf (now rows))) (now types) (now sizes) × Tables (rec (now past) (now old) (scalarsOf (now rows))) (now shipped) (now widths) × (length (now stream) ≤ length (now marks)) × (length (now types) ≤ length (now cover)) × Indexed (now stream) (now pool) (now index) × Indexed (now past) (now old) (now «old_index») ⌝ }
     ensures { λ r. ⌜ meaning (now (pool .entry)) (now (old .entry)) r ≡ checkGenerations (textOf (now (pool .entry)) current) (optOf (now (old .entry)) copy) (versionsAt (now (stream .entry)) (now (pool .entry)) 0) (typesAt (now (stream .entry)) (now (pool .entry))) (constantsAt (now (stream .entry)) (now (pool .entry)) 0) (constantsAt (now (past .entry)) (now (old .entry)) 0) (changedTypes (rec (now (stream .entry)) (now (pool .entry)) (scalarsOf (now (rows .entry)))) (rec (now (past .entry)) (now (old .entry)) (scalarsOf (now (rows .entry))))) ⌝ }
 {
     let slots = versioned_structs(stream, pool);
@@ -352,5 +426,17 @@ pub(crate) fn check_generations(
         index,
         cover,
     );
-    check_filled(stream, pool, types, past, old, cover, slots, current, copy)
+    check_filled(
+        stream,
+        pool,
+        index,
+        types,
+        past,
+        old,
+        old_index,
+        cover,
+        slots,
+        current,
+        copy,
+    )
 }

@@ -1,5 +1,4 @@
 // What the copy of the last release says of one item of the plugin API. Of two of one name the later counts, and one outside the plugin API does not.
-use record::command::Cursor;
 use record::dates::member_release;
 use record::keys::PluginKeyStep;
 use record::keys::first_key;
@@ -8,19 +7,16 @@ use record::lists::ConstantStep;
 use record::lists::EnumStep;
 use record::lists::ValueStep;
 use record::lists::find_value;
-use record::lists::next_constant;
-use record::lists::next_enum;
+use record::named::api_constant;
 use record::operands::OptText;
 use record::text::Text;
 use record::text::bytes_of;
 use record::text::same;
 ghost use mathlib.Core.Path.{_≡_};
-ghost use mathlib.Core.Bool.{_&&_};
-ghost use Rattle.record.specs.Base.{eqs};
-ghost use Rattle.record.specs.Stretch.{textOf};
-ghost use Rattle.record.specs.Steps.{constantsAt, enumsAt, structsAt, unstoredAt, enumFound};
+ghost use Rattle.record.specs.Steps.{constantsAt, structsAt, unstoredAt, enumFound};
+ghost use Rattle.record.specs.Index.{Indexed};
 ghost use Rattle.record.specs.Keys.{pluginKeys};
-ghost use Rattle.definition.specs.FirstReleases.{constantRelease, apiEnum, valueRelease, keyRelease};
+ghost use Rattle.definition.specs.FirstReleases.{constantRelease, valueRelease, keyRelease};
 ghost use Rattle.compare.specs.Shipped.{shippedOf, ShippedWith, EnumShipped};
 
 pub enum Shipped {
@@ -42,51 +38,16 @@ pub fn shipped_with(release: OptText) -> Shipped
     }
 }
 
-// Whether an item of the copy is of the plugin API and has that name.
-fn counts(old: &[u8], api: bool, own: Text, name: &[u8]) -> bool
-    ensures { λ r. ⌜ r ≡ (api && eqs (textOf (now (old .entry)) own) (now (name .entry))) ⌝ }
-{
-    if api {
-        return same(bytes_of(old, own), name);
-    }
-    false
-}
-
 // What the copy says of a constant.
-pub fn constant_release(past: &[u8], old: &[u8], name: &[u8]) -> Shipped
+pub(crate) fn constant_release(past: &[u8], old: &[u8], index: &[u16], name: &[u8]) -> Shipped
+    requires { ⌜ Indexed (now past) (now old) (now index) ⌝ }
     ensures { λ r. ⌜ shippedOf (now (old .entry)) r ≡ constantRelease (now (name .entry)) (constantsAt (now (past .entry)) (now (old .entry)) 0) ⌝ }
 {
-    let mut found = Shipped::Absent;
-    let mut cursor = Cursor::new();
-    loop {
-        let ConstantStep::AConstant(c, after) = next_constant(past, cursor) else {
-            return found;
-        };
-        cursor = after;
-        let own = c.name;
-        let release = c.first_release;
-        if counts(old, c.ora_api, own, name) {
-            found = shipped_with(release);
-        }
-    }
-}
-
-// The copy's enum of that name, with the cursor at its values.
-pub fn api_enum(past: &[u8], old: &[u8], name: &[u8]) -> EnumStep
-    ensures { λ r. ⌜ apiEnum (now (name .entry)) (enumsAt (now (past .entry)) (now (old .entry)) 0) ≡ enumFound (now (past .entry)) (now (old .entry)) r ⌝ }
-{
-    let mut found = EnumStep::NoEnum;
-    let mut cursor = Cursor::new();
-    loop {
-        let EnumStep::AnEnum(e, after) = next_enum(past, cursor) else {
-            return found;
-        };
-        cursor = after;
-        let own = e.name;
-        if counts(old, e.ora_api, own, name) {
-            found = EnumStep::AnEnum(e, after);
-        }
-    }
+    let ConstantStep::AConstant(c, _) = api_constant(past, old, index, name) else {
+        return Shipped::Absent;
+    };
+    let release = c.first_release;
+    shipped_with(release)
 }
 
 // What the copy says of an enum that was looked up there.

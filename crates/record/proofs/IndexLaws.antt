@@ -9,15 +9,15 @@ use borrow.Author.Tests.{eq-eqb, ne-eqb, eqb-true, eqb-false, lt-ltb, le-ltb, lt
 use lib.Dec.{eqb, ltb}
 use lib.ListN.{length, getD, set, drop, length-set, List·getD-eq-default}
 use lib.Seq.{getD-set-same, getD-set-other}
-use Rattle.record.specs.Base.{Str, bytes, eqs, find, any, isSome}
+use Rattle.record.specs.Base.{Str, bytes, eqs, find, lastOr, findLast, any, isSome}
 use Rattle.record.specs.Stretch.{textOf}
 use Rattle.record.specs.Operands.{textAt, flagAt}
 use Rattle.record.specs.Schema.{Family}
 use Rattle.record.specs.Commands.{operands, wide, widths, widthWith, widthOf, stepAt, commandsAt}
-use Rattle.record.specs.Lists.{anything, listed, aliases, enums, values, bitfields, members, structs, fields, families, variants}
-use Rattle.record.specs.Steps.{valuesAt, membersAt, fieldsAt, variantsAt, aliasesAt, enumsAt, bitfieldsAt, structsAt, familiesAt, aliasIn, enumIn, bitfieldIn, structIn, familyIn}
+use Rattle.record.specs.Lists.{anything, listed, constants, aliases, enums, values, bitfields, members, structs, fields, families, variants}
+use Rattle.record.specs.Steps.{valuesAt, membersAt, fieldsAt, variantsAt, constantsAt, aliasesAt, enumsAt, bitfieldsAt, structsAt, familiesAt, constantIn, aliasIn, enumIn, bitfieldIn, structIn, familyIn}
 use Rattle.record.specs.Seek.{afterAt}
-use Rattle.record.specs.Index.{hashOf, declaredName, declares, isNamed, isAlone, onto, declaring, declaredPlaces, keyAt, putAt, latest, Linked, IndexRoom, Chained, Indexed, hitIn, linkBefore, Headless, FirstNamed, soughtAt, aliasPlaced, enumPlaced, bitfieldPlaced, structPlaced, familyPlaced, PlaceNamed, Declared, Alone}
+use Rattle.record.specs.Index.{hashOf, declaredName, declares, isNamed, isFlagged, counts, onto, declaring, declaredPlaces, keyAt, putAt, latest, Linked, IndexRoom, Chained, Indexed, hitIn, firstIn, linkBefore, Headless, FirstNamed, LastNamed, soughtAt, constantPlaced, aliasPlaced, enumPlaced, bitfieldPlaced, structPlaced, familyPlaced, PlaceNamed, Declared, LastDeclared, Alone}
 use Rattle.record.specs.declared.text.Text.{Text}
 use Rattle.record.specs.declared.command.Cursor.{Cursor}
 use Rattle.record.specs.declared.command.Command.{Command}
@@ -71,27 +71,32 @@ module _ (b : ℕ) where
   unfolding declares
   declares-enum e = rw e
 
-  pub declares-bits : (b ≡ 8 → ⊥) → (b ≡ 9 → ⊥) → (b ≡ 3 → ⊥) → (b ≡ 4 → ⊥) → eqb b 6 ≡ declares b
+  pub declares-constant : b ≡ 2 → true ≡ declares b
   unfolding declares
-  declares-bits h i j k = rw (ne-eqb b 8 h, ne-eqb b 9 i, ne-eqb b 3 j, ne-eqb b 4 k)
+  declares-constant e = rw e
+
+  pub declares-bits : (b ≡ 8 → ⊥) → (b ≡ 9 → ⊥) → (b ≡ 3 → ⊥) → (b ≡ 4 → ⊥) → (b ≡ 2 → ⊥) → eqb b 6 ≡ declares b
+  unfolding declares
+  declares-bits h i j k l = rw (ne-eqb b 8 h, ne-eqb b 9 i, ne-eqb b 3 j, ne-eqb b 4 k, ne-eqb b 2 l)
 
   -- such a command takes seven bytes at least
   declares-wide : declares b ≡ true → 7 ≤ widthOf b
   unfolding declares widthOf widthWith operands widths wide bytes
-  declares-wide e = go (eqb b 8) (eqb b 9) (eqb b 3) (eqb b 4) (eqb b 6) refl refl refl refl refl e
+  declares-wide e = go (eqb b 8) (eqb b 9) (eqb b 3) (eqb b 4) (eqb b 2) (eqb b 6) refl refl refl refl refl refl e
     where
       of : (k : ℕ) → eqb b k ≡ true → 7 ≤ widthOf k → 7 ≤ widthOf b
       of k h l = subst (λ (x : ℕ). 7 ≤ widthOf x) (sym (eqb-true b k h)) l
 
-      go : (v w x y z : Bool) → eqb b 8 ≡ v → eqb b 9 ≡ w → eqb b 3 ≡ x → eqb b 4 ≡ y → eqb b 6 ≡ z → cond v true (cond w true (cond x true (cond y true z))) ≡ true → 7 ≤ widthOf b
-      go true w x y z h i j k l q = of 8 h (omega arith)
-      go false true x y z h i j k l q = of 9 i (omega arith)
-      go false false true y z h i j k l q = of 3 j (omega arith)
-      go false false false true z h i j k l q = of 4 k (omega arith)
-      go false false false false true h i j k l q = of 6 l (omega arith)
-      go false false false false false h i j k l q = absurd (false≢true q)
+      go : (v w x y z u : Bool) → eqb b 8 ≡ v → eqb b 9 ≡ w → eqb b 3 ≡ x → eqb b 4 ≡ y → eqb b 2 ≡ z → eqb b 6 ≡ u → cond v true (cond w true (cond x true (cond y true (cond z true u)))) ≡ true → 7 ≤ widthOf b
+      go true w x y z u h i j k l m q = of 8 h (omega arith)
+      go false true x y z u h i j k l m q = of 9 i (omega arith)
+      go false false true y z u h i j k l m q = of 3 j (omega arith)
+      go false false false true z u h i j k l m q = of 4 k (omega arith)
+      go false false false false true u h i j k l m q = of 2 l (omega arith)
+      go false false false false false true h i j k l m q = of 6 m (omega arith)
+      go false false false false false false h i j k l m q = absurd (false≢true q)
 
-pub ruleset declares-laws = (declares-struct, declares-family, declares-alias, declares-enum, declares-bits)
+pub ruleset declares-laws = (declares-struct, declares-family, declares-alias, declares-enum, declares-constant, declares-bits)
 
 module _ (s p : Str) (b at : ℕ) (n : Str) (y : ℕ) (e : y ≡ getD s at 0) where
   pub named-other : (y ≡ b → ⊥) → false ≡ isNamed s p b n at
@@ -104,6 +109,35 @@ module _ (s p : Str) (b at : ℕ) (n : Str) (y : ℕ) (e : y ≡ getD s at 0) wh
 
 pub ruleset is-named-laws = (named-other, named-same)
 
+pub flagged-any : (s : Str) (f at : ℕ) → f ≡ 0 → true ≡ isFlagged s f at
+unfolding isFlagged
+flagged-any s f at e = rw e
+
+pub flagged-set : (s : Str) (f at : ℕ) → (f ≡ 0 → ⊥) → (y : Str) (v : Bool) → y ≡ drop at s → v ≡ flagAt y f → v ≡ isFlagged s f at
+unfolding isFlagged
+flagged-set s f at h y v d e = rw (ne-eqb f 0 h) (e ∙ ap (λ (z : Str). flagAt z f) d)
+
+pub ruleset flagged-laws = (flagged-any, flagged-set)
+
+and-false : (v : Bool) → v && false ≡ false
+and-false true = refl
+and-false false = refl
+
+and-true : (v : Bool) → v && true ≡ v
+and-true true = refl
+and-true false = refl
+
+module _ (s p : Str) (b f : ℕ) (n : Str) (at : ℕ) (v : Bool) (e : v ≡ isNamed s p b n at) where
+  pub counts-flag : v ≡ true → (w : Bool) → w ≡ isFlagged s f at → w ≡ counts s p b f n at
+  unfolding counts
+  counts-flag h w g = rw (← e, h) (g ∙ sym (and-true (isFlagged s f at)))
+
+  pub counts-other : v ≡ false → false ≡ counts s p b f n at
+  unfolding counts
+  counts-other h = rw (← e, h) (sym (and-false (isFlagged s f at)))
+
+pub ruleset counts-laws = (counts-flag, counts-other)
+
 -- a command of the name has the name's number
 other-number : (s p : Str) (b : ℕ) (n : Str) (at : ℕ) → eqb (keyAt s p at) (hashOf n) ≡ false → isNamed s p b n at ≡ false
 unfolding isNamed keyAt
@@ -113,6 +147,10 @@ other-number s p b n at h = go (eqb (getD s at 0) b) (eqs (declaredName s p at) 
     go true true e = absurd (eqb-false _ _ h (ap hashOf (eqs→eq _ _ e)))
     go true false e = refl
     go false w e = refl
+
+flag-other : (s p : Str) (b f : ℕ) (n : Str) (at : ℕ) → eqb (keyAt s p at) (hashOf n) ≡ false → counts s p b f n at ≡ false
+unfolding counts
+flag-other s p b f n at h = ap (λ (v : Bool). isFlagged s f at && v) (other-number s p b n at h) ∙ and-false (isFlagged s f at)
 
 -- an index while it is filled --------------------------------------------------------------------------------------------
 
@@ -340,107 +378,182 @@ before-falls x at = go (ltb at (getD x (256 + at / 7) 0)) refl
 pub link-falls : (x : List ℕ) (link at to : ℕ) → (link ≡ 0 → ⊥) → at ≡ link - 1 → to ≡ linkBefore x at → to < link
 link-falls x link at to z e f = let h = before-falls x at in omega arith
 
-module _ (s p : Str) (x : List ℕ) (n : Str) (test : ℕ → Bool) where
+-- a test that none passes but commands of the name
+module _ (s p : Str) (x : List ℕ) (n : Str) (test : ℕ → Bool) (other : (q : ℕ) → eqb (keyAt s p q) (hashOf n) ≡ false → test q ≡ false) where
   abbrev key : ℕ → ℕ
   key = keyAt s p
+
+  -- where no place has the number, none passes
+  none-hit : (l : List ℕ) (f : ℕ) → latest key (hashOf n) l ≡ 0 → hitIn test l f ≡ f
+  unfolding latest hitIn
+  none-hit [] f e = refl
+  none-hit (q ∷ l) f e = go (none-hit l f) (eqb (key q) (hashOf n)) refl e
+    where
+      go : (latest key (hashOf n) l ≡ 0 → hitIn test l f ≡ f) → (v : Bool) → eqb (key q) (hashOf n) ≡ v → cond v (suc q) (latest key (hashOf n) l) ≡ 0 → hitIn test l (cond (test q) (suc q) f) ≡ f
+      go ih true h g = absurd (omega arith)
+      go ih false h g = ap (λ (v : Bool). hitIn test l (cond v (suc q) f)) (other q h) ∙ ih g
+
+  none-first : (l : List ℕ) → latest key (hashOf n) l ≡ 0 → firstIn test l ≡ 0
+  unfolding latest firstIn
+  none-first [] e = refl
+  none-first (q ∷ l) e = go (none-first l) (eqb (key q) (hashOf n)) refl e
+    where
+      go : (latest key (hashOf n) l ≡ 0 → firstIn test l ≡ 0) → (v : Bool) → eqb (key q) (hashOf n) ≡ v → cond v (suc q) (latest key (hashOf n) l) ≡ 0 → cond (test q) (suc q) (firstIn test l) ≡ 0
+      go ih true h g = absurd (omega arith)
+      go ih false h g = ap (λ (v : Bool). cond v (suc q) (firstIn test l)) (other q h) ∙ ih g
+
+  -- the places after the first that has the number
+  record Beyond (l : List ℕ) (q : ℕ) : Type 0 where
+    rest : List ℕ
+    linked : Linked x key q rest
+    entry : getD x (256 + q / 7) 0 ≡ latest key (hashOf n) rest
+    same : (f : ℕ) → hitIn test l f ≡ hitIn test rest (cond (test q) (suc q) f)
+    first : firstIn test l ≡ cond (test q) (suc q) (firstIn test rest)
+
+  beyond : (l : List ℕ) (top q : ℕ) → Linked x key top l → latest key (hashOf n) l ≡ suc q → Beyond l q
+  unfolding latest Linked hitIn firstIn
+  beyond [] top q i e = absurd (omega arith)
+  beyond (r ∷ l) top q i e = go (beyond l r q (i .2)) (eqb (key r) (hashOf n)) refl e
+    where
+      go : (latest key (hashOf n) l ≡ suc q → Beyond l q) → (v : Bool) → eqb (key r) (hashOf n) ≡ v → cond v (suc r) (latest key (hashOf n) l) ≡ suc q → Beyond (r ∷ l) q
+      go ih true h g =
+          let j : r ≡ q = omega arith in
+          subst (Beyond (r ∷ l)) j (record {
+            rest = l;
+            linked = i .2;
+            entry = i .1 ∙ ap (λ (k : ℕ). latest key k l) (eqb-true (key r) (hashOf n) h);
+            same = λ f. refl;
+            first = refl;
+          })
+      go ih false h g =
+          let j = ih g in
+          record {
+            rest = j .rest;
+            linked = j .linked;
+            entry = j .entry;
+            same = λ f. ap (λ (v : Bool). hitIn test l (cond v (suc r) f)) (other r h) ∙ j .same f;
+            first = ap (λ (v : Bool). cond v (suc r) (firstIn test l)) (other r h) ∙ j .first;
+          }
+
+  -- the entry of a place leads to the next one of the number
+  entry-next : (l : List ℕ) (q to : ℕ) (j : Beyond l q) → to ≡ linkBefore x q → to ≡ latest key (hashOf n) (j .rest)
+  entry-next l q to j f = f ∙ sym (link-there x q _ refl (subst (λ (m : ℕ). m ≤ q) (sym (j .entry)) (latest-below key x (hashOf n) q (j .rest) (j .linked)))) ∙ j .entry
+
+module _ (s p : Str) (x : List ℕ) (b : ℕ) (n : Str) where
+  abbrev named-test : ℕ → Bool
+  named-test = isNamed s p b n
 
   -- what is left to see, and what was seen last
   pub record Reached (link found : ℕ) : Type 0 where
     pub rest : List ℕ
     pub top : ℕ
-    pub linked : Linked x key top rest
-    pub is : link ≡ latest key (hashOf n) rest
-    pub same : hitIn test (declaredPlaces s) 0 ≡ hitIn test rest found
+    pub linked : Linked x (keyAt s p) top rest
+    pub is : link ≡ latest (keyAt s p) (hashOf n) rest
+    pub same : hitIn named-test (declaredPlaces s) 0 ≡ hitIn named-test rest found
 
-  reached-start : (h link : ℕ) → h ≡ hashOf n → link ≡ getD x h 0 → Indexed s p x → Reached link 0
-  reached-start h link e f i = record {
-    rest = declaredPlaces s;
-    top = length s;
-    linked = i .chained .linked;
-    is = f ∙ ap (λ (k : ℕ). getD x k 0) e ∙ i .chained .heads (hashOf n) (hash-below n);
-    same = refl;
-  }
-
-  -- a place that passes the test has the name's number
-  module _ (other : (q : ℕ) → eqb (key q) (hashOf n) ≡ false → test q ≡ false) where
-    -- where no place has the number, none passes
-    none-hit : (l : List ℕ) (f : ℕ) → latest key (hashOf n) l ≡ 0 → hitIn test l f ≡ f
-    unfolding latest hitIn
-    none-hit [] f e = refl
-    none-hit (q ∷ l) f e = go (none-hit l f) (eqb (key q) (hashOf n)) refl e
-      where
-        go : (latest key (hashOf n) l ≡ 0 → hitIn test l f ≡ f) → (v : Bool) → eqb (key q) (hashOf n) ≡ v → cond v (suc q) (latest key (hashOf n) l) ≡ 0 → hitIn test l (cond (test q) (suc q) f) ≡ f
-        go ih true h g = absurd (omega arith)
-        go ih false h g = ap (λ (v : Bool). hitIn test l (cond v (suc q) f)) (other q h) ∙ ih g
-
-    -- the places after the first that has the number
-    record Beyond (l : List ℕ) (q : ℕ) : Type 0 where
-      rest : List ℕ
-      linked : Linked x key q rest
-      entry : getD x (256 + q / 7) 0 ≡ latest key (hashOf n) rest
-      same : (f : ℕ) → hitIn test l f ≡ hitIn test rest (cond (test q) (suc q) f)
-
-    beyond : (l : List ℕ) (top q : ℕ) → Linked x key top l → latest key (hashOf n) l ≡ suc q → Beyond l q
-    unfolding latest Linked hitIn
-    beyond [] top q i e = absurd (omega arith)
-    beyond (r ∷ l) top q i e = go (beyond l r q (i .2)) (eqb (key r) (hashOf n)) refl e
-      where
-        go : (latest key (hashOf n) l ≡ suc q → Beyond l q) → (v : Bool) → eqb (key r) (hashOf n) ≡ v → cond v (suc r) (latest key (hashOf n) l) ≡ suc q → Beyond (r ∷ l) q
-        go ih true h g =
-            let j : r ≡ q = omega arith in
-            subst (Beyond (r ∷ l)) j (record { rest = l; linked = i .2; entry = i .1 ∙ ap (λ (k : ℕ). latest key k l) (eqb-true (key r) (hashOf n) h); same = λ f. refl })
-        go ih false h g =
-            let j = ih g in
-            record {
-              rest = j .rest;
-              linked = j .linked;
-              entry = j .entry;
-              same = λ f. ap (λ (v : Bool). hitIn test l (cond v (suc r) f)) (other r h) ∙ j .same f;
-            }
-
-    reached-end : (link found : ℕ) → link ≡ 0 → Reached link found → found ≡ hitIn test (declaredPlaces s) 0
-    reached-end link found z r = sym (r .same ∙ none-hit (r .rest) found (sym (r .is) ∙ z))
-
-    reached-next : (link found at to a : ℕ) → (link ≡ 0 → ⊥) → at ≡ link - 1 → to ≡ linkBefore x at → cond (test at) (suc at) found ≡ a → Reached link found → Reached to a
-    reached-next link found at to a z e f h r =
-        let k : link ≡ suc at = omega arith in
-        let j = beyond (r .rest) (r .top) at (r .linked) (sym (r .is) ∙ k) in
-        let l = latest-below key x (hashOf n) at (j .rest) (j .linked) in
-        record {
-          rest = j .rest;
-          top = at;
-          linked = j .linked;
-          is = f ∙ sym (link-there x at _ refl (subst (λ (m : ℕ). m ≤ at) (sym (j .entry)) l)) ∙ j .entry;
-          same = r .same ∙ j .same found ∙ ap (hitIn test (j .rest)) h;
-        }
-
--- the first of a number and a name
-module _ (s p : Str) (x : List ℕ) (b : ℕ) (n : Str) where
   pub record Sighted (link found : ℕ) : Type 0 where
-    pub reached : Indexed s p x → Reached s p x n (isNamed s p b n) link found
+    pub reached : Indexed s p x → Reached link found
 
   pub sighted-start : (h link : ℕ) → h ≡ hashOf n → link ≡ getD x h 0 → Sighted link 0
-  sighted-start h link e f = record { reached = reached-start s p x n (isNamed s p b n) h link e f }
+  sighted-start h link e f = record {
+    reached = λ i. record {
+      rest = declaredPlaces s;
+      top = length s;
+      linked = i .chained .linked;
+      is = f ∙ ap (λ (k : ℕ). getD x k 0) e ∙ i .chained .heads (hashOf n) (hash-below n);
+      same = refl;
+    };
+  }
 
   module _ (link found : ℕ) (g : Sighted link found) where
     pub sighted-end : link ≡ 0 → FirstNamed s p x b n found
-    sighted-end z = record { first = λ i. reached-end s p x n (isNamed s p b n) (other-number s p b n) link found z (g .reached i) }
+    sighted-end z = record { first = λ i. let r = g .reached i in sym (r .same ∙ none-hit s p x n named-test (other-number s p b n) (r .rest) found (sym (r .is) ∙ z)) }
 
-    module _ (z : link ≡ 0 → ⊥) (at to : ℕ) (e : at ≡ link - 1) (f : to ≡ linkBefore x at) (v : Bool) (w : v ≡ isNamed s p b n at) where
-      next : (a : ℕ) → cond v (suc at) found ≡ a → Sighted to a
-      next a h = record {
-        reached = λ i. reached-next s p x n (isNamed s p b n) (other-number s p b n) link found at to a z e f (ap (λ (m : Bool). cond m (suc at) found) (sym w) ∙ h) (g .reached i);
-      }
+    module _ (z : link ≡ 0 → ⊥) (at to : ℕ) (e : at ≡ link - 1) (f : to ≡ linkBefore x at) (v : Bool) (w : v ≡ named-test at) where
+      next : (a : ℕ) → cond (named-test at) (suc at) found ≡ a → Sighted to a
+      next a h = record { reached = λ i. go (g .reached i) }
+        where
+          go : Reached link found → Reached to a
+          go r =
+              let k : link ≡ suc at = omega arith in
+              let j = beyond s p x n named-test (other-number s p b n) (r .rest) (r .top) at (r .linked) (sym (r .is) ∙ k) in
+              record {
+                rest = j .rest;
+                top = at;
+                linked = j .linked;
+                is = entry-next s p x n named-test (other-number s p b n) (r .rest) at to j f;
+                same = r .same ∙ j .same found ∙ ap (hitIn named-test (j .rest)) h;
+              }
 
       pub sighted-hit : v ≡ true → Sighted to link
-      sighted-hit h = next link (ap (λ (m : Bool). cond m (suc at) found) h ∙ (let k : suc at ≡ link = omega arith in k))
+      sighted-hit h = next link (ap (λ (m : Bool). cond m (suc at) found) (sym w ∙ h) ∙ (let k : suc at ≡ link = omega arith in k))
 
       pub sighted-miss : v ≡ false → Sighted to found
-      sighted-miss h = next found (ap (λ (m : Bool). cond m (suc at) found) h)
+      sighted-miss h = next found (ap (λ (m : Bool). cond m (suc at) found) (sym w ∙ h))
 
 pub ruleset sighted-laws = (sighted-start, sighted-end, sighted-hit, sighted-miss)
 
+-- the last one: nothing that was passed counts
+module _ (s p : Str) (x : List ℕ) (b fl : ℕ) (n : Str) where
+  abbrev last-test : ℕ → Bool
+  last-test = counts s p b fl n
+
+  pub record Left (link : ℕ) : Type 0 where
+    pub rest : List ℕ
+    pub top : ℕ
+    pub linked : Linked x (keyAt s p) top rest
+    pub is : link ≡ latest (keyAt s p) (hashOf n) rest
+    pub same : firstIn last-test (declaredPlaces s) ≡ firstIn last-test rest
+
+  pub record Looking (link : ℕ) : Type 0 where
+    pub left : Indexed s p x → Left link
+
+  pub looking-start : (h link : ℕ) → h ≡ hashOf n → link ≡ getD x h 0 → Looking link
+  looking-start h link e f = record {
+    left = λ i. record {
+      rest = declaredPlaces s;
+      top = length s;
+      linked = i .chained .linked;
+      is = f ∙ ap (λ (k : ℕ). getD x k 0) e ∙ i .chained .heads (hashOf n) (hash-below n);
+      same = refl;
+    };
+  }
+
+  module _ (link : ℕ) (g : Looking link) where
+    pub looking-end : link ≡ 0 → LastNamed s p x b fl n 0
+    looking-end z = record { last = λ i. let r = g .left i in sym (r .same ∙ none-first s p x n last-test (flag-other s p b fl n) (r .rest) (sym (r .is) ∙ z)) }
+
+    module _ (z : link ≡ 0 → ⊥) (at : ℕ) (e : at ≡ link - 1) (v : Bool) (w : v ≡ last-test at) where
+      from : (r : Left link) → Beyond s p x n last-test (flag-other s p b fl n) (r .rest) at
+      from r = beyond s p x n last-test (flag-other s p b fl n) (r .rest) (r .top) at (r .linked) (sym (r .is) ∙ (let k : link ≡ suc at = omega arith in k))
+
+      pub looking-hit : v ≡ true → LastNamed s p x b fl n link
+      looking-hit h = record {
+        last = λ i.
+            let r = g .left i in
+            (let k : link ≡ suc at = omega arith in k) ∙ sym (r .same ∙ from r .first ∙ ap (λ (m : Bool). cond m (suc at) (firstIn last-test (from r .rest))) (sym w ∙ h));
+      }
+
+      pub looking-miss : v ≡ false → (to : ℕ) → to ≡ linkBefore x at → Looking to
+      looking-miss h to f = record {
+        left = λ i.
+            let r = g .left i in
+            record {
+              rest = from r .rest;
+              top = at;
+              linked = from r .linked;
+              is = entry-next s p x n last-test (flag-other s p b fl n) (r .rest) at to (from r) f;
+              same = r .same ∙ from r .first ∙ ap (λ (m : Bool). cond m (suc at) (firstIn last-test (from r .rest))) (sym w ∙ h);
+            };
+      }
+
+pub ruleset looking-laws = (looking-start, looking-end, looking-hit, looking-miss)
+
 -- what is found in the index is the first of its list ------------------------------------------------------------------------
+
+after-is : (s : Str) (at : ℕ) (c : Command) (k : Cursor) → stepAt s at ≡ Next c k → afterAt s at ≡ k .at
+unfolding afterAt
+after-is s at c k e = rw (afterAt, e)
 
 onto-split : (t d : ℕ → Bool) (l r : List ℕ) (f : ℕ) → hitIn t (onto d l r) f ≡ hitIn t r (hitIn t (onto d l []) f)
 unfolding onto hitIn
@@ -451,43 +564,35 @@ onto-split t d (q ∷ l) r f = go (λ m. onto-split t d l m f) (d q)
     go ih true = ih (q ∷ r) ∙ ap (hitIn t r) (sym (ih (q ∷ [])))
     go ih false = ih r
 
-module _ {A : Type 0} (s : Str) (b : ℕ) (d : declares b ≡ true) (such : ℕ → Bool) (f : ℕ → List ℕ → A) (own : A → Bool) (named : (at : ℕ) (rest : List ℕ) → own (f at rest) ≡ such at)
+module _ {A : Type 0} (s p n : Str) (b : ℕ) (d : declares b ≡ true) (f : ℕ → List ℕ → A) (own : A → Bool) (named : (at : ℕ) (rest : List ℕ) → own (f at rest) ≡ eqs (declaredName s p at) n)
     (placed : Sought → Option A) (nowhere : placed Nowhere ≡ none) (there : (a k : ℕ) → placed (At a k) ≡ some (f a (commandsAt s k))) where
-  -- a command of the number that is such
-  test : ℕ → Bool
-  test at = eqb (getD s at 0) b && such at
-
   hit : ℕ → ℕ
-  hit at = hitIn test (onto (declaring s) (commandsAt s at) []) 0
+  hit at = hitIn (isNamed s p b n) (onto (declaring s) (commandsAt s at) []) 0
 
   module _ (at : ℕ) (c : Command) (k : Cursor) (e : stepAt s at ≡ Next c k) where
-    hit-next : hit at ≡ cond (declaring s at) (cond (test at) (suc at) (hit (k .at))) (hit (k .at))
+    hit-next : hit at ≡ cond (declaring s at) (cond (isNamed s p b n at) (suc at) (hit (k .at))) (hit (k .at))
     unfolding hit onto hitIn
     hit-next =
-        ap (λ (l : List ℕ). hitIn test (onto (declaring s) l []) 0) (commands-next s at c k e)
-        ∙ onto-split test (declaring s) (commandsAt s (k .at)) (cond (declaring s at) (at ∷ []) []) 0
+        ap (λ (l : List ℕ). hitIn (isNamed s p b n) (onto (declaring s) l []) 0) (commands-next s at c k e)
+        ∙ onto-split (isNamed s p b n) (declaring s) (commandsAt s (k .at)) (cond (declaring s at) (at ∷ []) []) 0
         ∙ go (declaring s at)
       where
-        go : (v : Bool) → hitIn test (cond v (at ∷ []) []) (hit (k .at)) ≡ cond v (cond (test at) (suc at) (hit (k .at))) (hit (k .at))
+        go : (v : Bool) → hitIn (isNamed s p b n) (cond v (at ∷ []) []) (hit (k .at)) ≡ cond v (cond (isNamed s p b n at) (suc at) (hit (k .at))) (hit (k .at))
         go true = refl
         go false = refl
-
-    after-is : afterAt s at ≡ k .at
-    unfolding afterAt
-    after-is = rw (afterAt, e)
 
     -- a command of the number
     module _ (is : byteOf c ≡ b) where
       byte : getD s at 0 ≡ b
       byte = byte-is s at c k e ∙ is
 
-      hit-here : (v : Bool) → such at ≡ v → hit at ≡ cond v (suc at) (hit (k .at))
-      unfolding declaring test
+      hit-here : (v : Bool) → eqs (declaredName s p at) n ≡ v → hit at ≡ cond v (suc at) (hit (k .at))
+      unfolding declaring isNamed
       hit-here v q = hit-next ∙ rw (byte, d, eq-eqb b b refl, q)
 
     -- another
     hit-over : (byteOf c ≡ b → ⊥) → hit at ≡ hit (k .at)
-    unfolding test
+    unfolding isNamed
     hit-over h = hit-next ∙ rw (byte-is s at c k e, ne-eqb (byteOf c) b h) (same (declaring s at))
       where
         same : (v : Bool) → cond v (hit (k .at)) (hit (k .at)) ≡ hit (k .at)
@@ -505,32 +610,33 @@ module _ {A : Type 0} (s : Str) (b : ℕ) (d : declares b ≡ true) (such : ℕ 
   unfolding Finds soughtAt
   finds-next at c k e ih = go (eqb (byteOf c) b) refl
     where
-      here : byteOf c ≡ b → (v : Bool) → such at ≡ v → Finds at
-      here is true q = find-hit own _ (f at (commandsAt s (k .at))) _ (listed-here s anything b f at c k e is) (named at _ ∙ q) ∙ rw (hit-here at c k e is true q, after-is at c k e) (sym (there at (k .at)))
+      here : byteOf c ≡ b → (v : Bool) → eqs (declaredName s p at) n ≡ v → Finds at
+      here is true q = find-hit own _ (f at (commandsAt s (k .at))) _ (listed-here s anything b f at c k e is) (named at _ ∙ q) ∙ rw (hit-here at c k e is true q, after-is s at c k e) (sym (there at (k .at)))
       here is false q =
           find-miss own _ (f at (commandsAt s (k .at))) _ (listed-here s anything b f at c k e is) (named at _ ∙ q) ∙ ih
           ∙ ap (λ (m : ℕ). placed (soughtAt s m)) (sym (hit-here at c k e is false q))
 
       go : (v : Bool) → eqb (byteOf c) b ≡ v → Finds at
-      go true h = here (eqb-true (byteOf c) b h) (such at) refl
+      go true h = here (eqb-true (byteOf c) b h) (eqs (declaredName s p at) n) refl
       go false h =
           ap (find own) (listed-over s anything b f at c k e (eqb-false (byteOf c) b h) refl) ∙ ih
           ∙ ap (λ (m : ℕ). placed (soughtAt s m)) (sym (hit-over at c k e (eqb-false (byteOf c) b h)))
 
-  found-in : (at : ℕ) → find own (listed s anything b f (commandsAt s at)) ≡ placed (soughtAt s (hitIn (λ (q : ℕ). eqb (getD s q 0) b && such q) (onto (declaring s) (commandsAt s at) []) 0))
-  unfolding Finds hit test
+  found-in : (at : ℕ) → find own (listed s anything b f (commandsAt s at)) ≡ placed (soughtAt s (hitIn (isNamed s p b n) (onto (declaring s) (commandsAt s at) []) 0))
+  unfolding Finds hit
   found-in = along s Finds finds-stop finds-next
 
 module _ (s p : Str) (x : List ℕ) (b : ℕ) (n : Str) (found : ℕ) (g : FirstNamed s p x b n found) where
   placed-at : (r : Sought) → r ≡ soughtAt s found → Declared s p x b n r
-  unfolding declaredPlaces isNamed declaredName declares aliasIn enumIn bitfieldIn structIn familyIn aliasesAt enumsAt bitfieldsAt structsAt familiesAt aliases enums bitfields structs families valuesAt membersAt fieldsAt variantsAt
+  unfolding declaredPlaces hit declaredName declares constantIn aliasIn enumIn bitfieldIn structIn familyIn constantsAt aliasesAt enumsAt bitfieldsAt structsAt familiesAt constants aliases enums bitfields structs families valuesAt membersAt fieldsAt variantsAt
   placed-at r e = record {
     named = λ i. let h : r ≡ soughtAt s (hitIn (isNamed s p b n) (declaredPlaces s) 0) = e ∙ ap (soughtAt s) (g .first i) in record {
-      alias = λ q. rw (h, q) (found-in s 3 refl (λ (q : ℕ). eqs (declaredName s p q) n) _ _ (λ at rest. refl) (aliasPlaced s p) refl (λ a k. refl) 0);
-      enum = λ q. rw (h, q) (found-in s 4 refl (λ (q : ℕ). eqs (declaredName s p q) n) _ _ (λ at rest. refl) (enumPlaced s p) refl (λ a k. refl) 0);
-      bitfield = λ q. rw (h, q) (found-in s 6 refl (λ (q : ℕ). eqs (declaredName s p q) n) _ _ (λ at rest. refl) (bitfieldPlaced s p) refl (λ a k. refl) 0);
-      struct = λ q. rw (h, q) (found-in s 8 refl (λ (q : ℕ). eqs (declaredName s p q) n) _ _ (λ at rest. refl) (structPlaced s p) refl (λ a k. refl) 0);
-      family = λ q. rw (h, q) (found-in s 9 refl (λ (q : ℕ). eqs (declaredName s p q) n) _ _ (λ at rest. refl) (familyPlaced s p) refl (λ a k. refl) 0);
+      constant = λ q. rw (h, q) (found-in s p n 2 refl _ _ (λ at rest. refl) (constantPlaced s p) refl (λ a k. refl) 0);
+      alias = λ q. rw (h, q) (found-in s p n 3 refl _ _ (λ at rest. refl) (aliasPlaced s p) refl (λ a k. refl) 0);
+      enum = λ q. rw (h, q) (found-in s p n 4 refl _ _ (λ at rest. refl) (enumPlaced s p) refl (λ a k. refl) 0);
+      bitfield = λ q. rw (h, q) (found-in s p n 6 refl _ _ (λ at rest. refl) (bitfieldPlaced s p) refl (λ a k. refl) 0);
+      struct = λ q. rw (h, q) (found-in s p n 8 refl _ _ (λ at rest. refl) (structPlaced s p) refl (λ a k. refl) 0);
+      family = λ q. rw (h, q) (found-in s p n 9 refl _ _ (λ at rest. refl) (familyPlaced s p) refl (λ a k. refl) 0);
     };
   }
 
@@ -544,90 +650,131 @@ module _ (s p : Str) (x : List ℕ) (b : ℕ) (n : Str) (found : ℕ) (g : First
 
 pub ruleset declared-laws = (declared-none, declared-at)
 
+-- what is found last is the last of its list -----------------------------------------------------------------------------------
+
+counts-not : (s p : Str) (b f : ℕ) (n : Str) (at : ℕ) → (getD s at 0 ≡ b → ⊥) → counts s p b f n at ≡ false
+unfolding counts isNamed
+counts-not s p b f n at h = rw (ne-eqb (getD s at 0) b h) (and-false (isFlagged s f at))
+
+module _ {A : Type 0} (s p n : Str) (b fl : ℕ) (d : declares b ≡ true) (f : ℕ → List ℕ → A) (own : A → Bool)
+    (counted : (at : ℕ) (rest : List ℕ) → getD s at 0 ≡ b → own (f at rest) ≡ counts s p b fl n at)
+    (placed : Sought → Option A) (nowhere : placed Nowhere ≡ none) (there : (a k : ℕ) → placed (At a k) ≡ some (f a (commandsAt s k))) where
+  -- the first of some places that counts
+  seen : List ℕ → Option A
+  seen l = placed (soughtAt s (firstIn (counts s p b fl n) l))
+
+  -- the last one from a place on, after the places that were seen
+  Lasts : ℕ → Type 0
+  Lasts at = (l : List ℕ) → lastOr (seen l) own (listed s anything b f (commandsAt s at)) ≡ seen (onto (declaring s) (commandsAt s at) l)
+
+  lasts-stop : (at : ℕ) → stepAt s at ≡ Stop → Lasts at
+  unfolding Lasts lastOr onto
+  lasts-stop at e l = rw (listed-stop s anything b f at e, commands-stop s at e)
+
+  module _ (at : ℕ) (c : Command) (k : Cursor) (e : stepAt s at ≡ Next c k) (ih : Lasts (k .at)) (l : List ℕ) where
+    seen-on : List ℕ
+    seen-on = cond (declaring s at) (at ∷ l) l
+
+    onto-next : onto (declaring s) (commandsAt s at) l ≡ onto (declaring s) (commandsAt s (k .at)) seen-on
+    unfolding onto seen-on
+    onto-next = ap (λ (m : List ℕ). onto (declaring s) m l) (commands-next s at c k e)
+
+    -- another command
+    module _ (h : byteOf c ≡ b → ⊥) where
+      seen-over : seen seen-on ≡ seen l
+      unfolding seen seen-on firstIn
+      seen-over = go (declaring s at)
+        where
+          go : (v : Bool) → placed (soughtAt s (firstIn (counts s p b fl n) (cond v (at ∷ l) l))) ≡ placed (soughtAt s (firstIn (counts s p b fl n) l))
+          go true = rw (counts-not s p b fl n at (λ y. h (sym (byte-is s at c k e) ∙ y)))
+          go false = refl
+
+      lasts-over : lastOr (seen l) own (listed s anything b f (commandsAt s at)) ≡ seen (onto (declaring s) (commandsAt s at) l)
+      unfolding Lasts
+      lasts-over =
+          ap (lastOr (seen l) own) (listed-over s anything b f at c k e h refl)
+          ∙ ap (λ (o : Option A). lastOr o own (listed s anything b f (commandsAt s (k .at)))) (sym seen-over)
+          ∙ ih seen-on ∙ ap seen (sym onto-next)
+
+    -- a command of the number
+    module _ (is : byteOf c ≡ b) where
+      number : getD s at 0 ≡ b
+      number = byte-is s at c k e ∙ is
+
+      seen-here : cond (own (f at (commandsAt s (k .at)))) (some (f at (commandsAt s (k .at)))) (seen l) ≡ seen seen-on
+      unfolding seen seen-on firstIn soughtAt declaring
+      seen-here = rw (counted at (commandsAt s (k .at)) number, number, d) (go (counts s p b fl n at))
+        where
+          go : (v : Bool) → cond v (some (f at (commandsAt s (k .at)))) (placed (soughtAt s (firstIn (counts s p b fl n) l))) ≡ placed (soughtAt s (cond v (suc at) (firstIn (counts s p b fl n) l)))
+          go true = sym (there at (k .at)) ∙ ap (λ (j : ℕ). placed (At at j)) (sym (after-is s at c k e))
+          go false = refl
+
+      lasts-here : lastOr (seen l) own (listed s anything b f (commandsAt s at)) ≡ seen (onto (declaring s) (commandsAt s at) l)
+      unfolding Lasts lastOr
+      lasts-here =
+          ap (lastOr (seen l) own) (listed-here s anything b f at c k e is)
+          ∙ ap (λ (o : Option A). lastOr o own (listed s anything b f (commandsAt s (k .at)))) seen-here
+          ∙ ih seen-on ∙ ap seen (sym onto-next)
+
+  lasts-next : (at : ℕ) (c : Command) (k : Cursor) → stepAt s at ≡ Next c k → Lasts (k .at) → Lasts at
+  unfolding Lasts
+  lasts-next at c k e ih l = go (eqb (byteOf c) b) refl
+    where
+      go : (v : Bool) → eqb (byteOf c) b ≡ v → lastOr (seen l) own (listed s anything b f (commandsAt s at)) ≡ seen (onto (declaring s) (commandsAt s at) l)
+      go true h = lasts-here at c k e ih l (eqb-true (byteOf c) b h)
+      go false h = lasts-over at c k e ih l (eqb-false (byteOf c) b h)
+
+  last-in : findLast own (listed s anything b f (commandsAt s 0)) ≡ placed (soughtAt s (firstIn (counts s p b fl n) (onto (declaring s) (commandsAt s 0) [])))
+  unfolding Lasts seen findLast firstIn soughtAt
+  last-in = ap (λ (o : Option A). lastOr o own (listed s anything b f (commandsAt s 0))) (sym nowhere) ∙ along s Lasts lasts-stop lasts-next 0 []
+
+module _ (s p : Str) (x : List ℕ) (b fl : ℕ) (n : Str) (found : ℕ) (g : LastNamed s p x b fl n found) where
+  last-placed : (r : Sought) → r ≡ soughtAt s found → LastDeclared s p x b fl n r
+  unfolding declaredPlaces declaredName declares isNamed isFlagged counts constantsAt enumsAt familiesAt constants enums families valuesAt fieldsAt variantsAt
+  last-placed r e = record {
+    named = λ i. let h : r ≡ soughtAt s (firstIn (counts s p b fl n) (declaredPlaces s)) = e ∙ ap (soughtAt s) (g .last i) in record {
+      constant = λ q w. rw (h, q, w) (last-in s p n 2 0 refl _ _ (λ at rest y. rw y) (constantPlaced s p) refl (λ a k. refl));
+      api-constant = λ q w. rw (h, q, w) (last-in s p n 2 16 refl _ _ (λ at rest y. rw y) (constantPlaced s p) refl (λ a k. refl));
+      api-enum = λ q w. rw (h, q, w) (last-in s p n 4 8 refl _ _ (λ at rest y. rw y) (enumPlaced s p) refl (λ a k. refl));
+      standalone = λ q w. rw (h, q, w) (last-in s p n 9 16 refl _ _ (λ at rest y. rw y) (familyPlaced s p) refl (λ a k. refl));
+    };
+  }
+
+  pub last-none : found ≡ 0 → LastDeclared s p x b fl n Nowhere
+  unfolding soughtAt
+  last-none z = last-placed Nowhere (rw z)
+
+  pub last-at : (found ≡ 0 → ⊥) → (at to : ℕ) → at ≡ found - 1 → to ≡ afterAt s at → LastDeclared s p x b fl n (At at to)
+  unfolding soughtAt
+  last-at z at to e f = last-placed (At at to) (rw (let k : found ≡ suc at = omega arith in k, f))
+
+pub ruleset last-laws = (last-none, last-at)
+
 -- families that stand alone ------------------------------------------------------------------------------------------------
 
-module _ (s p n : Str) (at : ℕ) (y : ℕ) (e : y ≡ getD s at 0) where
-  pub alone-other : (y ≡ 9 → ⊥) → false ≡ isAlone s p n at
-  unfolding isAlone
-  alone-other h = rw (← e, ne-eqb y 9 h)
-
-  module _ (h : y ≡ 9) (u : Str) (b : Bool) (d : u ≡ drop at s) (f : b ≡ flagAt u 16) where
-    pub alone-not : b ≡ false → false ≡ isAlone s p n at
-    unfolding isAlone
-    alone-not g = rw (← e, eq-eqb y 9 h, ← d, ← f, g)
-
-    pub alone-named : b ≡ true → (w : Str) (v : Bool) → w ≡ declaredName s p at → v ≡ eqs w n → v ≡ isAlone s p n at
-    unfolding isAlone
-    alone-named g w v i j = rw (← e, eq-eqb y 9 h, ← d, ← f, g) (j ∙ ap (λ (z : Str). eqs z n) i)
-
-pub ruleset is-alone-laws = (alone-other, alone-not, alone-named)
-
--- one of the name has the name's number
-other-alone : (s p n : Str) (at : ℕ) → eqb (keyAt s p at) (hashOf n) ≡ false → isAlone s p n at ≡ false
-unfolding isAlone keyAt
-other-alone s p n at h = go (eqb (getD s at 0) 9) (flagAt (drop at s) 16) (eqs (declaredName s p at) n) refl
+some-last : {A : Type 0} (q : A → Bool) (o : Option A) (l : List A) → isSome (lastOr o q l) ≡ isSome o || any q l
+unfolding lastOr any isSome
+some-last q none [] = refl
+some-last q (some x) [] = refl
+some-last {A = A} q o (x ∷ l) = go (λ (y : Option A). some-last q y l) (q x) o
   where
-    go : (u v w : Bool) → eqs (declaredName s p at) n ≡ w → u && (v && w) ≡ false
-    go true true true e = absurd (eqb-false _ _ h (ap hashOf (eqs→eq _ _ e)))
-    go true true false e = refl
-    go true false w e = refl
-    go false v w e = refl
+    go : ((y : Option A) → isSome (lastOr y q l) ≡ isSome y || any q l) → (v : Bool) (o : Option A) → isSome (lastOr (cond v (some x) o) q l) ≡ isSome o || (v || any q l)
+    go ih true none = ih (some x)
+    go ih true (some y) = ih (some x)
+    go ih false none = ih none
+    go ih false (some y) = ih (some y)
 
--- what was seen stays
-seen : (t : ℕ → Bool) (l : List ℕ) (f : ℕ) → 0 < f → 0 < hitIn t l f
-unfolding hitIn
-seen t [] f h = h
-seen t (q ∷ l) f h = seen t l (cond (t q) (suc q) f) (go (t q))
-  where
-    go : (v : Bool) → 0 < cond v (suc q) f
-    go true = omega arith
-    go false = h
+module _ (s p : Str) (x : List ℕ) (n : Str) (r : Sought) (g : LastDeclared s p x 9 16 n r) where
+  alone-as : Indexed s p x → any (λ (m : Family). m .standalone && eqs (m .name) n) (familiesAt s p 0) ≡ isSome (familyPlaced s p r)
+  unfolding findLast isSome
+  alone-as i = sym (some-last (λ (m : Family). m .standalone && eqs (m .name) n) none (familiesAt s p 0)) ∙ ap isSome (g .named i .standalone refl refl)
 
-any-find : {A : Type 0} (q : A → Bool) (l : List A) → any q l ≡ isSome (find q l)
-unfolding any find isSome
-any-find q [] = refl
-any-find q (x ∷ l) = go (q x) (any-find q l)
-  where
-    go : (v : Bool) → any q l ≡ isSome (find q l) → (v || any q l) ≡ isSome (cond v (some x) (find q l))
-    go true e = refl
-    go false e = e
+  pub alone-none : r ≡ Nowhere → Alone s p x n false
+  unfolding isSome
+  alone-none e = record { is = λ i. sym (alone-as i ∙ ap (λ (y : Sought). isSome (familyPlaced s p y)) e) }
 
-module _ (s p : Str) (x : List ℕ) (n : Str) where
-  alone-are : any (λ (m : Family). m .standalone && eqs (m .name) n) (familiesAt s p 0) ≡ isSome (familyPlaced s p (soughtAt s (hitIn (isAlone s p n) (declaredPlaces s) 0)))
-  unfolding isAlone declaredPlaces declaredName declares familiesAt families fieldsAt variantsAt
-  alone-are =
-      any-find _ _
-      ∙ ap isSome (found-in s 9 refl (λ (q : ℕ). flagAt (drop q s) 16 && eqs (declaredName s p q) n) _ _ (λ at rest. refl) (familyPlaced s p) refl (λ a k. refl) 0)
+  pub alone-there : (at to : ℕ) → r ≡ At at to → Alone s p x n true
+  unfolding isSome
+  alone-there at to e = record { is = λ i. sym (alone-as i ∙ ap (λ (y : Sought). isSome (familyPlaced s p y)) e) }
 
-  -- none was seen so far
-  pub record Unseen (link : ℕ) : Type 0 where
-    pub reached : Indexed s p x → Reached s p x n (isAlone s p n) link 0
-
-  pub alone-start : (h link : ℕ) → h ≡ hashOf n → link ≡ getD x h 0 → Unseen link
-  alone-start h link e f = record { reached = reached-start s p x n (isAlone s p n) h link e f }
-
-  module _ (link : ℕ) (g : Unseen link) where
-    pub alone-end : link ≡ 0 → Alone s p x n false
-    unfolding soughtAt isSome
-    alone-end z = record { is = λ i. sym (alone-are ∙ ap (λ (k : ℕ). isSome (familyPlaced s p (soughtAt s k))) (sym (reached-end s p x n (isAlone s p n) (other-alone s p n) link 0 z (g .reached i)))) }
-
-    module _ (z : link ≡ 0 → ⊥) (at : ℕ) (e : at ≡ link - 1) (v : Bool) (w : v ≡ isAlone s p n at) where
-      pub alone-miss : (to : ℕ) → to ≡ linkBefore x at → v ≡ false → Unseen to
-      alone-miss to f h = record {
-        reached = λ i. reached-next s p x n (isAlone s p n) (other-alone s p n) link 0 at to 0 z e f (ap (λ (m : Bool). cond m (suc at) 0) (sym w ∙ h)) (g .reached i);
-      }
-
-      pub alone-hit : v ≡ true → Alone s p x n true
-      unfolding soughtAt isSome
-      alone-hit h = record { is = λ i. sym (alone-are ∙ there (hitIn (isAlone s p n) (declaredPlaces s) 0) (found i)) }
-        where
-          found : Indexed s p x → 0 < hitIn (isAlone s p n) (declaredPlaces s) 0
-          found i =
-              let r = reached-next s p x n (isAlone s p n) (other-alone s p n) link 0 at (linkBefore x at) (suc at) z e refl (ap (λ (m : Bool). cond m (suc at) 0) (sym w ∙ h)) (g .reached i) in
-              subst (λ (k : ℕ). 0 < k) (sym (r .same)) (seen (isAlone s p n) (r .rest) (suc at) (omega arith))
-
-          there : (k : ℕ) → 0 < k → isSome (familyPlaced s p (soughtAt s k)) ≡ true
-          there zero l = absurd (omega arith)
-          there (suc k) l = refl
-
-pub ruleset alone-laws = (alone-start, alone-end, alone-hit, alone-miss)
+pub ruleset alone-laws = (alone-none, alone-there)

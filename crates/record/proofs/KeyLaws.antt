@@ -1,15 +1,21 @@
 -- The steps of the walk over the plugin keys, as the code's branches need them. Assumes nothing.
-use mathlib.Core.Path.{_≡_, refl, ap, _∙_}
-use mathlib.Core.List.{List}
-use Prim.Native.Nat.{ℕ}
-use lib.ListN.{drop}
+use mathlib.Core.Path.{_≡_, refl, sym, ap, subst, _∙_}
+use mathlib.Core.List.{List, _∷_}
+use mathlib.Core.Bool.{Bool, true, false}
+use Prim.Native.Nat.{ℕ, suc, _+_, _-_, _≤_, _<_}
+use native.Mathlib.Omega.{arith}
+use borrow.Author.Tests.{eqb-true, eqb-false}
+use lib.Dec.{eqb}
+use lib.ListN.{length, drop}
 use Rattle.record.specs.Base.{Str, first, withSome}
-use Rattle.record.specs.Schema.{Key}
-use Rattle.record.specs.Commands.{fieldAt, start, place}
-use Rattle.record.specs.Seek.{SoughtFrom}
-use Rattle.record.specs.Steps.{keysAt, KeysFrom, fieldsAt, StructsFrom, UnstoredFrom}
+use Rattle.record.specs.Commands.{widthOf, stepAt, fieldAt, start, place, commandsAt}
+use Rattle.record.specs.Seek.{placesOf, placesLeft, SoughtFrom}
+use Rattle.record.specs.Lists.{listed, anything, aKey, structs}
+use Rattle.record.specs.Steps.{keysAt, KeysFrom, structsAt, StructsFrom, UnstoredFrom}
 use Rattle.record.specs.declared.command as D
 use Rattle.record.specs.declared.command.Cursor.{Cursor}
+use Rattle.record.specs.declared.command.Command.{Command}
+use Rattle.record.specs.declared.command.Step.the-variants.{Next, Stop}
 use Rattle.record.specs.declared.lists.KeyStep.{KeyStep}
 use Rattle.record.specs.declared.lists.KeyStep.the-variants.{NoKey, AKey}
 use Rattle.record.specs.declared.seek.Between.the-variants as Between
@@ -20,48 +26,92 @@ use Rattle.record.specs.declared.lists.StructStep.{StructStep}
 use Rattle.record.specs.declared.lists.StructStep.the-variants.{NoStruct, AStruct}
 use Rattle.record.specs.declared.lists.UnstoredStep.{UnstoredStep}
 use Rattle.record.specs.declared.lists.UnstoredStep.the-variants.{NoUnstored, AnUnstored}
-use Rattle.record.proofs.StepLaws.{keys-now, keys-over-now, fields-none, fields-found, fields-now, fields-over-now, structs-now, structs-over-now, unstored-now, unstored-over-now}
+use Rattle.record.proofs.Stream.{step-found, along}
+use Rattle.record.proofs.ListLaws.{byteOf, byte-is, listed-stop, listed-here, listed-over, listed-end}
+use Rattle.record.proofs.SeekLaws.{sought-stands}
+use Rattle.record.proofs.StepLaws.{keys-now, keys-over-now, fields-none, fields-found, fields-now, fields-over-now, structs-now, structs-over-now, structs-nearer, unstored-now, unstored-over-now}
 use Rattle.record.specs.declared.keys.KeysAt.{KeysAt}
 use Rattle.record.specs.declared.keys.KeysAt.the-variants.{Structs, Fields, Unstored}
+use Rattle.record.specs.declared.keys.FieldKey.{FieldKey}
+use Rattle.record.specs.declared.keys.FieldKey.the-variants.{Ended, Keyed}
 use Rattle.record.specs.declared.keys.PluginKeyStep.{PluginKeyStep}
 use Rattle.record.specs.declared.keys.PluginKeyStep.the-variants.{NoPluginKey, APluginKey}
-use Rattle.record.specs.Keys.{fieldKeys, pluginKeys, keysFrom, AllKeys, PluginKeysFrom, InFields}
+use Rattle.record.specs.Keys.{fieldKeys, pluginKeys, keysFrom, AllKeys, PluginKeysFrom, fieldKeysOf, endsAhead, InFields}
 
 -- fields ------------------------------------------------------------------------------------------------------------------
 
+-- no structure stands between fields and their keys
+module _ {A : Type 0} (s : Str) (f : ℕ → List ℕ → A) where
+  Past : ℕ → Type 0
+  Past at = (a : ℕ) (l : List ℕ) → placesOf s Between.Keys 11 at ≡ a ∷ l → listed s anything 8 f (commandsAt s at) ≡ listed s anything 8 f (commandsAt s (a + widthOf 11))
+
+  past-stop : (at : ℕ) → stepAt s at ≡ Stop → Past at
+  unfolding Past placesOf
+  past-stop at e a l q = let z : 0 ≡ suc (length l) = ap length (sym (listed-stop s aKey 11 (λ at rest. at) at e) ∙ q) in absurd (omega arith)
+
+  past-next : (at : ℕ) (c : Command) (k : Cursor) → stepAt s at ≡ Next c k → Past (k .at) → Past at
+  unfolding Past placesOf
+  past-next at c k e ih a l q = go (eqb (byteOf c) 11) (eqb (byteOf c) 12) refl refl
+    where
+      over : (n : ℕ) → byteOf c ≡ n → (n ≡ 8 → ⊥) → listed s anything 8 f (commandsAt s at) ≡ listed s anything 8 f (commandsAt s (k .at))
+      over n i j = listed-over s anything 8 f at c k e (λ y. j (sym i ∙ y)) refl
+
+      go : (v w : Bool) → eqb (byteOf c) 11 ≡ v → eqb (byteOf c) 12 ≡ w → listed s anything 8 f (commandsAt s at) ≡ listed s anything 8 f (commandsAt s (a + widthOf 11))
+      go true w h i =
+          let b = eqb-true (byteOf c) 11 h in
+          let m : at ∷ placesOf s Between.Keys 11 (k .at) ≡ a ∷ l = sym (listed-here s aKey 11 (λ at rest. at) at c k e b) ∙ q in
+          let n : at ≡ a = cc in
+          over 11 b (λ y. omega arith) ∙ ap (λ (j : ℕ). listed s anything 8 f (commandsAt s j)) (step-found s at c k e .wide ∙ ap (λ (x : ℕ). at + widthOf x) (byte-is s at c k e ∙ b) ∙ ap (λ (x : ℕ). x + widthOf 11) n)
+      go false true h i = over 12 (eqb-true (byteOf c) 12 i) (λ y. omega arith) ∙ ih a l (sym (listed-over s aKey 11 (λ at rest. at) at c k e (eqb-false (byteOf c) 11 h) i) ∙ q)
+      go false false h i = let z : 0 ≡ suc (length l) = ap length (sym (listed-end s aKey 11 (λ at rest. at) at c k e (eqb-false (byteOf c) 11 h) i) ∙ q) in absurd (omega arith)
+
+  past : (at : ℕ) → Past at
+  past = along s Past past-stop past-next
+
+structs-past : (s p : Str) (at : ℕ) (r : Sought) → SoughtFrom s Between.Keys 11 at r → (a k : ℕ) → r ≡ At a k → structsAt s p at ≡ structsAt s p k
+unfolding structsAt structs Past
+structs-past s p at r i a k m =
+    past s _ at a (placesOf s Between.Keys 11 k) (i .list ∙ ap (placesLeft s Between.Keys 11) m)
+    ∙ ap (structsAt s p) (sym (sought-stands s Between.Keys 11 at r i a k m .after))
+
 -- no key stands in the fields between two places
 pub record Keyless (s : Str) (a b : ℕ) : Type 0 where
-  pub same : (p : Str) (l : List Key) → fieldKeys (fieldsAt s p a) l ≡ fieldKeys (fieldsAt s p b) l
+  pub same : (p : Str) → keysFrom s p (Fields (place a)) ≡ keysFrom s p (Fields (place b))
+  pub ahead : a ≤ b
 
 pub keyless-here : (s : Str) (a : ℕ) → Keyless s a a
-keyless-here s a = record { same = λ p l. refl }
+keyless-here s a = record { same = λ p. refl; ahead = omega arith }
 
 module _ (s : Str) (a at : ℕ) (o : Keyless s a at) (r : Sought) (f : SoughtFrom s Between.Keys 11 at r) where
-  pub fields-ended : r ≡ Nowhere → InFields s a NoKey
-  unfolding fieldKeys
-  fields-ended m = record { list = λ p l. o .same p l ∙ rw (fields-over-now s at NoField (fields-none s at r f m) p refl) }
+  pub fields-ended : (c : Cursor) → r ≡ Nowhere → c ≡ place at → InFields s a (Ended c)
+  unfolding keysFrom fieldKeys
+  fields-ended c m h = record {
+    list = λ p. o .same p ∙ rw (fields-over-now s at NoField (fields-none s at r f m) p refl, h);
+    ahead = let i = o .ahead in let j : c .at ≡ at = ap (λ (x : Cursor). x .at) h in omega arith;
+  }
 
   module _ (b k : ℕ) (m : r ≡ At b k) (c : Cursor) (h : c ≡ place k) (q : KeyStep) (g : KeysFrom s (c .at) q) where
-    -- the field's own key comes first
-    field-gives : (p : Str) (l : List Key) → fieldKeys (fieldsAt s p a) l ≡ withSome (first (keysAt s p (c .at))) (fieldKeys (fieldsAt s p (c .at)) l)
-    unfolding fieldKeys
-    field-gives p l =
-        let y = drop b s in
-        o .same p l ∙ rw (fields-now s at (AField (fieldAt y) c) (fields-found s at r f b k m y (fieldAt y) c refl refl h) p (fieldAt y) c refl)
+    at-is : c .at ≡ k
+    at-is = ap (λ (x : Cursor). x .at) h
 
-    pub field-keyed : (x : D.PluginKey.PluginKey) (z : Cursor) → q ≡ AKey x z → InFields s a (AKey x c)
+    -- the field's own key comes first
+    field-gives : (p : Str) → keysFrom s p (Fields (place a)) ≡ withSome (first (keysAt s p (c .at))) (keysFrom s p (Fields c))
+    unfolding keysFrom fieldKeys
+    field-gives p =
+        let y = drop b s in
+        o .same p
+        ∙ rw (fields-now s at (AField (fieldAt y) c) (fields-found s at r f b k m y (fieldAt y) c refl refl h) p (fieldAt y) c refl, structs-past s p at r f b k m ∙ ap (structsAt s p) (sym at-is))
+
+    pub field-keyed : (x : D.PluginKey.PluginKey) (z : Cursor) → q ≡ AKey x z → InFields s a (Keyed x c)
     unfolding withSome first
-    field-keyed x z e = record { list = λ p l. field-gives p l ∙ rw (keys-now s (c .at) q g p x z e) }
+    field-keyed x z e = record { list = λ p. field-gives p ∙ rw (keys-now s (c .at) q g p x z e); ahead = tt }
 
     pub field-keyless : q ≡ NoKey → Keyless s a k
     unfolding withSome first
-    field-keyless e =
-        record {
-          same = λ p l.
-              field-gives p l
-              ∙ rw (keys-over-now s (c .at) q g p e)
-              (ap (λ (n : ℕ). fieldKeys (fieldsAt s p n) l) (ap (λ (x : Cursor). x .at) h));
-        }
+    field-keyless e = record {
+      same = λ p. field-gives p ∙ rw (keys-over-now s (c .at) q g p e) (ap (λ (x : Cursor). keysFrom s p (Fields x)) h);
+      ahead = let i = o .ahead in let d = sought-stands s Between.Keys 11 at r f b k m in let j = d .ahead in let l = d .on in omega arith;
+    }
 
 pub ruleset field-key-laws = (fields-ended, field-keyed, field-keyless)
 
@@ -94,20 +144,30 @@ module _ (s : Str) (a : KeysAt) (c : Cursor) (o : Idle s a (Structs c)) (r : Str
   unfolding keysFrom pluginKeys
   structs-ended g m i = record { same = λ p. o .same p ∙ rw (structs-over-now s (c .at) r f p m, i) }
 
-  pub struct-opened : (e : D.Struct.Struct) (k : Cursor) → r ≡ AStruct e k → Idle s a (Fields k k)
+  pub struct-opened : (e : D.Struct.Struct) (k : Cursor) → r ≡ AStruct e k → Idle s a (Fields k)
   unfolding keysFrom pluginKeys
   struct-opened e k m = record { same = λ p. o .same p ∙ rw (structs-now s (c .at) r f p e k m) }
 
-module _ (s : Str) (a : KeysAt) (i k : Cursor) (o : Idle s a (Fields i k)) (r : KeyStep) (f : InFields s (i .at) r) where
-  pub inside-keyed : (e : D.PluginKey.PluginKey) (z : Cursor) → r ≡ AKey e z → PluginKeysFrom s a (APluginKey e (Fields z k))
+module _ (s : Str) (a : KeysAt) (i : Cursor) (o : Idle s a (Fields i)) (r : FieldKey) (f : InFields s (i .at) r) where
+  inside : (p : Str) → keysFrom s p a ≡ fieldKeysOf s p r
   unfolding keysFrom
-  inside-keyed e z m = record { list = λ p. o .same p ∙ f .list p _ ∙ rw m }
+  inside p = o .same p ∙ f .list p
 
-  pub inside-over : r ≡ NoKey → Idle s a (Structs k)
-  unfolding keysFrom
-  inside-over m = record { same = λ p. o .same p ∙ f .list p _ ∙ rw m }
+  pub inside-keyed : (e : D.PluginKey.PluginKey) (z : Cursor) → r ≡ Keyed e z → PluginKeysFrom s a (APluginKey e (Fields z))
+  inside-keyed e z m = record { list = λ p. inside p ∙ ap (fieldKeysOf s p) m }
+
+  pub inside-over : (k : Cursor) → r ≡ Ended k → Idle s a (Structs k)
+  inside-over k m = record { same = λ p. inside p ∙ ap (fieldKeysOf s p) m }
 
 pub ruleset walk-laws = (idle-at, idle-on, structs-ended, struct-opened, inside-keyed, inside-over)
+
+-- past a structure and its fields the end of the stream is nearer
+pub struct-nearer : (s : Str) (c : Cursor) (r : StructStep) → StructsFrom s (c .at) r → (e : D.Struct.Struct) (k : Cursor) → r ≡ AStruct e k → (q : FieldKey) → InFields s (k .at) q → (z : Cursor) → q ≡ Ended z
+    → length s - z .at < length s - c .at
+struct-nearer s c r f e k m q g z n =
+    let h = structs-nearer s (c .at) r f e k m in
+    let i : k .at ≤ z .at = subst (endsAhead (k .at)) n (g .ahead) in
+    omega arith
 
 -- the whole walk -----------------------------------------------------------------------------------------------------------
 

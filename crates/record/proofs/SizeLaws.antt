@@ -1,6 +1,6 @@
 -- The cases of the sizes, as the code's branches need them. Assumes nothing.
 use mathlib.Core.Path.{_≡_, refl, sym, ap, ap₂, _∙_}
-use mathlib.Core.List.{List, []}
+use mathlib.Core.List.{List, [], _∷_}
 use mathlib.Core.Option.{Option, none, some}
 use mathlib.Core.Bool.{Bool, true, false}
 use Prim.Native.Nat.{ℕ, zero, suc, _+_, _-_, _*_, _/_, _≤_, _<_}
@@ -17,8 +17,8 @@ use Rattle.record.specs.Stretch.{textOf}
 use Rattle.record.specs.Operands.{textAt, optTextAt, optNumberAt}
 use Rattle.record.specs.Commands.{enumAt, bitfieldAt, fieldAt, start, place}
 use Rattle.record.specs.Seek.{SoughtFrom}
-use Rattle.record.specs.Lists.{optOf, numberOf, fieldOf}
-use Rattle.record.specs.Steps.{enumsAt, EnumsFrom, aliasIn, aliasFound, aliasesAt, bitfieldsAt, BitfieldsFrom}
+use Rattle.record.specs.Lists.{optOf, numberOf, enumOf, fieldOf}
+use Rattle.record.specs.Steps.{enumsAt, valuesAt, enumIn, EnumsFrom, aliasIn, aliasFound, aliasesAt, bitfieldsAt, BitfieldsFrom}
 use Rattle.record.specs.Kind.{kindOf}
 use Rattle.record.specs.Shapes.{enumSize, aliasSize, bitfieldSize, sized, scalarSize, sizeAs, shapeSize, limit, capped}
 use Rattle.record.specs.Reading.{rec, schemaFrom, schemaOf}
@@ -38,7 +38,8 @@ use Rattle.record.specs.declared.seek.Sought.the-variants.{Nowhere, At}
 use Rattle.record.specs.declared.lists.AliasStep.{AliasStep}
 use Rattle.record.specs.declared.lists.AliasStep.the-variants.{NoAlias, AnAlias}
 use Rattle.record.specs.declared.lists.BitfieldStep.the-variants.{NoBitfield, ABitfield}
-use Rattle.record.proofs.StepLaws.{enums-none, enums-found, find-enum-none, find-enum-hit, find-enum-miss, bitfields-none, bitfields-found, find-bitfield-none, find-bitfield-hit, find-bitfield-miss}
+use Rattle.record.proofs.ListLaws.{find-none, find-hit, find-miss}
+use Rattle.record.proofs.StepLaws.{enums-none, enums-found, enums-over-now, enums-now, bitfields-none, bitfields-found, find-bitfield-none, find-bitfield-hit, find-bitfield-miss}
 
 -- sizes as far as the limit ----------------------------------------------------------------------------------------------
 
@@ -121,22 +122,26 @@ pub ruleset named-size-laws = (alias-size-none, alias-size-some)
 -- the first enum of a name, by the places of the enums
 module _ (s p n : Str) (at : ℕ) (r : Sought) (i : SoughtFrom s Anything 4 at r) where
   pub enum-size-end : r ≡ Nowhere → enumSize (enumsAt s p at) n ≡ none
-  unfolding enumSize mapOption
-  enum-size-end m = ap (mapOption (λ (e : Enum). e .size)) (find-enum-none s at NoEnum (enums-none s at r i m) p n refl)
+  unfolding enumSize enumIn mapOption
+  enum-size-end m = ap (mapOption (λ (e : Enum). e .size)) (find-none (λ (v : Enum). eqs (v .name) n) (enumsAt s p at) (enums-over-now s at NoEnum (enums-none s at r i m) p refl))
 
   module _ (a k : ℕ) (m : r ≡ At a k) (y : Str) (d : y ≡ drop a s) (t : Text) (e : t ≡ textAt y 1) (x : Str) (g : x ≡ textOf p t) (b : Bool) (q : b ≡ eqs x n) where
     found : EnumsFrom s at (AnEnum (enumAt y) (place k))
     found = enums-found s at r i a k m y (enumAt y) (place k) d refl refl
 
+    first : enumsAt s p at ≡ enumOf p (enumAt y) (valuesAt s p k) ∷ enumsAt s p k
+    first = enums-now s at (AnEnum (enumAt y) (place k)) found p (enumAt y) (place k) refl
+
+    named : eqs (textOf p (textAt y 1)) n ≡ b
+    named = sym (q ∙ ap (λ (v : Str). eqs v n) (g ∙ ap (textOf p) e))
+
     pub enum-size-hit : (z : ℕ) → b ≡ true → z ≡ u32At y 4 → enumSize (enumsAt s p at) n ≡ some z
-    unfolding enumSize mapOption
-    enum-size-hit z h l =
-        ap (mapOption (λ (v : Enum). v .size)) (find-enum-hit s at (AnEnum (enumAt y) (place k)) found p n x b (enumAt y) (place k) refl (g ∙ ap (textOf p) e) q h) ∙ ap some (sym l)
+    unfolding enumSize enumIn mapOption
+    enum-size-hit z h l = ap (mapOption (λ (v : Enum). v .size)) (find-hit (λ (v : Enum). eqs (v .name) n) (enumsAt s p at) _ _ first (named ∙ h)) ∙ ap some (sym l)
 
     pub enum-size-miss : b ≡ false → enumSize (enumsAt s p at) n ≡ enumSize (enumsAt s p k) n
-    unfolding enumSize
-    enum-size-miss h =
-        ap (mapOption (λ (v : Enum). v .size)) (find-enum-miss s at (AnEnum (enumAt y) (place k)) found p n x b (enumAt y) (place k) refl (g ∙ ap (textOf p) e) q h)
+    unfolding enumSize enumIn
+    enum-size-miss h = ap (mapOption (λ (v : Enum). v .size)) (find-miss (λ (v : Enum). eqs (v .name) n) (enumsAt s p at) _ _ first (named ∙ h))
 
 pub ruleset enum-size-laws = (enum-size-end, enum-size-hit, enum-size-miss)
 

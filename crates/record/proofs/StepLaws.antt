@@ -12,7 +12,7 @@ use Rattle.record.specs.Schema.{Alias, BitField, Const, Enum, EnumValue,
 use Rattle.record.specs.Commands.{operands, wide, widths, widthWith, widthOf, place, commandsAt, aliasAt, bitfieldAt, constantAt, enumAt, familyAt, fieldAt, headAt, keyAt, memberAt, structAt, valueAt, variantAt, versionAt}
 use Rattle.record.specs.Lists.{aliasOf, aliases, bitfieldOf, bitfields, constantOf, constants, enumOf, enums, families, familyOf, fieldOf, fields, headOf, heads, keyOf, keys, memberOf, members, structOf, structs, unstored, valueOf, values, variantOf, variants, versionOf, versions}
 use Rattle.record.specs.Seek.{SoughtFrom}
-use Rattle.record.specs.Steps.{fieldKeyAt, FieldPlace, fieldPlaced, headsAt, headsOf, headsLeft, HeadsFrom, constantsAt, constantsOf, constantsLeft, ConstantsFrom, constantFound, constantIn, aliasesAt, aliasesOf, aliasesLeft, AliasesFrom, aliasFound, aliasIn, valuesAt, valuesOf, valuesLeft, ValuesFrom, valueFound, valueIn, enumsAt, enumsOf, enumsLeft, EnumsFrom, enumFound, enumIn, membersAt, membersOf, membersLeft, MembersFrom, memberFound, memberIn, bitfieldsAt, bitfieldsOf, bitfieldsLeft, BitfieldsFrom, bitfieldFound, bitfieldIn, keysAt, keysOf, keysLeft, KeysFrom, fieldsAt, fieldsOf, fieldsLeft, FieldsFrom, structsAt, structsOf, structsLeft, StructsFrom, structFound, structIn, variantsAt, variantsOf, variantsLeft, VariantsFrom, familiesAt, familiesOf, familiesLeft, FamiliesFrom, familyFound, familyIn, unstoredAt, unstoredOf, unstoredLeft, UnstoredFrom, versionsAt, versionsOf, versionsLeft, VersionsFrom}
+use Rattle.record.specs.Steps.{fieldKeyAt, FieldPlace, fieldPlaced, headsAt, headsOf, headsLeft, HeadsFrom, constantsAt, constantsOf, constantsLeft, ConstantsFrom, aliasesAt, aliasesOf, aliasesLeft, AliasesFrom, aliasFound, aliasIn, valuesAt, valuesOf, valuesLeft, ValuesFrom, valueFound, valueIn, enumsAt, enumsOf, enumsLeft, EnumsFrom, membersAt, membersOf, membersLeft, MembersFrom, memberFound, memberIn, bitfieldsAt, bitfieldsOf, bitfieldsLeft, BitfieldsFrom, bitfieldFound, bitfieldIn, keysAt, keysOf, keysLeft, KeysFrom, fieldsAt, fieldsOf, fieldsLeft, FieldsFrom, structsAt, structsOf, structsLeft, StructsFrom, variantsAt, variantsOf, variantsLeft, VariantsFrom, familiesAt, familiesOf, familiesLeft, FamiliesFrom, familyFound, familyIn, unstoredAt, unstoredOf, unstoredLeft, UnstoredFrom, versionsAt, versionsOf, versionsLeft, VersionsFrom}
 use Rattle.record.specs.declared.command as D
 use Rattle.record.specs.declared.command.Cursor.{Cursor}
 use Rattle.record.specs.declared.seek.Between.the-variants.{Anything, Nothing, Keys, Fields}
@@ -363,22 +363,6 @@ module _ (s : Str) (at : ℕ) (r : ConstantStep) (f : ConstantsFrom s at r) wher
   pub constants-nearer : (e : D.Constant.Constant) (k : Cursor) → r ≡ AConstant e k → length s - k .at < length s - at
   constants-nearer e k m = let h : suc (length s - k .at) ≤ length s - at = subst (λ x. constantsLeft s x ≤ length s - at) m (f .left) in omega arith
 
-  pub find-constant-none : (p n : Str) → r ≡ NoConstant → constantIn n (constantsAt s p at) ≡ constantFound s p NoConstant
-  unfolding constantIn
-  find-constant-none p n m = find-none (λ (e : Const). eqs (e .name) n) (constantsAt s p at) (constants-over-now p m)
-
-  pub find-constant-hit : (p n x : Str) (b : Bool) (e : D.Constant.Constant) (k : Cursor) → r ≡ AConstant e k → x ≡ textOf p (e .name) → b ≡ eqs x n → b ≡ true → constantIn n (constantsAt s p at) ≡ constantFound s p (AConstant e k)
-  unfolding constantIn
-  find-constant-hit p n x b e k m h i j =
-      find-hit (λ (e : Const). eqs (e .name) n) (constantsAt s p at) _ _ (constants-now p e k m) (ap (λ y. eqs y n) (sym h) ∙ sym i ∙ j)
-
-  pub find-constant-miss : (p n x : Str) (b : Bool) (e : D.Constant.Constant) (k : Cursor) → r ≡ AConstant e k → x ≡ textOf p (e .name) → b ≡ eqs x n → b ≡ false → constantIn n (constantsAt s p at) ≡ constantIn n (constantsAt s p (k .at))
-  unfolding constantIn
-  find-constant-miss p n x b e k m h i j =
-      find-miss (λ (e : Const). eqs (e .name) n) (constantsAt s p at) _ _ (constants-now p e k m) (ap (λ y. eqs y n) (sym h) ∙ sym i ∙ j)
-
-pub ruleset find-constant-laws = (find-constant-none, find-constant-hit, find-constant-miss)
-
 module _ (s : Str) (at : ℕ) (r : AliasStep) (f : AliasesFrom s at r) where
   -- the list itself, at the step
   pub aliases-over-now : (p : Str) → r ≡ NoAlias → aliasesAt s p at ≡ []
@@ -443,22 +427,6 @@ module _ (s : Str) (at : ℕ) (r : EnumStep) (f : EnumsFrom s at r) where
 
   pub enums-nearer : (e : D.Enum.Enum) (k : Cursor) → r ≡ AnEnum e k → length s - k .at < length s - at
   enums-nearer e k m = let h : suc (length s - k .at) ≤ length s - at = subst (λ x. enumsLeft s x ≤ length s - at) m (f .left) in omega arith
-
-  pub find-enum-none : (p n : Str) → r ≡ NoEnum → enumIn n (enumsAt s p at) ≡ enumFound s p NoEnum
-  unfolding enumIn
-  find-enum-none p n m = find-none (λ (e : Enum). eqs (e .name) n) (enumsAt s p at) (enums-over-now p m)
-
-  pub find-enum-hit : (p n x : Str) (b : Bool) (e : D.Enum.Enum) (k : Cursor) → r ≡ AnEnum e k → x ≡ textOf p (e .name) → b ≡ eqs x n → b ≡ true → enumIn n (enumsAt s p at) ≡ enumFound s p (AnEnum e k)
-  unfolding enumIn
-  find-enum-hit p n x b e k m h i j =
-      find-hit (λ (e : Enum). eqs (e .name) n) (enumsAt s p at) _ _ (enums-now p e k m) (ap (λ y. eqs y n) (sym h) ∙ sym i ∙ j)
-
-  pub find-enum-miss : (p n x : Str) (b : Bool) (e : D.Enum.Enum) (k : Cursor) → r ≡ AnEnum e k → x ≡ textOf p (e .name) → b ≡ eqs x n → b ≡ false → enumIn n (enumsAt s p at) ≡ enumIn n (enumsAt s p (k .at))
-  unfolding enumIn
-  find-enum-miss p n x b e k m h i j =
-      find-miss (λ (e : Enum). eqs (e .name) n) (enumsAt s p at) _ _ (enums-now p e k m) (ap (λ y. eqs y n) (sym h) ∙ sym i ∙ j)
-
-pub ruleset find-enum-laws = (find-enum-none, find-enum-hit, find-enum-miss)
 
 module _ (s : Str) (at : ℕ) (r : MemberStep) (f : MembersFrom s at r) where
   -- the list itself, at the step
@@ -546,22 +514,6 @@ module _ (s : Str) (at : ℕ) (r : StructStep) (f : StructsFrom s at r) where
 
   pub structs-nearer : (e : D.Struct.Struct) (k : Cursor) → r ≡ AStruct e k → length s - k .at < length s - at
   structs-nearer e k m = let h : suc (length s - k .at) ≤ length s - at = subst (λ x. structsLeft s x ≤ length s - at) m (f .left) in omega arith
-
-  pub find-struct-none : (p n : Str) → r ≡ NoStruct → structIn n (structsAt s p at) ≡ structFound s p NoStruct
-  unfolding structIn
-  find-struct-none p n m = find-none (λ (e : Struct). eqs (e .name) n) (structsAt s p at) (structs-over-now p m)
-
-  pub find-struct-hit : (p n x : Str) (b : Bool) (e : D.Struct.Struct) (k : Cursor) → r ≡ AStruct e k → x ≡ textOf p (e .name) → b ≡ eqs x n → b ≡ true → structIn n (structsAt s p at) ≡ structFound s p (AStruct e k)
-  unfolding structIn
-  find-struct-hit p n x b e k m h i j =
-      find-hit (λ (e : Struct). eqs (e .name) n) (structsAt s p at) _ _ (structs-now p e k m) (ap (λ y. eqs y n) (sym h) ∙ sym i ∙ j)
-
-  pub find-struct-miss : (p n x : Str) (b : Bool) (e : D.Struct.Struct) (k : Cursor) → r ≡ AStruct e k → x ≡ textOf p (e .name) → b ≡ eqs x n → b ≡ false → structIn n (structsAt s p at) ≡ structIn n (structsAt s p (k .at))
-  unfolding structIn
-  find-struct-miss p n x b e k m h i j =
-      find-miss (λ (e : Struct). eqs (e .name) n) (structsAt s p at) _ _ (structs-now p e k m) (ap (λ y. eqs y n) (sym h) ∙ sym i ∙ j)
-
-pub ruleset find-struct-laws = (find-struct-none, find-struct-hit, find-struct-miss)
 
 module _ (s : Str) (at : ℕ) (r : VariantStep) (f : VariantsFrom s at r) where
   -- the list itself, at the step

@@ -1,4 +1,5 @@
 -- The generation of a structure: generation_constant of schema.rs. Assumes nothing.
+use mathlib.Core.Path.{_≡_}
 use mathlib.Core.List.{List}
 use mathlib.Core.Option.{Option, none, some}
 use mathlib.Core.Bool.{cond}
@@ -7,7 +8,10 @@ use lib.Dec.{ltb}
 use Rattle.record.specs.Base.{Str}
 use Rattle.record.specs.Schema.{Value, integer, words, Const, Struct}
 use Rattle.record.specs.Stretch.{textOf}
-use Rattle.record.specs.Steps.{structIn, constantIn}
+use Rattle.record.specs.Lists.{optOf}
+use Rattle.record.specs.Steps.{structIn, constantIn, structsAt, constantsAt}
+use Rattle.record.specs.Index.{Indexed}
+use Rattle.record.specs.declared.operands.OptText.{OptText}
 use Rattle.record.specs.declared.generation.Generation.{Generation}
 use Rattle.record.specs.declared.generation.Generation.the-variants as G
 
@@ -40,3 +44,11 @@ generationOf ss cs n = ofStruct cs (structIn n ss)
 abbrev pub heldAs : Str → Generation → Option Held
 heldAs p G.NoGeneration = none
 heldAs p (G.Held k n) = some (record { constant = textOf p k; number = n })
+
+-- the generation that a version constant holds, and that of the first structure of a name, where the index is the record's
+module _ (s p : Str) (x : List ℕ) where
+  pub record HeldBy (v : OptText) (r : Generation) : Type 0 where
+    pub this : Indexed s p x → heldAs p r ≡ ofVersion (constantsAt s p 0) (optOf p v)
+
+  pub record HoldsGeneration (n : Str) (r : Generation) : Type 0 where
+    pub this : Indexed s p x → heldAs p r ≡ generationOf (structsAt s p 0) (constantsAt s p 0) n

@@ -7,13 +7,13 @@ use mathlib.Core.Bool.{Bool, true, false, _&&_, cond}
 use Prim.Native.Nat.{ℕ, zero, suc, _+_, _-_, _*_, _/_, _%_, _≤_, _<_}
 use lib.ListN.{length, getD, set, drop}
 use lib.Dec.{eqb, ltb}
-use Rattle.record.specs.Base.{Str, eqs, any}
+use Rattle.record.specs.Base.{Str, eqs, findLast, any}
 use Rattle.record.specs.Stretch.{textOf}
 use Rattle.record.specs.Operands.{textAt, flagAt}
-use Rattle.record.specs.Commands.{aliasAt, enumAt, bitfieldAt, structAt, familyAt, commandsAt}
-use Rattle.record.specs.Schema.{Alias, Enum, BitField, Struct, Family}
-use Rattle.record.specs.Lists.{aliasOf, enumOf, bitfieldOf, structOf, familyOf}
-use Rattle.record.specs.Steps.{valuesAt, membersAt, fieldsAt, variantsAt, aliasesAt, enumsAt, bitfieldsAt, structsAt, familiesAt, aliasIn, enumIn, bitfieldIn, structIn, familyIn}
+use Rattle.record.specs.Commands.{constantAt, aliasAt, enumAt, bitfieldAt, structAt, familyAt, commandsAt}
+use Rattle.record.specs.Schema.{Const, Alias, Enum, BitField, Struct, Family}
+use Rattle.record.specs.Lists.{constantOf, aliasOf, enumOf, bitfieldOf, structOf, familyOf}
+use Rattle.record.specs.Steps.{valuesAt, membersAt, fieldsAt, variantsAt, constantsAt, aliasesAt, enumsAt, bitfieldsAt, structsAt, familiesAt, constantIn, aliasIn, enumIn, bitfieldIn, structIn, familyIn}
 use Rattle.record.specs.Seek.{afterAt}
 use Rattle.record.specs.declared.seek.Sought.{Sought}
 use Rattle.record.specs.declared.seek.Sought.the-variants.{Nowhere, At}
@@ -30,17 +30,21 @@ hashOf x =
 unfoldable pub declaredName : Str → Str → ℕ → Str
 declaredName s p at = textOf p (textAt (drop at s) 1)
 
--- whether a command declares a name that look-ups ask for: an alias, an enum, a bit field, a structure or a family
+-- whether a command declares a name that look-ups ask for: a constant, an alias, an enum, a bit field, a structure or a family
 unfoldable pub declares : ℕ → Bool
-declares b = cond (eqb b 8) true (cond (eqb b 9) true (cond (eqb b 3) true (cond (eqb b 4) true (eqb b 6))))
+declares b = cond (eqb b 8) true (cond (eqb b 9) true (cond (eqb b 3) true (cond (eqb b 4) true (cond (eqb b 2) true (eqb b 6)))))
 
 -- whether the command at a place has this number and name
 unfoldable pub isNamed : Str → Str → ℕ → Str → ℕ → Bool
 isNamed s p b n at = eqb (getD s at 0) b && eqs (declaredName s p at) n
 
--- whether it is a standalone family of this name
-unfoldable pub isAlone : Str → Str → Str → ℕ → Bool
-isAlone s p n at = eqb (getD s at 0) 9 && (flagAt (drop at s) 16 && eqs (declaredName s p at) n)
+-- whether the flag at a place f of the command at a place is set; any is where f is 0
+unfoldable pub isFlagged : Str → ℕ → ℕ → Bool
+isFlagged s f at = cond (eqb f 0) true (flagAt (drop at s) f)
+
+-- whether the command at a place has the flag, and this number and name
+unfoldable pub counts : Str → Str → ℕ → ℕ → Str → ℕ → Bool
+counts s p b f n at = isFlagged s f at && isNamed s p b n at
 
 -- places -----------------------------------------------------------------------------------------------------------------
 
@@ -93,6 +97,11 @@ unfoldable pub hitIn : (ℕ → Bool) → List ℕ → ℕ → ℕ
 hitIn t [] found = found
 hitIn t (q ∷ l) found = hitIn t l (cond (t q) (suc q) found)
 
+-- the first of some places that passes a test, one more than it is; 0 where none does
+unfoldable pub firstIn : (ℕ → Bool) → List ℕ → ℕ
+firstIn t [] = 0
+firstIn t (q ∷ l) = cond (t q) (suc q) (firstIn t l)
+
 -- the entry of the command at a place, where it leads to a place before
 unfoldable pub linkBefore : List ℕ → ℕ → ℕ
 linkBefore x at = cond (ltb at (getD x (256 + at / 7) 0)) 0 (getD x (256 + at / 7) 0)
@@ -106,12 +115,20 @@ pub record Headless (before x : List ℕ) : Type 0 where
 pub record FirstNamed (s p : Str) (x : List ℕ) (b : ℕ) (n : Str) (r : ℕ) : Type 0 where
   pub first : Indexed s p x → r ≡ hitIn (isNamed s p b n) (declaredPlaces s) 0
 
+-- the same of the last one that has a flag, which stands first among the places
+pub record LastNamed (s p : Str) (x : List ℕ) (b f : ℕ) (n : Str) (r : ℕ) : Type 0 where
+  pub last : Indexed s p x → r ≡ firstIn (counts s p b f n) (declaredPlaces s)
+
 -- a place that is one less than a number, and the place after its command
 unfoldable pub soughtAt : Str → ℕ → Sought
 soughtAt s zero = Nowhere
 soughtAt s (suc q) = At q (afterAt s q)
 
 -- what the command at a place declares, with the place after it
+abbrev pub constantPlaced : Str → Str → Sought → Option Const
+constantPlaced s p Nowhere = none
+constantPlaced s p (At a k) = some (constantOf p (constantAt (drop a s)))
+
 abbrev pub aliasPlaced : Str → Str → Sought → Option Alias
 aliasPlaced s p Nowhere = none
 aliasPlaced s p (At a k) = some (aliasOf p (aliasAt (drop a s)))
@@ -132,8 +149,9 @@ abbrev pub familyPlaced : Str → Str → Sought → Option Family
 familyPlaced s p Nowhere = none
 familyPlaced s p (At a k) = some (familyOf p (familyAt (drop a s)) (fieldsAt s p k) (variantsAt s p k))
 
--- the answer is the place of the first alias of a name, asked for by 3, and so on
+-- the answer is the place of the first constant of a name, asked for by 2, and so on
 pub record PlaceNamed (s p n : Str) (b : ℕ) (r : Sought) : Type 0 where
+  pub constant : b ≡ 2 → constantIn n (constantsAt s p 0) ≡ constantPlaced s p r
   pub alias : b ≡ 3 → aliasIn n (aliasesAt s p 0) ≡ aliasPlaced s p r
   pub enum : b ≡ 4 → enumIn n (enumsAt s p 0) ≡ enumPlaced s p r
   pub bitfield : b ≡ 6 → bitfieldIn n (bitfieldsAt s p 0) ≡ bitfieldPlaced s p r
@@ -143,6 +161,18 @@ pub record PlaceNamed (s p n : Str) (b : ℕ) (r : Sought) : Type 0 where
 -- the same where the index is the record's
 pub record Declared (s p : Str) (x : List ℕ) (b : ℕ) (n : Str) (r : Sought) : Type 0 where
   pub named : Indexed s p x → PlaceNamed s p n b r
+
+-- the answer is the place of the last constant of a name, asked for by 2 with no flag, of the last constant and the last enum in the plugin API, and of the
+-- last standalone family
+pub record PlaceLast (s p n : Str) (b f : ℕ) (r : Sought) : Type 0 where
+  pub constant : b ≡ 2 → f ≡ 0 → findLast (λ (c : Const). eqs (c .name) n) (constantsAt s p 0) ≡ constantPlaced s p r
+  pub api-constant : b ≡ 2 → f ≡ 16 → findLast (λ (c : Const). c .api && eqs (c .name) n) (constantsAt s p 0) ≡ constantPlaced s p r
+  pub api-enum : b ≡ 4 → f ≡ 8 → findLast (λ (e : Enum). e .api && eqs (e .name) n) (enumsAt s p 0) ≡ enumPlaced s p r
+  pub standalone : b ≡ 9 → f ≡ 16 → findLast (λ (m : Family). m .standalone && eqs (m .name) n) (familiesAt s p 0) ≡ familyPlaced s p r
+
+-- the same where the index is the record's
+pub record LastDeclared (s p : Str) (x : List ℕ) (b f : ℕ) (n : Str) (r : Sought) : Type 0 where
+  pub named : Indexed s p x → PlaceLast s p n b f r
 
 -- the answer, where the index is the record's: whether a family of a name is standalone
 pub record Alone (s p : Str) (x : List ℕ) (n : Str) (r : Bool) : Type 0 where

@@ -2,15 +2,16 @@
 use mathlib.Core.Path.{_≡_}
 use mathlib.Core.List.{List, [], _∷_}
 use mathlib.Core.Option.{Option, none, some}
-use Prim.Native.Nat.{ℕ}
+use Prim.Native.Nat.{ℕ, _≤_}
 use Rattle.record.specs.Base.{Str, withSome}
 use Rattle.record.specs.Schema.{Key, Field, Struct}
+use Rattle.record.specs.Commands.{place}
 use Rattle.record.specs.Lists.{keyOf}
 use Rattle.record.specs.Steps.{fieldsAt, structsAt, unstoredAt}
-use Rattle.record.specs.declared.lists.KeyStep.{KeyStep}
-use Rattle.record.specs.declared.lists.KeyStep.the-variants.{NoKey, AKey}
 use Rattle.record.specs.declared.keys.KeysAt.{KeysAt}
 use Rattle.record.specs.declared.keys.KeysAt.the-variants.{Structs, Fields, Unstored}
+use Rattle.record.specs.declared.keys.FieldKey.{FieldKey}
+use Rattle.record.specs.declared.keys.FieldKey.the-variants.{Ended, Keyed}
 use Rattle.record.specs.declared.keys.PluginKeyStep.{PluginKeyStep}
 use Rattle.record.specs.declared.keys.PluginKeyStep.the-variants.{NoPluginKey, APluginKey}
 
@@ -28,7 +29,7 @@ pluginKeys (t ∷ ts) l = fieldKeys (t .fields) (pluginKeys ts l)
 -- what is left of the walk
 unfoldable pub keysFrom : Str → Str → KeysAt → List Key
 keysFrom s p (Structs k) = pluginKeys (structsAt s p (k .at)) (unstoredAt s p 0)
-keysFrom s p (Fields f k) = fieldKeys (fieldsAt s p (f .at)) (pluginKeys (structsAt s p (k .at)) (unstoredAt s p 0))
+keysFrom s p (Fields k) = fieldKeys (fieldsAt s p (k .at)) (pluginKeys (structsAt s p (k .at)) (unstoredAt s p 0))
 keysFrom s p (Unstored k) = unstoredAt s p (k .at)
 
 -- nothing is taken yet, in any record
@@ -43,10 +44,15 @@ pluginKeysOf s p (APluginKey e k) = keyOf p e ∷ keysFrom s p k
 pub record PluginKeysFrom (s : Str) (at : KeysAt) (r : PluginKeyStep) : Type 0 where
   pub list : (p : Str) → keysFrom s p at ≡ pluginKeysOf s p r
 
--- the keys of the fields at a step, before some others
-abbrev pub fieldKeysOf : Str → Str → KeyStep → List Key → List Key
-fieldKeysOf s p NoKey l = l
-fieldKeysOf s p (AKey e k) l = keyOf p e ∷ fieldKeys (fieldsAt s p (k .at)) l
+-- the list at a step along the fields, and where they end
+abbrev pub fieldKeysOf : Str → Str → FieldKey → List Key
+fieldKeysOf s p (Ended k) = keysFrom s p (Structs k)
+fieldKeysOf s p (Keyed e k) = keyOf p e ∷ keysFrom s p (Fields k)
 
-pub record InFields (s : Str) (at : ℕ) (r : KeyStep) : Type 0 where
-  pub list : (p : Str) (l : List Key) → fieldKeys (fieldsAt s p at) l ≡ fieldKeysOf s p r l
+abbrev pub endsAhead : ℕ → FieldKey → Type 0
+endsAhead at (Ended k) = at ≤ k .at
+endsAhead at (Keyed e k) = Unit
+
+pub record InFields (s : Str) (at : ℕ) (r : FieldKey) : Type 0 where
+  pub list : (p : Str) → keysFrom s p (Fields (place at)) ≡ fieldKeysOf s p r
+  pub ahead : endsAhead at r

@@ -1,16 +1,14 @@
 // The generation of a structure: generation_constant of the Rust.
-use crate::command::Cursor;
+use crate::cut;
+use crate::index::find_declared;
 use crate::lists::ConstantStep;
-use crate::lists::StructStep;
-use crate::lists::find_constant;
-use crate::lists::find_struct;
+use crate::named::first_constant;
 use crate::operands::OptText;
+use crate::operands::opt_text_at;
+use crate::seek::Sought;
 use crate::text::Text;
 use crate::text::bytes_of;
-ghost use mathlib.Core.Path.{_≡_};
-ghost use Rattle.record.specs.Lists.{optOf};
-ghost use Rattle.record.specs.Steps.{structsAt, constantsAt};
-ghost use Rattle.record.specs.Generation.{ofVersion, generationOf, heldAs};
+ghost use Rattle.record.specs.Generation.{HeldBy, HoldsGeneration};
 
 // The name of the constant that holds the generation, as the structure's command gives it, and the number.
 pub enum Generation {
@@ -19,18 +17,14 @@ pub enum Generation {
 }
 
 // The generation that a version constant holds: its number if it is below 2 ^ 32, which a negative one, kept as its 64 bits, is not.
-fn held_by(stream: &[u8], pool: &[u8], version: OptText) -> Generation
-    ensures { λ r. ⌜ heldAs (now (pool .entry)) r ≡ ofVersion (constantsAt (now (stream .entry)) (now (pool .entry)) 0) (optOf (now (pool .entry)) version) ⌝ }
+fn held_by(stream: &[u8], pool: &[u8], index: &[u16], version: OptText) -> Generation
+    ensures { λ r. ⌜ HeldBy (now (stream .entry)) (now (pool .entry)) (now (index .entry)) version r ⌝ }
 {
     let OptText::Given(name) = version else {
         return Generation::NoGeneration;
     };
-    let ConstantStep::AConstant(c, _) = find_constant(
-        stream,
-        pool,
-        Cursor::new(),
-        bytes_of(pool, name),
-    ) else {
+    let held = first_constant(stream, pool, index, bytes_of(pool, name));
+    let ConstantStep::AConstant(c, _) = held else {
         return Generation::NoGeneration;
     };
     if c.is_text {
@@ -43,12 +37,16 @@ fn held_by(stream: &[u8], pool: &[u8], version: OptText) -> Generation
 }
 
 // The generation of the first structure of a name.
-pub fn generation_constant(stream: &[u8], pool: &[u8], name: &[u8]) -> Generation
-    ensures { λ r. ⌜ heldAs (now (pool .entry)) r ≡ generationOf (structsAt (now (stream .entry)) (now (pool .entry)) 0) (constantsAt (now (stream .entry)) (now (pool .entry)) 0) (now (name .entry)) ⌝ }
+pub fn generation_constant(stream: &[u8], pool: &[u8], index: &[u16], name: &[u8]) -> Generation
+    ensures { λ r. ⌜ HoldsGeneration (now (stream .entry)) (now (pool .entry)) (now (index .entry)) (now (name .entry)) r ⌝ }
 {
-    let StructStep::AStruct(e, _) = find_struct(stream, pool, Cursor::new(), name) else {
+    let Sought::At(place, _) = find_declared(stream, pool, index, 8, name) else {
         return Generation::NoGeneration;
     };
-    let version = e.version_constant;
-    held_by(stream, pool, version)
+    held_by(
+        stream,
+        pool,
+        index,
+        opt_text_at(cut::from(stream, place), 7),
+    )
 }

@@ -13,7 +13,7 @@ ghost use mathlib.Core.Path.{_≡_};
 ghost use mathlib.Core.List.{List};
 ghost use Prim.Native.Nat.{_+_, _/_, _≤_, _<_};
 ghost use lib.ListN.{length, getD, set};
-ghost use Rattle.record.specs.Index.{hashOf, declaredName, declares, isNamed, isAlone, linkBefore, putAt, IndexRoom, Indexed, Headless, FirstNamed, Declared, Alone};
+ghost use Rattle.record.specs.Index.{hashOf, declaredName, declares, isNamed, linkBefore, putAt, IndexRoom, Indexed, Headless, FirstNamed, Declared, isFlagged, counts, LastNamed, LastDeclared, Alone};
 
 // A byte of a text as a larger number; 0 past its end.
 fn size_at(name: &[u8], at: usize) -> usize
@@ -45,7 +45,7 @@ fn declared_name<'a>(stream: &[u8], pool: &'a [u8], place: usize) -> &'a [u8]
     bytes_of(pool, text_at(cut::from(stream, place), 1))
 }
 
-// Whether a command declares a name that look-ups ask for: an alias, an enum, a bit field, a structure or a family.
+// Whether a command declares a name that look-ups ask for: a constant, an alias, an enum, a bit field, a structure or a family.
 fn declares(byte: u8) -> bool
     ensures { λ r. ⌜ r ≡ declares byte ⌝ }
 {
@@ -59,6 +59,9 @@ fn declares(byte: u8) -> bool
         return true;
     }
     if byte == 4 {
+        return true;
+    }
+    if byte == 2 {
         return true;
     }
     byte == 6
@@ -189,34 +192,6 @@ pub(crate) fn first_named(
     found
 }
 
-// Whether the command at a place is a standalone family of this name.
-fn is_alone(stream: &[u8], pool: &[u8], name: &[u8], place: usize) -> bool
-    ensures { λ r. ⌜ r ≡ isAlone (now (stream .entry)) (now (pool .entry)) (now (name .entry)) place ⌝ }
-{
-    if byte_at(stream, place) != 9 {
-        return false;
-    }
-    if flag_at(cut::from(stream, place), 16) {
-        return same(declared_name(stream, pool, place), name);
-    }
-    false
-}
-
-// Whether a family of this name is standalone.
-pub fn stands_alone(stream: &[u8], pool: &[u8], index: &[u16], name: &[u8]) -> bool
-    ensures { λ r. ⌜ Alone (now (stream .entry)) (now (pool .entry)) (now (index .entry)) (now (name .entry)) r ⌝ }
-{
-    let mut link = link_at(index, hash_of(name));
-    while link != 0 {
-        let place = link - 1;
-        if is_alone(stream, pool, name, place) {
-            return true;
-        }
-        link = link_before(index, place);
-    }
-    false
-}
-
 // The place of the first command of a number and a name, and the place after it.
 pub(crate) fn find_declared(
     stream: &[u8],
@@ -233,4 +208,75 @@ pub(crate) fn find_declared(
     }
     let place = found - 1;
     Sought::At(place, after_at(stream, place))
+}
+
+// Whether the flag at this place of a command is set; any is where the place is 0.
+fn is_flagged(stream: &[u8], flag: usize, place: usize) -> bool
+    ensures { λ r. ⌜ r ≡ isFlagged (now (stream .entry)) flag place ⌝ }
+{
+    if flag == 0 {
+        return true;
+    }
+    flag_at(cut::from(stream, place), flag)
+}
+
+// Whether the command at a place has this number and name, and the flag.
+fn counts(stream: &[u8], pool: &[u8], number: u8, flag: usize, name: &[u8], place: usize) -> bool
+    ensures { λ r. ⌜ r ≡ counts (now (stream .entry)) (now (pool .entry)) number flag (now (name .entry)) place ⌝ }
+{
+    if is_named(stream, pool, number, name, place) {
+        return is_flagged(stream, flag, place);
+    }
+    false
+}
+
+// The last command of a number and a name that has a flag, one more than its place; 0 where there is none. It is the first that is seen.
+fn last_named(
+    stream: &[u8],
+    pool: &[u8],
+    index: &[u16],
+    number: u8,
+    flag: usize,
+    name: &[u8],
+) -> usize
+    ensures { λ r. ⌜ LastNamed (now (stream .entry)) (now (pool .entry)) (now (index .entry)) number flag (now (name .entry)) r ⌝ }
+{
+    let mut link = link_at(index, hash_of(name));
+    while link != 0 {
+        let place = link - 1;
+        if counts(stream, pool, number, flag, name, place) {
+            return link;
+        }
+        link = link_before(index, place);
+    }
+    0
+}
+
+// The place of the last command of a number and a name that has a flag, and the place after it.
+pub(crate) fn find_last(
+    stream: &[u8],
+    pool: &[u8],
+    index: &[u16],
+    number: u8,
+    flag: usize,
+    name: &[u8],
+) -> Sought
+    ensures { λ r. ⌜ LastDeclared (now (stream .entry)) (now (pool .entry)) (now (index .entry)) number flag (now (name .entry)) r ⌝ }
+{
+    let found = last_named(stream, pool, index, number, flag, name);
+    if found == 0 {
+        return Sought::Nowhere;
+    }
+    let place = found - 1;
+    Sought::At(place, after_at(stream, place))
+}
+
+// Whether a family of this name is standalone.
+pub fn stands_alone(stream: &[u8], pool: &[u8], index: &[u16], name: &[u8]) -> bool
+    ensures { λ r. ⌜ Alone (now (stream .entry)) (now (pool .entry)) (now (index .entry)) (now (name .entry)) r ⌝ }
+{
+    let Sought::At(_, _) = find_last(stream, pool, index, 9, 16, name) else {
+        return false;
+    };
+    true
 }

@@ -13,10 +13,10 @@ use crate::seek::seek;
 ghost use Rattle.record.specs.declared.keys.KeysAt.the-variants.{Structs, Unstored};
 ghost use Rattle.record.specs.Keys.{AllKeys, InFields, PluginKeysFrom};
 
-// What is left of the walk: the structures from a cursor on; the fields from a cursor on and the structures from another; the unstored keys from a cursor on.
+// What is left of the walk: the structures from a cursor on; the fields and then the structures from a cursor on; the unstored keys from a cursor on.
 pub enum KeysAt {
     Structs(Cursor),
-    Fields(Cursor, Cursor),
+    Fields(Cursor),
     Unstored(Cursor),
 }
 
@@ -32,18 +32,24 @@ pub fn first_key() -> KeysAt
     KeysAt::Structs(Cursor::new())
 }
 
-// The next plugin key of the fields from a cursor on, with the cursor after its field.
-fn next_in_fields(stream: &[u8], from: Cursor) -> KeyStep
+// A plugin key of some fields, with the cursor after its field; or none, with the cursor after the last field.
+enum FieldKey {
+    Ended(Cursor),
+    Keyed(PluginKey, Cursor),
+}
+
+// The next plugin key of the fields from a cursor on.
+fn next_in_fields(stream: &[u8], from: Cursor) -> FieldKey
     ensures { λ r. ⌜ InFields (now (stream .entry)) (from .at) r ⌝ }
 {
     let mut at = from.at;
     loop {
         let Sought::At(_, after) = seek(stream, at, 11, Between::Keys) else {
-            return KeyStep::NoKey;
+            return FieldKey::Ended(Cursor::place(at));
         };
         let here = Cursor::place(after);
         if let KeyStep::AKey(e, _) = next_key(stream, here) {
-            return KeyStep::AKey(e, here);
+            return FieldKey::Keyed(e, here);
         }
         at = after;
     }
@@ -68,10 +74,15 @@ fn next_in_structs(stream: &[u8], from: Cursor) -> PluginKeyStep
         let StructStep::AStruct(_, after) = next_struct(stream, cursor) else {
             return next_unstored_key(stream, Cursor::new());
         };
-        if let KeyStep::AKey(e, inside) = next_in_fields(stream, after) {
-            return PluginKeyStep::APluginKey(e, KeysAt::Fields(inside, after));
+        let key = next_in_fields(stream, after);
+        match key {
+            FieldKey::Keyed(e, inside) => {
+                return PluginKeyStep::APluginKey(e, KeysAt::Fields(inside));
+            }
+            FieldKey::Ended(end) => {
+                cursor = end;
+            }
         }
-        cursor = after;
     }
 }
 
@@ -81,11 +92,12 @@ pub fn next_plugin_key(stream: &[u8], at: KeysAt) -> PluginKeyStep
 {
     match at {
         KeysAt::Structs(from) => next_in_structs(stream, from),
-        KeysAt::Fields(inside, after) => {
-            let KeyStep::AKey(e, rest) = next_in_fields(stream, inside) else {
-                return next_in_structs(stream, after);
-            };
-            PluginKeyStep::APluginKey(e, KeysAt::Fields(rest, after))
+        KeysAt::Fields(from) => {
+            let key = next_in_fields(stream, from);
+            match key {
+                FieldKey::Keyed(e, inside) => PluginKeyStep::APluginKey(e, KeysAt::Fields(inside)),
+                FieldKey::Ended(end) => next_in_structs(stream, end),
+            }
         }
         KeysAt::Unstored(from) => next_unstored_key(stream, from),
     }

@@ -34,7 +34,7 @@ use crate::seek::seek;
 use crate::text::bytes_of;
 use crate::text::same;
 ghost use mathlib.Core.Path.{_≡_};
-ghost use Rattle.record.specs.Steps.{HeadsFrom, ConstantsFrom, constantsAt, constantIn, constantFound, AliasesFrom, aliasesAt, aliasIn, aliasFound, ValuesFrom, valuesAt, valueIn, valueFound, EnumsFrom, enumsAt, enumIn, enumFound, MembersFrom, membersAt, memberIn, memberFound, BitfieldsFrom, bitfieldsAt, bitfieldIn, bitfieldFound, KeysFrom, FieldsFrom, StructsFrom, structsAt, structIn, structFound, VariantsFrom, FamiliesFrom, familiesAt, familyIn, familyFound, UnstoredFrom, VersionsFrom};
+ghost use Rattle.record.specs.Steps.{HeadsFrom, ConstantsFrom, AliasesFrom, aliasesAt, aliasIn, aliasFound, ValuesFrom, valuesAt, valueIn, valueFound, EnumsFrom, MembersFrom, membersAt, memberIn, memberFound, BitfieldsFrom, bitfieldsAt, bitfieldIn, bitfieldFound, KeysFrom, FieldsFrom, StructsFrom, VariantsFrom, FamiliesFrom, familiesAt, familyIn, familyFound, UnstoredFrom, VersionsFrom};
 
 pub enum HeadStep {
     NoHead,
@@ -246,22 +246,6 @@ pub fn next_version(stream: &[u8], from: Cursor) -> VersionStep
     VersionStep::AVersion(version_at(cut::from(stream, at)), Cursor::place(after))
 }
 
-// The first constant of that name from a cursor on.
-pub fn find_constant(stream: &[u8], pool: &[u8], from: Cursor, name: &[u8]) -> ConstantStep
-    ensures { λ r. ⌜ constantIn (now (name .entry)) (constantsAt (now (stream .entry)) (now (pool .entry)) (from .at)) ≡ constantFound (now (stream .entry)) (now (pool .entry)) r ⌝ }
-{
-    let mut cursor = from;
-    loop {
-        let ConstantStep::AConstant(e, after) = next_constant(stream, cursor) else {
-            return ConstantStep::NoConstant;
-        };
-        if same(bytes_of(pool, e.name), name) {
-            return ConstantStep::AConstant(e, after);
-        }
-        cursor = after;
-    }
-}
-
 // The first alias of that name from a cursor on.
 pub fn find_alias(stream: &[u8], pool: &[u8], from: Cursor, name: &[u8]) -> AliasStep
     ensures { λ r. ⌜ aliasIn (now (name .entry)) (aliasesAt (now (stream .entry)) (now (pool .entry)) (from .at)) ≡ aliasFound (now (stream .entry)) (now (pool .entry)) r ⌝ }
@@ -294,22 +278,6 @@ pub fn find_value(stream: &[u8], pool: &[u8], from: Cursor, name: &[u8]) -> Valu
     }
 }
 
-// The first enum of that name from a cursor on.
-pub fn find_enum(stream: &[u8], pool: &[u8], from: Cursor, name: &[u8]) -> EnumStep
-    ensures { λ r. ⌜ enumIn (now (name .entry)) (enumsAt (now (stream .entry)) (now (pool .entry)) (from .at)) ≡ enumFound (now (stream .entry)) (now (pool .entry)) r ⌝ }
-{
-    let mut cursor = from;
-    loop {
-        let EnumStep::AnEnum(e, after) = next_enum(stream, cursor) else {
-            return EnumStep::NoEnum;
-        };
-        if same(bytes_of(pool, e.name), name) {
-            return EnumStep::AnEnum(e, after);
-        }
-        cursor = after;
-    }
-}
-
 // The first member of that name from a cursor on.
 pub fn find_member(stream: &[u8], pool: &[u8], from: Cursor, name: &[u8]) -> MemberStep
     ensures { λ r. ⌜ memberIn (now (name .entry)) (membersAt (now (stream .entry)) (now (pool .entry)) (from .at)) ≡ memberFound (now (stream .entry)) (now (pool .entry)) r ⌝ }
@@ -337,22 +305,6 @@ pub fn find_bitfield(stream: &[u8], pool: &[u8], from: Cursor, name: &[u8]) -> B
         };
         if same(bytes_of(pool, e.name), name) {
             return BitfieldStep::ABitfield(e, after);
-        }
-        cursor = after;
-    }
-}
-
-// The first structure of that name from a cursor on.
-pub fn find_struct(stream: &[u8], pool: &[u8], from: Cursor, name: &[u8]) -> StructStep
-    ensures { λ r. ⌜ structIn (now (name .entry)) (structsAt (now (stream .entry)) (now (pool .entry)) (from .at)) ≡ structFound (now (stream .entry)) (now (pool .entry)) r ⌝ }
-{
-    let mut cursor = from;
-    loop {
-        let StructStep::AStruct(e, after) = next_struct(stream, cursor) else {
-            return StructStep::NoStruct;
-        };
-        if same(bytes_of(pool, e.name), name) {
-            return StructStep::AStruct(e, after);
         }
         cursor = after;
     }

@@ -12,10 +12,10 @@ use Rattle.compare.proofs.constants.check_placed.Statement.{statement}
 use Rattle.compare.proofs.constants.check_placed.Tie as tie
 
 abbrev Inv-loop : tie.InvT-loop
-Inv-loop stream pool past old table i₀ i = (i ≤ length table) × (checkConstantsIn (structsAt stream pool 0) (constantsAt stream pool 0) (map (placedConstant past old) table) ≡ checkConstantsIn (structsAt stream pool 0) (constantsAt stream pool 0) (map (placedConstant past old) (drop i table)))
+Inv-loop stream pool index past old table i₀ i = (i ≤ length table) × (checkConstantsIn (structsAt stream pool 0) (constantsAt stream pool 0) (map (placedConstant past old) table) ≡ checkConstantsIn (structsAt stream pool 0) (constantsAt stream pool 0) (map (placedConstant past old) (drop i table)))
 
 abbrev μ-loop : tie.MeasureT-loop
-μ-loop stream pool past old table i₀ i = length table - i
+μ-loop stream pool index past old table i₀ i = length table - i
 
 loop-holds : tie.Need-loop-holds Inv-loop μ-loop
 loop-holds c = search needs

@@ -11,10 +11,10 @@ use Rattle.compare.proofs.enums.check_enums.Statement.{statement}
 use Rattle.compare.proofs.enums.check_enums.Tie as tie
 
 abbrev Inv-loop : tie.InvT-loop
-Inv-loop stream pool past old cursor₀ cursor = checkEnums (enumsAt stream pool 0) (enumsAt past old 0) ≡ checkEnums (enumsAt stream pool 0) (enumsAt past old (cursor .at))
+Inv-loop stream pool index past old cursor₀ cursor = checkEnums (enumsAt stream pool 0) (enumsAt past old 0) ≡ checkEnums (enumsAt stream pool 0) (enumsAt past old (cursor .at))
 
 abbrev μ-loop : tie.MeasureT-loop
-μ-loop stream pool past old cursor₀ cursor = length past - cursor .at
+μ-loop stream pool index past old cursor₀ cursor = length past - cursor .at
 
 new-requires : tie.Need-new-requires Inv-loop μ-loop
 new-requires c κs = search needs

@@ -13,10 +13,10 @@ use Rattle.compare.proofs.first_releases.check_constant_arrivals.Statem
 use Rattle.compare.proofs.first_releases.check_constant_arrivals.Tie as tie
 
 abbrev Inv-loop : tie.InvT-loop
-Inv-loop stream pool past old current copy cursor₀ cursor = checkConstantArrivals (textOf pool current) (optOf old copy) (constantsAt stream pool 0) (constantsAt past old 0) ≡ checkConstantArrivals (textOf pool current) (optOf old copy) (constantsAt stream pool (cursor .at)) (constantsAt past old 0)
+Inv-loop stream pool past old index current copy cursor₀ cursor = checkConstantArrivals (textOf pool current) (optOf old copy) (constantsAt stream pool 0) (constantsAt past old 0) ≡ checkConstantArrivals (textOf pool current) (optOf old copy) (constantsAt stream pool (cursor .at)) (constantsAt past old 0)
 
 abbrev μ-loop : tie.MeasureT-loop
-μ-loop stream pool past old current copy cursor₀ cursor = length stream - cursor .at
+μ-loop stream pool past old index current copy cursor₀ cursor = length stream - cursor .at
 
 new-requires : tie.Need-new-requires Inv-loop μ-loop
 new-requires c κs = search needs

@@ -13,10 +13,10 @@ use Rattle.compare.proofs.first_releases.check_enum_arrivals.Statement.
 use Rattle.compare.proofs.first_releases.check_enum_arrivals.Tie as tie
 
 abbrev Inv-loop : tie.InvT-loop
-Inv-loop stream pool past old current copy cursor₀ cursor = checkEnumArrivals (textOf pool current) (optOf old copy) (enumsAt stream pool 0) (enumsAt past old 0) ≡ checkEnumArrivals (textOf pool current) (optOf old copy) (enumsAt stream pool (cursor .at)) (enumsAt past old 0)
+Inv-loop stream pool past old index current copy cursor₀ cursor = checkEnumArrivals (textOf pool current) (optOf old copy) (enumsAt stream pool 0) (enumsAt past old 0) ≡ checkEnumArrivals (textOf pool current) (optOf old copy) (enumsAt stream pool (cursor .at)) (enumsAt past old 0)
 
 abbrev μ-loop : tie.MeasureT-loop
-μ-loop stream pool past old current copy cursor₀ cursor = length stream - cursor .at
+μ-loop stream pool past old index current copy cursor₀ cursor = length stream - cursor .at
 
 new-requires : tie.Need-new-requires Inv-loop μ-loop
 new-requires c κs = search needs

@@ -4,35 +4,40 @@ use Rattle.record.proofs.generation.generation_constant.Statement.{stat
 use Rattle.record.proofs.generation.generation_constant.Tie as tie
 use Rattle.record.proofs.generation.generation_constant.Reads as reads
 use Rattle.record.proofs.generation.generation_constant.Lts as lts
-use Rattle.record.proofs.command.Cursor.new.Reads as new-reads
-use Rattle.record.proofs.lists.find_struct.Reads as find-struct-reads
+use Rattle.record.proofs.cut.from.Reads as from-reads
 use Rattle.record.proofs.generation.held_by.Reads as held-by-reads
+use Rattle.record.proofs.index.find_declared.Reads as find-declared-reads
+use Rattle.record.proofs.operands.opt_text_at.Reads as opt-text-at-reads
 
--- src/generation.rt:49:63
-new-requires : tie.Need-new-requires
-new-requires c κs = search needs
+-- src/generation.rt:43:32
+find-declared-requires : tie.Need-find-declared-requires
+find-declared-requires c κs = search needs
 
--- src/generation.rt:49:37
-find-struct-requires : tie.Need-find-struct-requires
-find-struct-requires c κs = search needs
+-- src/generation.rt:43:20
+enum-known-place : tie.Need-enum-known-place
+enum-known-place c = search needs
 
--- src/generation.rt:49:29
-enum-known-e : tie.Need-enum-known-e
-enum-known-e c = search needs
-
--- src/generation.rt:50:9
+-- src/generation.rt:44:9
 enum-told : tie.Need-enum-told
 enum-told c = search needs
 
--- src/generation.rt:50:9
+-- src/generation.rt:44:9
 returns : tie.Need-returns
 returns c = search generation-laws
 
--- src/generation.rt:53:5
+-- src/generation.rt:46:46
+from-requires : tie.Need-from-requires
+from-requires c κs = search needs
+
+-- src/generation.rt:46:34
+opt-text-at-requires : tie.Need-opt-text-at-requires
+opt-text-at-requires c κs = search needs
+
+-- src/generation.rt:46:5
 held-by-requires : tie.Need-held-by-requires
 held-by-requires c κs = search needs
 
--- src/generation.rt:46:1
+-- src/generation.rt:40:1
 returns-2 : tie.Need-returns-2
 returns-2 c = search generation-laws
 
@@ -40,10 +45,11 @@ pub generation-constant-spec : {M : Type 1} → statement M
 generation-constant-spec =
     tie.close
     (tie.spec
-    new-requires
-    find-struct-requires
-    enum-known-e
+    find-declared-requires
+    enum-known-place
     enum-told
     returns
+    from-requires
+    opt-text-at-requires
     held-by-requires
     returns-2)

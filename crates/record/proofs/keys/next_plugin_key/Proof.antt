@@ -8,55 +8,55 @@ use Rattle.record.proofs.keys.next_in_fields.Reads as next-in-fields-re
 use Rattle.record.proofs.keys.next_in_structs.Reads as next-in-structs-reads
 use Rattle.record.proofs.keys.next_unstored_key.Reads as next-unstored-key-reads
 
--- src/keys.rt:81:25
+-- src/keys.rt:94:25
 enum-known-at : tie.Need-enum-known-at
 enum-known-at c = search needs
 
--- src/keys.rt:81:34
+-- src/keys.rt:94:34
 next-in-structs-requires : tie.Need-next-in-structs-requires
 next-in-structs-requires c κs = search needs
 
--- src/keys.rt:82:24
+-- src/keys.rt:95:24
 enum-known-at-2 : tie.Need-enum-known-at-2
 enum-known-at-2 c = search needs
 
--- src/keys.rt:83:42
+-- src/keys.rt:96:17
 next-in-fields-requires : tie.Need-next-in-fields-requires
 next-in-fields-requires c κs = search needs
 
--- src/keys.rt:83:31
-enum-known-e : tie.Need-enum-known-e
-enum-known-e c = search needs
+-- src/keys.rt:98:33
+enum-known-key : tie.Need-enum-known-key
+enum-known-key c = search needs
 
--- src/keys.rt:84:17
-enum-told : tie.Need-enum-told
-enum-told c = search needs
+-- src/keys.rt:99:33
+enum-known-key-2 : tie.Need-enum-known-key-2
+enum-known-key-2 c = search needs
 
--- src/keys.rt:84:17
+-- src/keys.rt:99:41
 next-in-structs-requires-2 : tie.Need-next-in-structs-requires-2
 next-in-structs-requires-2 c κs = search needs
 
--- src/keys.rt:84:17
-returns : tie.Need-returns
-returns c = search walk-laws
-
--- src/keys.rt:88:26
+-- src/keys.rt:102:26
 enum-known-at-3 : tie.Need-enum-known-at-3
 enum-known-at-3 c = search needs
 
--- src/keys.rt:88:35
+-- src/keys.rt:102:35
 next-unstored-key-requires : tie.Need-next-unstored-key-requires
 next-unstored-key-requires c κs = search needs
 
--- src/keys.rt:77:1
+-- src/keys.rt:90:1
+returns : tie.Need-returns
+returns c = search walk-laws
+
+-- src/keys.rt:90:1
 returns-2 : tie.Need-returns-2
 returns-2 c = search walk-laws
 
--- src/keys.rt:77:1
+-- src/keys.rt:90:1
 returns-3 : tie.Need-returns-3
 returns-3 c = search walk-laws
 
--- src/keys.rt:77:1
+-- src/keys.rt:90:1
 returns-4 : tie.Need-returns-4
 returns-4 c = search walk-laws
 
@@ -68,12 +68,12 @@ next-plugin-key-spec =
     next-in-structs-requires
     enum-known-at-2
     next-in-fields-requires
-    enum-known-e
-    enum-told
+    enum-known-key
+    enum-known-key-2
     next-in-structs-requires-2
-    returns
     enum-known-at-3
     next-unstored-key-requires
+    returns
     returns-2
     returns-3
     returns-4)
