@@ -410,7 +410,7 @@ pub(crate) fn check_generations(
     ensures { λ r. ⌜ meaning (now (pool .entry)) (now (old .entry)) r ≡ checkGenerations (textOf (now (pool .entry)) current) (optOf (now (old .entry)) copy) (versionsAt (now (stream .entry)) (now (pool .entry)) 0) (typesAt (now (stream .entry)) (now (pool .entry))) (constantsAt (now (stream .entry)) (now (pool .entry)) 0) (constantsAt (now (past .entry)) (now (old .entry)) 0) (changedTypes (rec (now (stream .entry)) (now (pool .entry)) (scalarsOf (now (rows .entry)))) (rec (now (past .entry)) (now (old .entry)) (scalarsOf (now (rows .entry))))) ⌝ }
 {
     let slots = versioned_structs(stream, pool);
-    mark_owners(stream, pool, index, marks);
+    mark_owners(stream, pool, slots, index, marks);
     fill_cover(
         rows,
         stream,

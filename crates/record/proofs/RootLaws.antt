@@ -16,7 +16,9 @@ use Rattle.record.specs.Owner.{structInSlot, Leads, here, along}
 use Rattle.record.specs.Index.{Indexed}
 use Rattle.record.specs.References.{typesAt, InSlot}
 use Rattle.record.specs.Marks.{targetAt, Clear, Full, Fresh, Led, Walked, TypeWalked}
-use Rattle.record.specs.Ownership.{Through, Claimed, Within, Resolved, OwnerMarks, OwnersMarked}
+use Rattle.record.specs.Ownership.{Through, Claimed, RootWalked, Within, Resolved, OwnerMarks, OwnersMarked}
+use Rattle.record.specs.Versioned.{InSlots}
+use Rattle.record.specs.declared.versioned.Versioned.{Versioned}
 use Rattle.record.specs.declared.command as D
 use Rattle.record.specs.declared.command.Cursor.{Cursor}
 use Rattle.record.specs.declared.lists.StructStep.{StructStep}
@@ -29,11 +31,11 @@ none≢some e = let z : _≡_ {A = ℕ} 0 1 = cc in omega arith
 -- a root's walk ----------------------------------------------------------------------------------------------------------
 
 module _ (s p slot : Str) (x : List ℕ) (j : Indexed s p x) (mark : ℕ) (r : StructStep) (i : InSlot s p slot r) (m : List ℕ) where
-  pub root-none : r ≡ NoStruct → Claimed s p mark slot m m
-  root-none e = record { walked = walked-none s p; full = λ root f. absurd (none≢some (sym (i .struct ∙ ap (structFound s p) e) ∙ f)) }
+  none-claimed : r ≡ NoStruct → Claimed s p mark slot m m
+  none-claimed e = record { walked = walked-none s p; full = λ root f. absurd (none≢some (sym (i .struct ∙ ap (structFound s p) e) ∙ f)) }
 
-  pub root-walked : (root : D.Struct.Struct) (k : Cursor) (w : Str) (after : List ℕ) → r ≡ AStruct root k → w ≡ textOf p (root .name) → Led s p x m after (TypeWalked s p mark w m after) → Claimed s p mark slot m after
-  root-walked root k w after e h t = record {
+  some-claimed : (root : D.Struct.Struct) (k : Cursor) (w : Str) (after : List ℕ) → r ≡ AStruct root k → w ≡ textOf p (root .name) → Led s p x m after (TypeWalked s p mark w m after) → Claimed s p mark slot m after
+  some-claimed root k w after e h t = record {
     walked = walked-into s p (λ n l. record { root = there; fills = fills; leads = subst (λ (x : Str). Leads (typesAt s p) x n) h l }) (t .so j .walked);
     full = λ x f. subst (Full s p after) (h ∙ ap (λ (y : Struct). y .name) (same x f)) (t .so j .full);
   }
@@ -46,6 +48,13 @@ module _ (s p slot : Str) (x : List ℕ) (j : Indexed s p x) (mark : ℕ) (r : S
 
       same : (x : Struct) → structInSlot slot (structsAt s p 0) ≡ some x → there ≡ x
       same x f = let g : some there ≡ some x = sym fills ∙ f in cc
+
+module _ (s p : Str) (x : List ℕ) (mark : ℕ) (r : StructStep) (m : List ℕ) where
+  pub root-none : r ≡ NoStruct → RootWalked s p x mark r m m
+  root-none e = record { by = λ slot i j. none-claimed s p slot x j mark r i m e }
+
+  pub root-walked : (root : D.Struct.Struct) (k : Cursor) (w : Str) (after : List ℕ) → r ≡ AStruct root k → w ≡ textOf p (root .name) → Led s p x m after (TypeWalked s p mark w m after) → RootWalked s p x mark r m after
+  root-walked root k w after e h t = record { by = λ slot i j. some-claimed s p slot x j mark r i m root k w after e h t }
 
 pub ruleset root-laws = (root-none, root-walked)
 
@@ -104,14 +113,14 @@ module _ (s p : Str) where
       complete n f (inl h) = record { place = f .place; leads = f .leads; marked = marked-stays s p w (f .place) (f .marked); most = let g = f .most in omega arith }
       complete n f (inr g) = absurd (f .marked (g .was))
 
-  pub marks-short : (x before : List ℕ) → length before < length s → OwnersMarked s p x before before
-  marks-short x before h = record { within = λ l. absurd (omega arith); beyond = λ l. refl }
+  pub marks-short : (roots : Versioned) (x before : List ℕ) → length before < length s → OwnersMarked s p roots x before before
+  marks-short roots x before h = record { within = λ l. absurd (omega arith); beyond = λ l. refl }
 
-  pub marks-filled : (x before after : List ℕ) → length s ≤ length before → (Indexed s p x → OwnerMarks s p after) → OwnersMarked s p x before after
-  marks-filled x before after h marks = record { within = λ l. marks; beyond = λ l. absurd (omega arith) }
+  pub marks-filled : (roots : Versioned) (x before after : List ℕ) → length s ≤ length before → (InSlots s p roots → Indexed s p x → OwnerMarks s p after) → OwnersMarked s p roots x before after
+  marks-filled roots x before after h marks = record { within = λ l. marks; beyond = λ l. absurd (omega arith) }
 
-  pub roots-marked : (a b c d : List ℕ) → Clear a → Claimed s p 1 (bytes "metadata") a b → Claimed s p 2 (bytes "runtime") b c → Claimed s p 3 (bytes "info") c d → OwnerMarks s p d
-  roots-marked a b c d clear one two three = record {
+  three-claimed : (a b c d : List ℕ) → Clear a → Claimed s p 1 (bytes "metadata") a b → Claimed s p 2 (bytes "runtime") b c → Claimed s p 3 (bytes "info") c d → OwnerMarks s p d
+  three-claimed a b c d clear one two three = record {
     metadata = resolved-stays (omega arith) (three .walked) (resolved-stays (omega arith) (two .walked) (resolved-next (settled-none clear) one));
     runtime = resolved-stays (omega arith) (three .walked) (resolved-next first two);
     info = resolved-next second three;
@@ -122,3 +131,8 @@ module _ (s p : Str) where
 
       second : Settled s p c 2
       second = settled-next first two
+
+  pub roots-marked : (roots : Versioned) (x a b c d : List ℕ) → Clear a → RootWalked s p x 1 (roots .metadata) a b → RootWalked s p x 2 (roots .runtime) b c → RootWalked s p x 3 (roots .info) c d → InSlots s p roots → Indexed s p x
+      → OwnerMarks s p d
+  roots-marked roots x a b c d clear first second third slots i =
+      three-claimed a b c d clear (first .by _ (slots .metadata) i) (second .by _ (slots .runtime) i) (third .by _ (slots .info) i)

@@ -15,11 +15,13 @@ use Rattle.record.specs.Owner.{structInSlot, ownershipOrder, ownerOf, Ed
 use Rattle.record.specs.References.{typesAt, structCommandsAt, commandInSlot, InSlot}
 use Rattle.record.specs.Marks.{targetAt, referenceAt, Full, Walked}
 use Rattle.record.specs.Leads.{LeadsTo}
+use Rattle.record.specs.Versioned.{InSlots}
 use Rattle.record.specs.declared.text.Text.{Text}
 use Rattle.record.specs.declared.command as D
 use Rattle.record.specs.declared.command.Cursor.{Cursor}
 use Rattle.record.specs.declared.lists.StructStep.{StructStep}
 use Rattle.record.specs.declared.lists.StructStep.the-variants.{AStruct}
+use Rattle.record.specs.declared.versioned.Versioned.{Versioned}
 use Rattle.record.specs.declared.leads.Lead.{Lead}
 use Rattle.record.specs.declared.ownership.Owner.{Owner}
 use Rattle.record.specs.declared.ownership.Owner.the-variants.{Nobody, Owned}
@@ -36,6 +38,10 @@ pub record Through (s p slot n : Str) : Type 0 where
 pub record Claimed (s p : Str) (mark : ℕ) (slot : Str) (before after : List ℕ) : Type 0 where
   pub walked : Walked s p mark (Through s p slot) before after
   pub full : (root : Struct) → structInSlot slot (structsAt s p 0) ≡ some root → Full s p after (root .name)
+
+-- the walk of what is taken for the root in a slot, where it is that root and the index is the record's
+pub record RootWalked (s p : Str) (x : List ℕ) (mark : ℕ) (filled : StructStep) (before after : List ℕ) : Type 0 where
+  pub by : (slot : Str) → InSlot s p slot filled → Indexed s p x → Claimed s p mark slot before after
 
 -- a field that leads to the name has a mark, and none above this one
 pub record Within (s p : Str) (m : List ℕ) (mark : ℕ) (n : Str) : Type 0 where
@@ -61,9 +67,9 @@ pub record Known (s p : Str) (m x : List ℕ) : Type 0 where
   pub marks : OwnerMarks s p m
   pub index : Indexed s p x
 
--- marks that were set by an index: the record's where there is room and the index is the record's, and as they were where there is no room
-pub record OwnersMarked (s p : Str) (x before after : List ℕ) : Type 0 where
-  pub within : length s ≤ length before → Indexed s p x → OwnerMarks s p after
+-- marks that were set by roots and an index: the record's where there is room and both are the record's, and as they were where there is no room
+pub record OwnersMarked (s p : Str) (roots : Versioned) (x before after : List ℕ) : Type 0 where
+  pub within : length s ≤ length before → InSlots s p roots → Indexed s p x → OwnerMarks s p after
   pub beyond : length before < length s → after ≡ before
 
 -- answers ----------------------------------------------------------------------------------------------------------------

@@ -7,11 +7,11 @@ use crate::lists::StructStep;
 use crate::operands::OptText;
 use crate::references::has_slot;
 use crate::references::referenced_type;
-use crate::references::struct_in_slot;
 use crate::seek::Between;
 use crate::seek::Sought;
 use crate::seek::seek;
 use crate::text::bytes_of;
+use crate::versioned::Versioned;
 ghost use mathlib.Core.Path.{_≡_};
 ghost use Prim.Native.Nat.{_≤_, _<_};
 ghost use lib.ListN.{length};
@@ -20,7 +20,8 @@ ghost use Rattle.record.specs.Owner.{typeFields};
 ghost use Rattle.record.specs.Index.{Indexed};
 ghost use Rattle.record.specs.References.{typesAt};
 ghost use Rattle.record.specs.Marks.{between, bodyAt, PlacesFrom, referenceAt, targetAt, Clear, Ready, Led, TypeWalked, FieldWalked};
-ghost use Rattle.record.specs.Ownership.{Claimed, OwnerMarks, OwnersMarked};
+ghost use Rattle.record.specs.Versioned.{InSlots};
+ghost use Rattle.record.specs.Ownership.{RootWalked, OwnerMarks, OwnersMarked};
 
 // Where the fields of a type begin, and whether variants stand between them.
 struct Body {
@@ -142,34 +143,44 @@ fn clear(marks: &mut [u8])
 }
 
 // Marks what the structure in a slot leads to and no earlier root has taken.
-fn mark_root(stream: &[u8], pool: &[u8], index: &[u16], marks: &mut [u8], slot: &[u8], mark: u8)
+fn mark_root(
+    stream: &[u8],
+    pool: &[u8],
+    index: &[u16],
+    marks: &mut [u8],
+    root: StructStep,
+    mark: u8,
+)
     requires { ⌜ Ready (now stream) (now marks) mark ⌝ }
-    ensures { λ _. ⌜ (Indexed (now (stream .entry)) (now (pool .entry)) (now (index .entry)) → Claimed (now (stream .entry)) (now (pool .entry)) mark (now (slot .entry)) (now (marks .entry)) (now (marks .exit))) ⌝ }
+    ensures { λ _. ⌜ RootWalked (now (stream .entry)) (now (pool .entry)) (now (index .entry)) mark root (now (marks .entry)) (now (marks .exit)) ⌝ }
 {
-    let StructStep::AStruct(root, _) = struct_in_slot(stream, pool, slot) else {
+    let StructStep::AStruct(e, _) = root else {
         return;
     };
-    let name = root.name;
+    let name = e.name;
     walk_type(stream, pool, index, marks, bytes_of(pool, name), mark);
 }
 
 // Marks each field that a root leads to by the number of the first such root.
-fn mark_roots(stream: &[u8], pool: &[u8], index: &[u16], marks: &mut [u8])
+fn mark_roots(stream: &[u8], pool: &[u8], roots: Versioned, index: &[u16], marks: &mut [u8])
     requires { ⌜ length (now stream) ≤ length (now marks) ⌝ }
-    ensures { λ _. ⌜ (Indexed (now (stream .entry)) (now (pool .entry)) (now (index .entry)) → OwnerMarks (now (stream .entry)) (now (pool .entry)) (now (marks .exit))) ⌝ }
+    ensures { λ _. ⌜ (InSlots (now (stream .entry)) (now (pool .entry)) roots → Indexed (now (stream .entry)) (now (pool .entry)) (now (index .entry)) → OwnerMarks (now (stream .entry)) (now (pool .entry)) (now (marks .exit))) ⌝ }
 {
+    let first = roots.metadata;
+    let second = roots.runtime;
+    let third = roots.info;
     clear(marks);
-    mark_root(stream, pool, index, marks, b"metadata", 1);
-    mark_root(stream, pool, index, marks, b"runtime", 2);
-    mark_root(stream, pool, index, marks, b"info", 3);
+    mark_root(stream, pool, index, marks, first, 1);
+    mark_root(stream, pool, index, marks, second, 2);
+    mark_root(stream, pool, index, marks, third, 3);
 }
 
-// Marks the fields of a record by the roots that lead to them, where the index is the record's.
-pub fn mark_owners(stream: &[u8], pool: &[u8], index: &[u16], marks: &mut [u8])
-    ensures { λ _. ⌜ OwnersMarked (now (stream .entry)) (now (pool .entry)) (now (index .entry)) (now (marks .entry)) (now (marks .exit)) ⌝ }
+// Marks the fields of a record by the roots that lead to them, where the roots and the index are the record's.
+pub fn mark_owners(stream: &[u8], pool: &[u8], roots: Versioned, index: &[u16], marks: &mut [u8])
+    ensures { λ _. ⌜ OwnersMarked (now (stream .entry)) (now (pool .entry)) roots (now (index .entry)) (now (marks .entry)) (now (marks .exit)) ⌝ }
 {
     if marks.len() < stream.len() {
         return;
     }
-    mark_roots(stream, pool, index, marks);
+    mark_roots(stream, pool, roots, index, marks);
 }

@@ -197,8 +197,8 @@ fn owner_lent(stream: &[u8], pool: &[u8], marks: &mut [u8], index: &mut [u16], n
         return Owner::Nobody;
     }
     fill_index(stream, pool, index);
-    mark_owners(stream, pool, index, marks);
     let roots = versioned_structs(stream, pool);
+    mark_owners(stream, pool, roots, index, marks);
     owner_by(stream, pool, roots, marks, index, Lead::Unknown, name)
 }
 

@@ -12,7 +12,8 @@ mark-owners-requires c κs = search needs
 fill-cover-requires : tie.Need-fill-cover-requires
 fill-cover-requires c κs =
     let pre = c .before .before .before .before .before .before .before .before .before .before .before .before .before .before .before .before .before .before .before .pre in
-    (pre .0, pre .1, record { marks = c .before .before .before .before .mark-owners .ensures .within (pre .2) (pre .4); index = pre .4 }, c .before .before .before .before .before .before .versioned-structs .ensures, pre .3)
+    let slots = c .before .before .before .before .before .before .versioned-structs .ensures in
+    (pre .0, pre .1, record { marks = c .before .before .before .before .mark-owners .ensures .within (pre .2) slots (pre .4); index = pre .4 }, slots, pre .3)
 
 check-filled-requires : tie.Need-check-filled-requires
 check-filled-requires c κs = search needs

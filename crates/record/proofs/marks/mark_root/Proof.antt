@@ -5,13 +5,9 @@ use Rattle.record.proofs.marks.mark_root.Tie as tie
 use Rattle.record.proofs.marks.mark_root.Reads as reads
 use Rattle.record.proofs.marks.mark_root.Lts as lts
 use Rattle.record.proofs.marks.walk_type.Reads as walk-type-reads
-use Rattle.record.proofs.references.struct_in_slot.Reads as struct-in-slot-reads
 use Rattle.record.proofs.text.bytes_of.Reads as bytes-of-reads
 
 -- src/marks.rt:165:40
-struct-in-slot-requires : tie.Need-struct-in-slot-requires
-struct-in-slot-requires c κs = search needs
-
 -- src/marks.rt:165:29
 enum-known-root : tie.Need-enum-known-root
 enum-known-root c = search needs
@@ -22,7 +18,7 @@ enum-told c = search needs
 
 -- src/marks.rt:166:9
 returns : tie.Need-returns
-returns c = λ j. search root-laws
+returns c = search root-laws
 
 -- src/marks.rt:169:36
 bytes-of-requires : tie.Need-bytes-of-requires
@@ -38,13 +34,12 @@ same-length c = search needs
 
 -- src/marks.rt:161:1
 returns-2 : tie.Need-returns-2
-returns-2 c = λ j. search root-laws
+returns-2 c = search root-laws
 
 pub mark-root-spec : {M : Type 1} → statement M
 mark-root-spec =
     tie.close
     (tie.spec
-    struct-in-slot-requires
     enum-known-root
     enum-told
     returns

@@ -17,12 +17,11 @@ returns c = search found-beyond
 fill-index-requires : tie.Need-fill-index-requires
 fill-index-requires c κs = search needs
 
-mark-owners-requires : tie.Need-mark-owners-requires
-mark-owners-requires c κs = search needs
-
--- src/ownership.rt:199:9
 versioned-structs-requires : tie.Need-versioned-structs-requires
 versioned-structs-requires c κs = search needs
+
+mark-owners-requires : tie.Need-mark-owners-requires
+mark-owners-requires c κs = search needs
 
 -- src/ownership.rt:200:5
 owner-by-requires : tie.Need-owner-by-requires
@@ -46,8 +45,8 @@ owner-lent-spec =
     (tie.spec
     returns
     fill-index-requires
-    mark-owners-requires
     versioned-structs-requires
+    mark-owners-requires
     owner-by-requires
     same-length
     same-length-2
