@@ -69,7 +69,7 @@ module _ (a b : Str) (at : ℕ) where
       let i : getD a (at + 2) 0 ≡ getD b (at + 2) 0 = f (at + 2) (omega arith) (omega arith) in
       λ x. record { start = g x + 256 * h x; len = i x }
 
--- bytes that are the same from the thirteenth on
+-- bytes that are the same from place 13 on
 byte-after : (s t : Str) → drop 13 s ≡ drop 13 t → (i : ℕ) → 13 ≤ i → getD s i 0 ≡ getD t i 0
 byte-after s t e i h =
     let j : 13 + (i - 13) ≡ i = omega arith in

@@ -146,7 +146,7 @@ near-none s p z c t = record { right = λ n g. absurd (g (List·getD-eq-default 
 -- a look-up ------------------------------------------------------------------------------------------------------------------------
 
 module _ (t : List ℕ) (c : SpotCursor) (n : Str) (k e : ℕ) (y : k ≡ keyOf n) (g : e ≡ getD t k 0) where
-  pub near-entry : (e ≡ 0 → ⊥) → (at : ℕ) (d : Cursor) → at ≡ (e - 1) % 65536 → d ≡ place at → NearSpot t c n (cursorAt (Body d) ((e - 1) / 65536))
+  pub near-entry : (e ≡ 0 → ⊥) → (at : ℕ) (d : SpotCursor) → at ≡ (e - 1) % 65536 → d ≡ cursorAt (Body (place at)) ((e - 1) / 65536) → NearSpot t c n d
   unfolding cursorIn
   near-entry h at d i j =
       let q : e ≡ getD t (keyOf n) 0 = g ∙ ap (λ (l : ℕ). getD t l 0) y in

@@ -1,10 +1,10 @@
 // Where to look for a field of a type by its name: for each number that names have, the first field whose name has it. In a type of many fields
 // the way from its front to each of them would take longest of all.
+use crate::alike::body_at;
 use layout::field_sizes::size_before;
 use layout::names::name_at;
 use layout::spots::Ahead;
 use layout::spots::SpotCursor;
-use record::command::Cursor;
 use record::le::byte_at;
 use record::seek::Between;
 use record::seek::Sought;
@@ -62,10 +62,7 @@ pub(crate) fn near_spot(table: &[u64], c: SpotCursor, name: &[u8]) -> SpotCursor
         return c;
     }
     let at = (entry - 1) % 65536;
-    SpotCursor {
-        ahead: Ahead::Body(Cursor::place(at as usize)),
-        offset: (entry - 1) / 65536,
-    }
+    body_at(at as usize, (entry - 1) / 65536)
 }
 
 // Puts the place and the offset of a field, where there is no earlier one of its number; answers whether there is an entry now.
