@@ -9,28 +9,19 @@ use borrow.Author.Tests.{eq-eqb, ne-eqb}
 use Rattle.record.specs.Base.{Str, eqs}
 use Rattle.record.specs.Stretch.{textOf}
 use Rattle.record.specs.Scalars.{Scalar}
-use Rattle.record.specs.Shapes.{Place, places}
-use Rattle.record.specs.Seek.{SoughtFrom}
+use Rattle.record.specs.Shapes.{Place}
 use Rattle.record.specs.Describe.{describedAs}
-use Rattle.record.specs.Reading.{Rec, rec, schemaOf}
+use Rattle.record.specs.Reading.{Rec, rec}
 use Rattle.record.specs.Read.{Exact}
-use Rattle.record.specs.declared.command.Cursor.{Cursor}
-use Rattle.record.specs.declared.seek.Between.the-variants.{Keys}
-use Rattle.record.specs.declared.seek.Sought.{Sought}
-use Rattle.record.specs.declared.seek.Sought.the-variants.{Nowhere}
-use Rattle.record.specs.declared.lists.FieldStep.the-variants.{NoField}
-use Rattle.record.proofs.StepLaws.{fields-none, fields-over-now}
 use Rattle.layout.specs.Layout.{TypeLayout}
 use Rattle.layout.specs.Handles.{typeName, layoutOf}
 use Rattle.layout.specs.Names.{nameOf, stretchesOf}
 use Rattle.layout.specs.Table.{Typed, TypesTable, foundEnd, FoundType}
 use Rattle.layout.specs.FieldSizes.{SizesTable}
-use Rattle.layout.specs.Spots.{spotOf, fieldsAhead, placesFrom, Sound, SpotsFrom, TypeSpots}
+use Rattle.layout.specs.Spots.{spotOf, placesFrom, Sound, SpotsFrom, TypeSpots}
 use Rattle.layout.specs.Tables.{Tables}
 use Rattle.layout.specs.declared.names.TypeName.{TypeName}
 use Rattle.layout.specs.declared.spots.Spot.{Spot}
-use Rattle.layout.specs.declared.spots.Ahead.{Ahead}
-use Rattle.layout.specs.declared.spots.Ahead.the-variants.{Body}
 use Rattle.layout.specs.declared.spots.SpotCursor.{SpotCursor}
 use Rattle.layout.specs.declared.spots.SpotStep.{SpotStep}
 use Rattle.layout.specs.declared.spots.SpotStep.the-variants.{NoSpot, ASpot}
@@ -122,12 +113,6 @@ pub cursor-sound : (s p : Str) (w : List Scalar) (z : List ℕ) (h : ℕ) (c : S
 cursor-sound s p w z h c y x e k = k .sound y p w z x e
 
 -- a type without fields
-pub bare-is : (s : Str) (c : SpotCursor) (k : Cursor) (r : Sought) → c .ahead ≡ Body k → SoughtFrom s Keys 11 (k .at) r → r ≡ Nowhere → (p : Str) (w : List Scalar) → placesFrom (rec s p w) c ≡ []
-unfolding placesFrom places
-bare-is s c k r m i n p w =
-    ap (λ (a : Ahead). places (schemaOf (rec s p w)) (c .offset) (fieldsAhead s p a)) m
-    ∙ ap (places (schemaOf (rec s p w)) (c .offset)) (fields-over-now s (k .at) NoField (fields-none s (k .at) r i n) p refl)
-
 pub bare-passed : (s p b q : Str) (w : List Scalar) (h h₀ : ℕ) (c₀ : SpotCursor) (t : Bool) → Typed b h₀ → TypeSpots b h₀ c₀ → (t ≡ true → (p₀ : Str) (w₀ : List Scalar) → placesFrom (rec b p₀ w₀) c₀ ≡ [])
     → t ≡ true → meaning p q Passed ≡ checkPlaces (typeName b q h₀) (layoutOf (rec s p w) h .fields) (layoutOf (rec b q w) h₀ .fields)
 unfolding checkPlaces

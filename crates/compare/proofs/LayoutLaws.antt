@@ -1,7 +1,7 @@
 -- The fields of types compared with one another, and looked up by name. p is the first pool and q the second. Assumes nothing.
 use Prim.Native.Nat.{ℕ, suc, _+_, _≤_, _<_}
 use mathlib.Core.Path.{_≡_, refl, sym, ap, ap₂, subst, _∙_}
-use mathlib.Core.List.{List, _∷_, _++_}
+use mathlib.Core.List.{List, [], _∷_, _++_}
 use mathlib.Core.Option.{Option, some}
 use mathlib.Core.Bool.{Bool, true, false, _&&_, not, and-true, and-false, false≢true, Bool·beq}
 use native.Mathlib.Omega.{arith}
@@ -11,24 +11,33 @@ use lib.Seq.{take-at}
 use Rattle.record.specs.Base.{Str, bytes, eqs, orElse, decimal}
 use Rattle.record.specs.Stretch.{textOf}
 use Rattle.record.specs.Scalars.{Scalar}
-use Rattle.record.specs.Shapes.{Place}
+use Rattle.record.specs.Shapes.{Place, places}
+use Rattle.record.specs.Seek.{SoughtFrom}
 use Rattle.record.specs.Fill.{fronted}
 use Rattle.record.specs.Write.{largest, Puts}
 use Rattle.record.specs.Lists.{optOf}
 use Rattle.record.specs.Describe.{describedAs}
-use Rattle.record.specs.Reading.{Rec, rec}
+use Rattle.record.specs.Reading.{Rec, rec, schemaOf}
 use Rattle.record.specs.declared.text.Text.{Text}
 use Rattle.record.specs.declared.operands.OptText.{OptText}
 use Rattle.record.specs.declared.operands.OptText.the-variants.{Absent, Given}
 use Rattle.record.specs.declared.describe.Description.{Description}
 use Rattle.record.specs.declared.describe.Description.the-variants.{Named, Array}
+use Rattle.record.specs.declared.command.Cursor.{Cursor}
+use Rattle.record.specs.declared.seek.Between.the-variants.{Keys}
+use Rattle.record.specs.declared.seek.Sought.{Sought}
+use Rattle.record.specs.declared.seek.Sought.the-variants.{Nowhere}
+use Rattle.record.specs.declared.lists.FieldStep.the-variants.{NoField}
 use Rattle.record.proofs.Basics.{eqs→eq, eqs-refl}
 use Rattle.record.proofs.ListLaws.{find-none, find-hit, find-miss}
+use Rattle.record.proofs.StepLaws.{fields-none, fields-over-now}
 use Rattle.record.proofs.WriterLaws.{puts-exact, puts-front}
 use Rattle.layout.specs.Handles.{layoutOf}
 use Rattle.layout.specs.Table.{Typed}
-use Rattle.layout.specs.Spots.{spotOf, placesFrom, spotsLeft, Sound, stepLeft, SpotsFrom, TypeSpots, OthersPassed}
+use Rattle.layout.specs.Spots.{spotOf, fieldsAhead, placesFrom, spotsLeft, Sound, stepLeft, SpotsFrom, TypeSpots, OthersPassed}
 use Rattle.layout.specs.declared.spots.Spot.{Spot}
+use Rattle.layout.specs.declared.spots.Ahead.{Ahead}
+use Rattle.layout.specs.declared.spots.Ahead.the-variants.{Body}
 use Rattle.layout.specs.declared.spots.SpotCursor.{SpotCursor}
 use Rattle.layout.specs.declared.spots.SpotStep.{SpotStep}
 use Rattle.layout.specs.declared.spots.SpotStep.the-variants.{NoSpot, ASpot}
@@ -178,6 +187,24 @@ module _ (s p b q : Str) (w : List Scalar) (z z₀ : List ℕ) (v v₀ c c₀ : 
 pub fields-same : (s p b q : Str) (w : List Scalar) (h h₀ : ℕ) (c c₀ : SpotCursor) (t : Bool) → Typed s h → Typed b h₀ → TypeSpots s h c → TypeSpots b h₀ c₀
     → t ≡ eqPlaces (placesFrom (rec s p w) c) (placesFrom (rec b q w) c₀) → t ≡ eqPlaces (layoutOf (rec s p w) h .fields) (layoutOf (rec b q w) h₀ .fields)
 fields-same s p b q w h h₀ c c₀ t y y₀ k k₀ e = e ∙ ap₂ eqPlaces (k .list y p w) (k₀ .list y₀ q w)
+
+-- types without fields ------------------------------------------------------------------------------------------------------
+
+pub bare-is : (s : Str) (c : SpotCursor) (k : Cursor) (r : Sought) → c .ahead ≡ Body k → SoughtFrom s Keys 11 (k .at) r → r ≡ Nowhere → (p : Str) (w : List Scalar) → placesFrom (rec s p w) c ≡ []
+unfolding placesFrom places
+bare-is s c k r m i n p w =
+    ap (λ (a : Ahead). places (schemaOf (rec s p w)) (c .offset) (fieldsAhead s p a)) m
+    ∙ ap (places (schemaOf (rec s p w)) (c .offset)) (fields-over-now s (k .at) NoField (fields-none s (k .at) r i n) p refl)
+
+pub bare-both : (s b : Str) (c c₀ : SpotCursor) (t u : Bool) → (t ≡ true → (p : Str) (w : List Scalar) → placesFrom (rec s p w) c ≡ []) → t ≡ true
+    → (u ≡ true → (p : Str) (w : List Scalar) → placesFrom (rec b p w) c₀ ≡ []) → u ≡ true → (p q : Str) (w : List Scalar) → eqPlaces (placesFrom (rec s p w) c) (placesFrom (rec b q w) c₀) ≡ true
+unfolding eqPlaces
+bare-both s b c c₀ t u f e g h p q w = ap₂ eqPlaces (f e p w) (g h q w)
+
+pub bare-same : (s p b q : Str) (w : List Scalar) (h h₀ : ℕ) (c c₀ : SpotCursor) (t : Bool) → Typed s h → Typed b h₀ → TypeSpots s h c → TypeSpots b h₀ c₀
+    → (t ≡ true → (p₀ q₀ : Str) (w₀ : List Scalar) → eqPlaces (placesFrom (rec s p₀ w₀) c) (placesFrom (rec b q₀ w₀) c₀) ≡ true) → t ≡ true
+    → true ≡ eqPlaces (layoutOf (rec s p w) h .fields) (layoutOf (rec b q w) h₀ .fields)
+bare-same s p b q w h h₀ c c₀ t y y₀ k k₀ f e = fields-same s p b q w h h₀ c c₀ true y y₀ k k₀ (sym (f e p q w))
 
 -- a field by its name ------------------------------------------------------------------------------------------------------
 

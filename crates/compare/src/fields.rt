@@ -1,13 +1,13 @@
 // The pass over the fields: a released field keeps its place, its size and how it reads.
 use crate::kept::pass_kept;
 use crate::layouts::find_spot;
+use crate::layouts::is_bare;
 use crate::layouts::same_description;
 use crate::near::are_many;
 use crate::near::fill_near;
 use crate::near::near_spot;
 use layout::names::TypeName;
 use layout::names::type_name;
-use layout::spots::Ahead;
 use layout::spots::Spot;
 use layout::spots::SpotCursor;
 use layout::spots::SpotStep;
@@ -15,18 +15,12 @@ use layout::spots::first_spot;
 use layout::spots::next_spot;
 use layout::table::TypeFound;
 use layout::table::find_same;
-use record::seek::Between;
-use record::seek::Sought;
-use record::seek::seek;
 use record::text::bytes_of;
 use verdicts::verdict::Verdict;
 ghost use Prim.Native.Nat.{_≤_};
 ghost use mathlib.Core.Path.{_≡_};
-ghost use mathlib.Core.List.{List, []};
-ghost use mathlib.Core.Bool.{true};
 ghost use lib.ListN.{length};
-ghost use Rattle.record.specs.Base.{Str};
-ghost use Rattle.record.specs.Scalars.{Scalar, scalarsOf};
+ghost use Rattle.record.specs.Scalars.{scalarsOf};
 ghost use Rattle.record.specs.Marks.{Clear};
 ghost use Rattle.record.specs.Reading.{rec};
 ghost use Rattle.record.specs.Read.{Exact};
@@ -277,20 +271,6 @@ fn check_changed(
         owner,
         rest,
     )
-}
-
-// Whether no field is seen to be ahead.
-fn is_bare(stream: &[u8], c: SpotCursor) -> bool
-    ensures { λ r. ⌜ (r ≡ true → (p : Str) (w : List Scalar) → placesFrom (rec (now (stream .entry)) p w) c ≡ []) ⌝ }
-{
-    let ahead = c.ahead;
-    let Ahead::Body(k) = ahead else {
-        return false;
-    };
-    let Sought::At(_, _) = seek(stream, k.at, 11, Between::Keys) else {
-        return true;
-    };
-    false
 }
 
 // The fields of a released type against those of a current one, by the handles of the types.

@@ -1,5 +1,6 @@
 // The fields of types compared with one another, and looked up by name.
 use crate::alike::pass_alike;
+use layout::spots::Ahead;
 use layout::spots::Spot;
 use layout::spots::SpotCursor;
 use layout::spots::SpotStep;
@@ -9,12 +10,16 @@ use layout::spots::pass_others;
 use record::describe::Description;
 use record::describe::put_description;
 use record::operands::OptText;
+use record::seek::Between;
+use record::seek::Sought;
+use record::seek::seek;
 use record::text::bytes_of;
 use record::text::same;
 ghost use mathlib.Core.Path.{_≡_};
+ghost use mathlib.Core.List.{List, []};
 ghost use mathlib.Core.Bool.{true};
-ghost use Rattle.record.specs.Base.{eqs};
-ghost use Rattle.record.specs.Scalars.{scalarsOf};
+ghost use Rattle.record.specs.Base.{Str, eqs};
+ghost use Rattle.record.specs.Scalars.{Scalar, scalarsOf};
 ghost use Rattle.record.specs.Lists.{optOf};
 ghost use Rattle.record.specs.Describe.{describedAs};
 ghost use Rattle.record.specs.Reading.{rec};
@@ -173,6 +178,30 @@ fn same_ahead(
     same_rest(rows, stream, pool, sizes, is, past, old, widths, was)
 }
 
+// Whether no field is seen to be ahead.
+pub(crate) fn is_bare(stream: &[u8], c: SpotCursor) -> bool
+    ensures { λ r. ⌜ (r ≡ true → (p : Str) (w : List Scalar) → placesFrom (rec (now (stream .entry)) p w) c ≡ []) ⌝ }
+{
+    let ahead = c.ahead;
+    let Ahead::Body(k) = ahead else {
+        return false;
+    };
+    let Sought::At(_, _) = seek(stream, k.at, 11, Between::Keys) else {
+        return true;
+    };
+    false
+}
+
+// Whether the fields from two cursors on are seen to be the same since there are none.
+fn both_bare(stream: &[u8], is: SpotCursor, past: &[u8], was: SpotCursor) -> bool
+    ensures { λ r. ⌜ (r ≡ true → (p q : Str) (w : List Scalar) → eqPlaces (placesFrom (rec (now (stream .entry)) p w) is) (placesFrom (rec (now (past .entry)) q w) was) ≡ true) ⌝ }
+{
+    if is_bare(stream, is) {
+        return is_bare(past, was);
+    }
+    false
+}
+
 // Whether two types have the same fields in the same order, padding included.
 pub(crate) fn same_fields(
     rows: &[u8],
@@ -190,6 +219,9 @@ pub(crate) fn same_fields(
 {
     let is = first_spot(stream, handle);
     let was = first_spot(past, other);
+    if both_bare(stream, is, past, was) {
+        return true;
+    }
     same_ahead(rows, stream, pool, sizes, is, past, old, widths, was)
 }
 

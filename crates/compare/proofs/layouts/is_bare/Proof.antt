@@ -1,8 +1,8 @@
 use mathlib.Core.Bool.{false≢true}
-use Rattle.compare.proofs.FieldLaws.{bare-is}
+use Rattle.compare.proofs.LayoutLaws.{bare-is}
 use borrow.Author.Needs.{needs}
-use Rattle.compare.proofs.fields.is_bare.Statement.{statement}
-use Rattle.compare.proofs.fields.is_bare.Tie as tie
+use Rattle.compare.proofs.layouts.is_bare.Statement.{statement}
+use Rattle.compare.proofs.layouts.is_bare.Tie as tie
 
 enum-known-ahead : tie.Need-enum-known-ahead
 enum-known-ahead c = search needs
