@@ -11,7 +11,6 @@ use lib.ListN.{length, take, drop, getD, drop-of-length-le}
 use lib.Seq.{take-all, take-suc, drop-cons, append-snoc}
 use borrow.Author.Tests.{eq-eqb, ne-eqb, eqb-true, not-true, le-ltb}
 use Rattle.record.specs.Base.{Str, eqs}
-use Rattle.record.specs.Stretch.{textOf}
 use Rattle.record.specs.Write.{Puts}
 use Rattle.record.specs.Steps.{familiesAt}
 use Rattle.record.specs.Index.{Alone}

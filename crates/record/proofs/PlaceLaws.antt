@@ -22,7 +22,6 @@ use Rattle.record.specs.Marks.{between, bodyAt, bodyLeft, PlacesFrom, re
 use Rattle.record.specs.declared.text.Text.{Text}
 use Rattle.record.specs.declared.operands.OptText.{OptText}
 use Rattle.record.specs.declared.operands.OptText.the-variants.{Absent, Given}
-use Rattle.record.specs.declared.command as D
 use Rattle.record.specs.declared.command.Cursor.{Cursor}
 use Rattle.record.specs.declared.seek.Between.{Between}
 use Rattle.record.specs.declared.seek.Sought.{Sought}
