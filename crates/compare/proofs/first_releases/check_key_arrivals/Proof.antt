@@ -13,10 +13,10 @@ use Rattle.compare.proofs.first_releases.check_key_arrivals.Statement.{
 use Rattle.compare.proofs.first_releases.check_key_arrivals.Tie as tie
 
 abbrev Inv-loop : tie.InvT-loop
-Inv-loop stream pool past old current copy at₀ at = checkKeyArrivals (textOf pool current) (optOf old copy) (pluginKeys (structsAt stream pool 0) (unstoredAt stream pool 0)) (pluginKeys (structsAt past old 0) (unstoredAt past old 0)) ≡ checkKeyArrivals (textOf pool current) (optOf old copy) (keysFrom stream pool at) (pluginKeys (structsAt past old 0) (unstoredAt past old 0))
+Inv-loop stream pool past old index current copy at₀ at = checkKeyArrivals (textOf pool current) (optOf old copy) (pluginKeys (structsAt stream pool 0) (unstoredAt stream pool 0)) (pluginKeys (structsAt past old 0) (unstoredAt past old 0)) ≡ checkKeyArrivals (textOf pool current) (optOf old copy) (keysFrom stream pool at) (pluginKeys (structsAt past old 0) (unstoredAt past old 0))
 
 abbrev μ-loop : tie.MeasureT-loop
-μ-loop stream pool past old current copy at₀ at = length (keysFrom stream pool at)
+μ-loop stream pool past old index current copy at₀ at = length (keysFrom stream pool at)
 
 first-key-requires : tie.Need-first-key-requires Inv-loop μ-loop
 first-key-requires c κs = search needs
