@@ -14,19 +14,16 @@ use Rattle.record.specs.Lists.{keyOf}
 use Rattle.record.specs.Steps.{constantsAt, valuesAt, structsAt, unstoredAt, valueIn, constantFound, enumFound, valueFound}
 use Rattle.record.specs.Index.{Indexed}
 use Rattle.record.specs.Named.{ApiConstant, unstoredFound, LastUnstored}
-use Rattle.record.specs.Keys.{fieldKeys, pluginKeys, storedFrom, storedOf, keysFrom, AllStored, StoredFrom, PluginKeysFrom}
+use Rattle.record.specs.Keys.{fieldKeys, pluginKeys, storedFrom, storedOf, AllStored, StoredFrom}
 use Rattle.record.specs.Dates.{Dated}
 use Rattle.record.specs.declared.text.Text.{Text}
 use Rattle.record.specs.declared.operands.OptText.{OptText}
 use Rattle.record.specs.declared.operands.OptText.the-variants as O
 use Rattle.record.specs.declared.command as D
 use Rattle.record.specs.declared.command.Cursor.{Cursor}
-use Rattle.record.specs.declared.keys.KeysAt.{KeysAt}
 use Rattle.record.specs.declared.keys.StoredAt.{StoredAt}
 use Rattle.record.specs.declared.keys.StoredStep.{StoredStep}
 use Rattle.record.specs.declared.keys.StoredStep.the-variants.{NoStored, AStored}
-use Rattle.record.specs.declared.keys.PluginKeyStep.{PluginKeyStep}
-use Rattle.record.specs.declared.keys.PluginKeyStep.the-variants.{APluginKey}
 use Rattle.record.specs.declared.lists.ConstantStep.{ConstantStep}
 use Rattle.record.specs.declared.lists.ConstantStep.the-variants.{NoConstant, AConstant}
 use Rattle.record.specs.declared.lists.EnumStep.{EnumStep}
@@ -39,13 +36,6 @@ use Rattle.definition.specs.FirstReleases.{constantRelease, enumRelease, valueR
 use Rattle.compare.specs.Shipped.{shippedOf, ShippedWith, EnumShipped}
 use Rattle.compare.specs.declared.shipped.Shipped.{Shipped}
 use Rattle.compare.specs.declared.shipped.Shipped.the-variants.{Absent, Named, Unstated}
-
--- each step makes the list of keys shorter: its length is a measure for loops over them
-pub plugin-keys-nearer : (s p : Str) (at : KeysAt) (r : PluginKeyStep) → PluginKeysFrom s at r → (e : D.PluginKey.PluginKey) (k : KeysAt) → r ≡ APluginKey e k
-    → length (keysFrom s p k) < length (keysFrom s p at)
-plugin-keys-nearer s p at r f e k m =
-    let h : length (keysFrom s p at) ≡ suc (length (keysFrom s p k)) = ap length (f .list p) ∙ rw m in
-    omega arith
 
 -- an item that the copy has
 module _ (t : OptText) where

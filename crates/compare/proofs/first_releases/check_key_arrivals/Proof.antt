@@ -5,9 +5,8 @@ use Rattle.record.specs.Lists.{optOf}
 use Rattle.record.specs.Steps.{structsAt, unstoredAt}
 use Rattle.record.specs.Keys.{pluginKeys, keysFrom}
 use Rattle.record.proofs.TextLaws.{kept, ended}
-use Rattle.compare.proofs.ShippedLaws.{plugin-keys-nearer}
 use Rattle.definition.specs.FirstReleases.{checkKeyArrivals}
-use Rattle.compare.proofs.FirstReleaseLaws.{keys-begin, key-arrivals-laws}
+use Rattle.compare.proofs.FirstReleaseLaws.{plugin-keys-nearer, keys-begin, key-arrivals-laws}
 use borrow.Author.Needs.{needs}
 use Rattle.compare.proofs.first_releases.check_key_arrivals.Statement.{statement}
 use Rattle.compare.proofs.first_releases.check_key_arrivals.Tie as tie
