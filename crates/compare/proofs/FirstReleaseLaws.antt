@@ -3,7 +3,9 @@ use mathlib.Core.Path.{_≡_, sym, ap, _∙_}
 use mathlib.Core.List.{List}
 use mathlib.Core.Option.{Option, some}
 use mathlib.Core.Bool.{Bool, true, false, not}
-use Prim.Native.Nat.{ℕ}
+use Prim.Native.Nat.{ℕ, suc, _<_}
+use native.Mathlib.Omega.{arith}
+use lib.ListN.{length}
 use Rattle.record.specs.Base.{Str, eqs, isSome, orOption}
 use Rattle.record.specs.Schema as M
 use Rattle.record.specs.Stretch.{textOf}
@@ -261,6 +263,13 @@ pub key-arrives : (p q x : Str) (now : Text) (copy : OptText) (l : List M.Key) (
     → meaning p q v ≡ checkKeyArrival (textOf p now) (optOf q copy) l (keyOf p e)
 unfolding checkKeyArrival
 key-arrives p q x now copy l e names w v u t h k = rw (← u .this p, ← t, ← h) (rw t k)
+
+-- each step makes the list of keys shorter: its length is a measure for loops over them
+pub plugin-keys-nearer : (s p : Str) (at : KeysAt) (r : PluginKeyStep) → PluginKeysFrom s at r → (e : PluginKey) (k : KeysAt) → r ≡ APluginKey e k
+    → length (keysFrom s p k) < length (keysFrom s p at)
+plugin-keys-nearer s p at r f e k m =
+    let h : length (keysFrom s p at) ≡ suc (length (keysFrom s p k)) = ap length (f .list p) ∙ rw m in
+    omega arith
 
 -- the plugin keys
 module _ (s p q : Str) (now : Text) (copy : OptText) (l : List M.Key) where

@@ -7,39 +7,35 @@ use mathlib.Core.Bool.{Bool, true, false, cond}
 use Prim.Native.Nat.{ℕ, suc, _<_}
 use native.Mathlib.Omega.{arith}
 use lib.ListN.{length}
-use Rattle.record.specs.Base.{Str, eqs, mapOption, lastOr, findLast}
-use Rattle.record.specs.Schema.{Const, Key}
+use Rattle.record.specs.Base.{Str, eqs, orOption, withSome, mapOption, lastOr, findLast}
+use Rattle.record.specs.Schema.{Const, Key, Field, Struct}
 use Rattle.record.specs.Stretch.{textOf}
+use Rattle.record.specs.Lists.{keyOf}
 use Rattle.record.specs.Steps.{constantsAt, valuesAt, structsAt, unstoredAt, valueIn, constantFound, enumFound, valueFound}
 use Rattle.record.specs.Index.{Indexed}
-use Rattle.record.specs.Named.{ApiConstant}
-use Rattle.record.specs.Keys.{pluginKeys, keysFrom, pluginKeysOf, AllKeys, PluginKeysFrom}
+use Rattle.record.specs.Named.{ApiConstant, unstoredFound, LastUnstored}
+use Rattle.record.specs.Keys.{fieldKeys, pluginKeys, storedFrom, storedOf, AllStored, StoredFrom}
 use Rattle.record.specs.Dates.{Dated}
 use Rattle.record.specs.declared.text.Text.{Text}
 use Rattle.record.specs.declared.operands.OptText.{OptText}
 use Rattle.record.specs.declared.operands.OptText.the-variants as O
 use Rattle.record.specs.declared.command as D
 use Rattle.record.specs.declared.command.Cursor.{Cursor}
-use Rattle.record.specs.declared.keys.KeysAt.{KeysAt}
-use Rattle.record.specs.declared.keys.PluginKeyStep.{PluginKeyStep}
-use Rattle.record.specs.declared.keys.PluginKeyStep.the-variants.{NoPluginKey, APluginKey}
+use Rattle.record.specs.declared.keys.StoredAt.{StoredAt}
+use Rattle.record.specs.declared.keys.StoredStep.{StoredStep}
+use Rattle.record.specs.declared.keys.StoredStep.the-variants.{NoStored, AStored}
 use Rattle.record.specs.declared.lists.ConstantStep.{ConstantStep}
 use Rattle.record.specs.declared.lists.ConstantStep.the-variants.{NoConstant, AConstant}
 use Rattle.record.specs.declared.lists.EnumStep.{EnumStep}
 use Rattle.record.specs.declared.lists.EnumStep.the-variants.{NoEnum, AnEnum}
+use Rattle.record.specs.declared.lists.UnstoredStep.{UnstoredStep}
+use Rattle.record.specs.declared.lists.UnstoredStep.the-variants.{NoUnstored, AnUnstored}
 use Rattle.record.specs.declared.lists.ValueStep.{ValueStep}
 use Rattle.record.specs.declared.lists.ValueStep.the-variants.{NoValue, AValue}
 use Rattle.definition.specs.FirstReleases.{constantRelease, enumRelease, valueRelease, keyRelease}
 use Rattle.compare.specs.Shipped.{shippedOf, ShippedWith, EnumShipped}
 use Rattle.compare.specs.declared.shipped.Shipped.{Shipped}
 use Rattle.compare.specs.declared.shipped.Shipped.the-variants.{Absent, Named, Unstated}
-
--- each step makes the list of keys shorter: its length is a measure for loops over them
-pub plugin-keys-nearer : (s p : Str) (at : KeysAt) (r : PluginKeyStep) → PluginKeysFrom s at r → (e : D.PluginKey.PluginKey) (k : KeysAt) → r ≡ APluginKey e k
-    → length (keysFrom s p k) < length (keysFrom s p at)
-plugin-keys-nearer s p at r f e k m =
-    let h : length (keysFrom s p at) ≡ suc (length (keysFrom s p k)) = ap length (f .list p) ∙ rw m in
-    omega arith
 
 -- an item that the copy has
 module _ (t : OptText) where
@@ -98,34 +94,99 @@ module _ {A B : Type 0} (t : A → Bool) (f : A → B) where
       unfolding latest
       latest-miss h = rw (e, h)
 
--- plugin keys
+-- plugin keys of fields
 pub keyLatest : Str → Option (Option Str) → List Key → Option (Option Str)
 keyLatest n = latest (λ (k : Key). eqs (k .name) n) (λ (k : Key). k .since)
 
 module _ (b q n : Str) where
-  pub key-begin : (z : KeysAt) → AllKeys z → keyRelease n (pluginKeys (structsAt b q 0) (unstoredAt b q 0)) ≡ keyLatest n (shippedOf q Absent) (keysFrom b q z)
+  pub key-begin : (z : StoredAt) → AllStored z → keyRelease n (pluginKeys (structsAt b q 0) []) ≡ keyLatest n (shippedOf q Absent) (storedFrom b q z [])
   unfolding keyRelease keyLatest findLast mapOption
-  key-begin z y = last-latest _ _ none _ ∙ ap (keyLatest n none) (sym (y .list b q))
+  key-begin z y = last-latest _ _ none _ ∙ ap (keyLatest n none) (sym (y .list b q []))
 
-  module _ (at : KeysAt) (r : PluginKeyStep) (f : PluginKeysFrom b at r) (o : Shipped) where
-    pub key-end : r ≡ NoPluginKey → keyLatest n (shippedOf q o) (keysFrom b q at) ≡ shippedOf q o
+  module _ (at : StoredAt) (r : StoredStep) (f : StoredFrom b at r) (o : Shipped) where
+    pub key-end : r ≡ NoStored → keyLatest n (shippedOf q o) (storedFrom b q at []) ≡ shippedOf q o
     unfolding keyLatest
-    key-end m = latest-end _ _ _ _ (f .list q ∙ ap (pluginKeysOf b q) m)
+    key-end m = latest-end _ _ _ _ (f .list q [] ∙ ap (λ (x : StoredStep). storedOf b q x []) m)
 
-    module _ (e : D.PluginKey.PluginKey) (k : KeysAt) (x : Str) (t : Bool) (m : r ≡ APluginKey e k) (i : x ≡ textOf q (e .name)) (h : t ≡ eqs x n) where
+    module _ (e : D.PluginKey.PluginKey) (k : StoredAt) (x : Str) (t : Bool) (m : r ≡ AStored e k) (i : x ≡ textOf q (e .name)) (h : t ≡ eqs x n) where
       named : eqs (textOf q (e .name)) n ≡ t
       named = sym (h ∙ ap (λ y. eqs y n) i)
 
-      pub key-hit : (w : Shipped) → t ≡ true → ShippedWith (e .«first_release») w
-          → keyLatest n (shippedOf q o) (keysFrom b q at) ≡ keyLatest n (shippedOf q w) (keysFrom b q k)
-      unfolding keyLatest
-      key-hit w g j = latest-hit _ _ _ _ _ _ (f .list q ∙ ap (pluginKeysOf b q) m) (named ∙ g) ∙ ap (λ y. keyLatest n y (keysFrom b q k)) (sym (j .this q))
+      next : storedFrom b q at [] ≡ keyOf q e ∷ storedFrom b q k []
+      next = f .list q [] ∙ ap (λ (x : StoredStep). storedOf b q x []) m
 
-      pub key-miss : t ≡ false → keyLatest n (shippedOf q o) (keysFrom b q at) ≡ keyLatest n (shippedOf q o) (keysFrom b q k)
+      pub key-hit : (w : Shipped) → t ≡ true → ShippedWith (e .«first_release») w
+          → keyLatest n (shippedOf q o) (storedFrom b q at []) ≡ keyLatest n (shippedOf q w) (storedFrom b q k [])
       unfolding keyLatest
-      key-miss g = latest-miss _ _ _ _ _ _ (f .list q ∙ ap (pluginKeysOf b q) m) (named ∙ g)
+      key-hit w g j = latest-hit _ _ _ _ _ _ next (named ∙ g) ∙ ap (λ y. keyLatest n y (storedFrom b q k [])) (sym (j .this q))
+
+      pub key-miss : t ≡ false → keyLatest n (shippedOf q o) (storedFrom b q at []) ≡ keyLatest n (shippedOf q o) (storedFrom b q k [])
+      unfolding keyLatest
+      key-miss g = latest-miss _ _ _ _ _ _ next (named ∙ g)
 
 pub ruleset key-release-laws = (key-end, key-hit, key-miss)
+
+-- each step makes the list of keys shorter: its length is a measure for loops over them
+pub stored-nearer : (s p : Str) (at : StoredAt) (r : StoredStep) → StoredFrom s at r → (e : D.PluginKey.PluginKey) (k : StoredAt) → r ≡ AStored e k
+    → length (storedFrom s p k []) < length (storedFrom s p at [])
+stored-nearer s p at r f e k m =
+    let h : length (storedFrom s p at []) ≡ suc (length (storedFrom s p k [])) = ap length (f .list p []) ∙ rw m in
+    omega arith
+
+-- the unstored ones come last
+module _ (t : Key → Bool) where
+  -- the last of a list, else what was known
+  last-else : (o : Option Key) (l : List Key) → lastOr o t l ≡ orOption (lastOr none t l) o
+  unfolding lastOr orOption
+  last-else o [] = refl
+  last-else o (x ∷ l) =
+      last-else (cond (t x) (some x) o) l ∙ go (lastOr none t l) (t x) ∙ ap (λ (y : Option Key). orOption y o) (sym (last-else (cond (t x) (some x) none) l))
+    where
+      go : (a : Option Key) (v : Bool) → orOption a (cond v (some x) o) ≡ orOption (orOption a (cond v (some x) none)) o
+      go none true = refl
+      go none false = refl
+      go (some y) v = refl
+
+  in-fields : (o : Option Key) (fs : List Field) (l : List Key) → lastOr o t (fieldKeys fs l) ≡ lastOr (lastOr o t (fieldKeys fs [])) t l
+  unfolding fieldKeys lastOr withSome
+  in-fields o [] l = refl
+  in-fields o (f ∷ fs) l = go (λ y. in-fields y fs l) (f .key)
+    where
+      go : ((y : Option Key) → lastOr y t (fieldKeys fs l) ≡ lastOr (lastOr y t (fieldKeys fs [])) t l) → (k : Option Key)
+          → lastOr o t (withSome k (fieldKeys fs l)) ≡ lastOr (lastOr o t (withSome k (fieldKeys fs []))) t l
+      go ih none = ih o
+      go ih (some x) = ih (cond (t x) (some x) o)
+
+  in-structs : (o : Option Key) (ss : List Struct) (l : List Key) → lastOr o t (pluginKeys ss l) ≡ lastOr (lastOr o t (pluginKeys ss [])) t l
+  unfolding pluginKeys lastOr
+  in-structs o [] l = refl
+  in-structs o (s ∷ ss) l =
+      in-fields o (s .fields) (pluginKeys ss l) ∙ in-structs (lastOr o t (fieldKeys (s .fields) [])) ss l
+      ∙ ap (λ (y : Option Key). lastOr y t l) (sym (in-fields o (s .fields) (pluginKeys ss [])))
+
+  unstored-first : (ss : List Struct) (l : List Key) → findLast t (pluginKeys ss l) ≡ orOption (findLast t l) (findLast t (pluginKeys ss []))
+  unfolding findLast
+  unstored-first ss l = in-structs none ss l ∙ last-else (lastOr none t (pluginKeys ss [])) l
+
+module _ (b q : Str) (x : List ℕ) (n : Str) (r : UnstoredStep) (i : Indexed b q x) (h : LastUnstored b q x n r) where
+  either : keyRelease n (pluginKeys (structsAt b q 0) (unstoredAt b q 0))
+      ≡ mapOption (λ (k : Key). k .since) (orOption (unstoredFound q r) (findLast (λ (k : Key). eqs (k .name) n) (pluginKeys (structsAt b q 0) [])))
+  unfolding keyRelease
+  either =
+      ap (mapOption (λ (k : Key). k .since))
+      (unstored-first (λ (k : Key). eqs (k .name) n) (structsAt b q 0) (unstoredAt b q 0)
+      ∙ ap (λ (y : Option Key). orOption y (findLast (λ (k : Key). eqs (k .name) n) (pluginKeys (structsAt b q 0) []))) (h .this i))
+
+  pub key-stored : (w : Shipped) → r ≡ NoUnstored → shippedOf q w ≡ keyRelease n (pluginKeys (structsAt b q 0) []) → shippedOf q w ≡ keyRelease n (pluginKeys (structsAt b q 0) (unstoredAt b q 0))
+  unfolding keyRelease orOption
+  key-stored w m g = g ∙ sym (either ∙ rw m)
+
+  pub key-unstored : (e : D.PluginKey.PluginKey) (k : Cursor) (w : Shipped) → r ≡ AnUnstored e k → ShippedWith (e .«first_release») w
+      → shippedOf q w ≡ keyRelease n (pluginKeys (structsAt b q 0) (unstoredAt b q 0))
+  unfolding mapOption orOption
+  key-unstored e k w m g = g .this q ∙ sym (either ∙ rw m)
+
+pub ruleset key-laws = (key-stored, key-unstored)
 
 -- enums that were looked up, and their values ---------------------------------------------------------------------------------------
 

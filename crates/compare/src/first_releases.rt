@@ -296,16 +296,18 @@ fn check_key_arrival(
     pool: &[u8],
     past: &[u8],
     old: &[u8],
+    index: &[u16],
     current: Text,
     copy: OptText,
     is: PluginKey,
 ) -> Verdict
+    requires { ⌜ Indexed (now past) (now old) (now index) ⌝ }
     ensures { λ r. ⌜ meaning (now (pool .entry)) (now (old .entry)) r ≡ checkKeyArrival (textOf (now (pool .entry)) current) (optOf (now (old .entry)) copy) (pluginKeys (structsAt (now (past .entry)) (now (old .entry)) 0) (unstoredAt (now (past .entry)) (now (old .entry)) 0)) (keyOf (now (pool .entry)) is) ⌝ }
 {
     let first = is.first_release;
     let names = required_text(first);
     let name = is.name;
-    let was = key_release(past, old, bytes_of(pool, name));
+    let was = key_release(past, old, index, bytes_of(pool, name));
     check_arrival(pool, old, current, copy, Item::Key(name), names, was)
 }
 
@@ -315,9 +317,11 @@ fn check_key_arrivals(
     pool: &[u8],
     past: &[u8],
     old: &[u8],
+    index: &[u16],
     current: Text,
     copy: OptText,
 ) -> Verdict
+    requires { ⌜ Indexed (now past) (now old) (now index) ⌝ }
     ensures { λ r. ⌜ meaning (now (pool .entry)) (now (old .entry)) r ≡ checkKeyArrivals (textOf (now (pool .entry)) current) (optOf (now (old .entry)) copy) (pluginKeys (structsAt (now (stream .entry)) (now (pool .entry)) 0) (unstoredAt (now (stream .entry)) (now (pool .entry)) 0)) (pluginKeys (structsAt (now (past .entry)) (now (old .entry)) 0) (unstoredAt (now (past .entry)) (now (old .entry)) 0)) ⌝ }
 {
     let mut at = first_key();
@@ -325,7 +329,7 @@ fn check_key_arrivals(
         let PluginKeyStep::APluginKey(is, rest) = next_plugin_key(stream, at) else {
             return Verdict::Passed;
         };
-        let verdict = check_key_arrival(pool, past, old, current, copy, is);
+        let verdict = check_key_arrival(pool, past, old, index, current, copy, is);
         if let Verdict::Passed = verdict {
             at = rest;
         } else {
@@ -355,5 +359,5 @@ pub(crate) fn check_first_releases(
     let Verdict::Passed = enums else {
         return enums;
     };
-    check_key_arrivals(stream, pool, past, old, current, copy)
+    check_key_arrivals(stream, pool, past, old, index, current, copy)
 }

@@ -1,18 +1,21 @@
 // What the copy of the last release says of one item of the plugin API. Of two of one name the later counts, and one outside the plugin API does not.
 use record::dates::member_release;
-use record::keys::PluginKeyStep;
-use record::keys::first_key;
-use record::keys::next_plugin_key;
+use record::keys::StoredStep;
+use record::keys::first_stored;
+use record::keys::next_stored_key;
 use record::lists::ConstantStep;
 use record::lists::EnumStep;
+use record::lists::UnstoredStep;
 use record::lists::ValueStep;
 use record::lists::find_value;
 use record::named::api_constant;
+use record::named::last_unstored;
 use record::operands::OptText;
 use record::text::Text;
 use record::text::bytes_of;
 use record::text::same;
 ghost use mathlib.Core.Path.{_≡_};
+ghost use mathlib.Core.List.{[]};
 ghost use Rattle.record.specs.Steps.{constantsAt, structsAt, unstoredAt, enumFound};
 ghost use Rattle.record.specs.Index.{Indexed};
 ghost use Rattle.record.specs.Keys.{pluginKeys};
@@ -76,14 +79,14 @@ pub fn value_release(past: &[u8], old: &[u8], was: EnumStep, name: &[u8]) -> Shi
     shipped_with(member_release(own, parent))
 }
 
-// What the copy says of a plugin key.
-pub fn key_release(past: &[u8], old: &[u8], name: &[u8]) -> Shipped
-    ensures { λ r. ⌜ shippedOf (now (old .entry)) r ≡ keyRelease (now (name .entry)) (pluginKeys (structsAt (now (past .entry)) (now (old .entry)) 0) (unstoredAt (now (past .entry)) (now (old .entry)) 0)) ⌝ }
+// What the copy says of a plugin key by structures' fields alone.
+fn stored_release(past: &[u8], old: &[u8], name: &[u8]) -> Shipped
+    ensures { λ r. ⌜ shippedOf (now (old .entry)) r ≡ keyRelease (now (name .entry)) (pluginKeys (structsAt (now (past .entry)) (now (old .entry)) 0) []) ⌝ }
 {
     let mut found = Shipped::Absent;
-    let mut at = first_key();
+    let mut at = first_stored();
     loop {
-        let PluginKeyStep::APluginKey(k, rest) = next_plugin_key(past, at) else {
+        let StoredStep::AStored(k, rest) = next_stored_key(past, at) else {
             return found;
         };
         at = rest;
@@ -93,4 +96,16 @@ pub fn key_release(past: &[u8], old: &[u8], name: &[u8]) -> Shipped
             found = shipped_with(release);
         }
     }
+}
+
+// What the copy says of a plugin key: the unstored ones come after those of fields, so the last of them counts first.
+pub(crate) fn key_release(past: &[u8], old: &[u8], index: &[u16], name: &[u8]) -> Shipped
+    requires { ⌜ Indexed (now past) (now old) (now index) ⌝ }
+    ensures { λ r. ⌜ shippedOf (now (old .entry)) r ≡ keyRelease (now (name .entry)) (pluginKeys (structsAt (now (past .entry)) (now (old .entry)) 0) (unstoredAt (now (past .entry)) (now (old .entry)) 0)) ⌝ }
+{
+    if let UnstoredStep::AnUnstored(k, _) = last_unstored(past, old, index, name) {
+        let release = k.first_release;
+        return shipped_with(release);
+    }
+    stored_release(past, old, name)
 }

@@ -14,10 +14,10 @@ use Rattle.record.specs.Stretch.{textOf}
 use Rattle.record.specs.Operands.{textAt, flagAt}
 use Rattle.record.specs.Schema.{Family}
 use Rattle.record.specs.Commands.{operands, wide, widths, widthWith, widthOf, stepAt, commandsAt}
-use Rattle.record.specs.Lists.{anything, listed, constants, aliases, enums, values, bitfields, members, structs, fields, families, variants}
-use Rattle.record.specs.Steps.{valuesAt, membersAt, fieldsAt, variantsAt, constantsAt, aliasesAt, enumsAt, bitfieldsAt, structsAt, familiesAt, constantIn, aliasIn, enumIn, bitfieldIn, structIn, familyIn}
+use Rattle.record.specs.Lists.{anything, listed, constants, unstored, aliases, enums, values, bitfields, members, structs, fields, families, variants}
+use Rattle.record.specs.Steps.{valuesAt, membersAt, fieldsAt, variantsAt, constantsAt, aliasesAt, enumsAt, bitfieldsAt, structsAt, familiesAt, unstoredAt, constantIn, aliasIn, enumIn, bitfieldIn, structIn, familyIn}
 use Rattle.record.specs.Seek.{afterAt}
-use Rattle.record.specs.Index.{hashOf, declaredName, declares, isNamed, isFlagged, counts, onto, declaring, declaredPlaces, keyAt, putAt, latest, Linked, IndexRoom, Chained, Indexed, hitIn, firstIn, linkBefore, Headless, FirstNamed, LastNamed, soughtAt, constantPlaced, aliasPlaced, enumPlaced, bitfieldPlaced, structPlaced, familyPlaced, PlaceNamed, Declared, LastDeclared, Alone}
+use Rattle.record.specs.Index.{hashOf, declaredName, declares, isNamed, isFlagged, counts, onto, declaring, declaredPlaces, keyAt, putAt, latest, Linked, IndexRoom, Chained, Indexed, hitIn, firstIn, linkBefore, Headless, FirstNamed, LastNamed, soughtAt, constantPlaced, unstoredPlaced, aliasPlaced, enumPlaced, bitfieldPlaced, structPlaced, familyPlaced, PlaceNamed, Declared, LastDeclared, Alone}
 use Rattle.record.specs.declared.text.Text.{Text}
 use Rattle.record.specs.declared.command.Cursor.{Cursor}
 use Rattle.record.specs.declared.command.Command.{Command}
@@ -75,28 +75,33 @@ module _ (b : ℕ) where
   unfolding declares
   declares-constant e = rw e
 
-  pub declares-bits : (b ≡ 8 → ⊥) → (b ≡ 9 → ⊥) → (b ≡ 3 → ⊥) → (b ≡ 4 → ⊥) → (b ≡ 2 → ⊥) → eqb b 6 ≡ declares b
+  pub declares-unstored : b ≡ 13 → true ≡ declares b
   unfolding declares
-  declares-bits h i j k l = rw (ne-eqb b 8 h, ne-eqb b 9 i, ne-eqb b 3 j, ne-eqb b 4 k, ne-eqb b 2 l)
+  declares-unstored e = rw e
+
+  pub declares-bits : (b ≡ 8 → ⊥) → (b ≡ 9 → ⊥) → (b ≡ 3 → ⊥) → (b ≡ 4 → ⊥) → (b ≡ 2 → ⊥) → (b ≡ 13 → ⊥) → eqb b 6 ≡ declares b
+  unfolding declares
+  declares-bits h i j k l m = rw (ne-eqb b 8 h, ne-eqb b 9 i, ne-eqb b 3 j, ne-eqb b 4 k, ne-eqb b 2 l, ne-eqb b 13 m)
 
   -- such a command takes seven bytes at least
   declares-wide : declares b ≡ true → 7 ≤ widthOf b
   unfolding declares widthOf widthWith operands widths wide bytes
-  declares-wide e = go (eqb b 8) (eqb b 9) (eqb b 3) (eqb b 4) (eqb b 2) (eqb b 6) refl refl refl refl refl refl e
+  declares-wide e = go (eqb b 8) (eqb b 9) (eqb b 3) (eqb b 4) (eqb b 2) (eqb b 13) (eqb b 6) refl refl refl refl refl refl refl e
     where
       of : (k : ℕ) → eqb b k ≡ true → 7 ≤ widthOf k → 7 ≤ widthOf b
       of k h l = subst (λ (x : ℕ). 7 ≤ widthOf x) (sym (eqb-true b k h)) l
 
-      go : (v w x y z u : Bool) → eqb b 8 ≡ v → eqb b 9 ≡ w → eqb b 3 ≡ x → eqb b 4 ≡ y → eqb b 2 ≡ z → eqb b 6 ≡ u → cond v true (cond w true (cond x true (cond y true (cond z true u)))) ≡ true → 7 ≤ widthOf b
-      go true w x y z u h i j k l m q = of 8 h (omega arith)
-      go false true x y z u h i j k l m q = of 9 i (omega arith)
-      go false false true y z u h i j k l m q = of 3 j (omega arith)
-      go false false false true z u h i j k l m q = of 4 k (omega arith)
-      go false false false false true u h i j k l m q = of 2 l (omega arith)
-      go false false false false false true h i j k l m q = of 6 m (omega arith)
-      go false false false false false false h i j k l m q = absurd (false≢true q)
+      go : (v w x y z t u : Bool) → eqb b 8 ≡ v → eqb b 9 ≡ w → eqb b 3 ≡ x → eqb b 4 ≡ y → eqb b 2 ≡ z → eqb b 13 ≡ t → eqb b 6 ≡ u → cond v true (cond w true (cond x true (cond y true (cond z true (cond t true u))))) ≡ true → 7 ≤ widthOf b
+      go true w x y z t u h i j k l m n q = of 8 h (omega arith)
+      go false true x y z t u h i j k l m n q = of 9 i (omega arith)
+      go false false true y z t u h i j k l m n q = of 3 j (omega arith)
+      go false false false true z t u h i j k l m n q = of 4 k (omega arith)
+      go false false false false true t u h i j k l m n q = of 2 l (omega arith)
+      go false false false false false true u h i j k l m n q = of 13 m (omega arith)
+      go false false false false false false true h i j k l m n q = of 6 n (omega arith)
+      go false false false false false false false h i j k l m n q = absurd (false≢true q)
 
-pub ruleset declares-laws = (declares-struct, declares-family, declares-alias, declares-enum, declares-constant, declares-bits)
+pub ruleset declares-laws = (declares-struct, declares-family, declares-alias, declares-enum, declares-constant, declares-unstored, declares-bits)
 
 module _ (s p : Str) (b at : ℕ) (n : Str) (y : ℕ) (e : y ≡ getD s at 0) where
   pub named-other : (y ≡ b → ⊥) → false ≡ isNamed s p b n at
@@ -730,10 +735,11 @@ module _ {A : Type 0} (s p n : Str) (b fl : ℕ) (d : declares b ≡ true) (f : 
 
 module _ (s p : Str) (x : List ℕ) (b fl : ℕ) (n : Str) (found : ℕ) (g : LastNamed s p x b fl n found) where
   last-placed : (r : Sought) → r ≡ soughtAt s found → LastDeclared s p x b fl n r
-  unfolding declaredPlaces declaredName declares isNamed isFlagged counts constantsAt enumsAt familiesAt constants enums families valuesAt fieldsAt variantsAt
+  unfolding declaredPlaces declaredName declares isNamed isFlagged counts constantsAt enumsAt familiesAt unstoredAt constants enums families unstored valuesAt fieldsAt variantsAt
   last-placed r e = record {
     named = λ i. let h : r ≡ soughtAt s (firstIn (counts s p b fl n) (declaredPlaces s)) = e ∙ ap (soughtAt s) (g .last i) in record {
       constant = λ q w. rw (h, q, w) (last-in s p n 2 0 refl _ _ (λ at rest y. rw y) (constantPlaced s p) refl (λ a k. refl));
+      unstored = λ q w. rw (h, q, w) (last-in s p n 13 0 refl _ _ (λ at rest y. rw y) (unstoredPlaced s p) refl (λ a k. refl));
       api-constant = λ q w. rw (h, q, w) (last-in s p n 2 16 refl _ _ (λ at rest y. rw y) (constantPlaced s p) refl (λ a k. refl));
       api-enum = λ q w. rw (h, q, w) (last-in s p n 4 8 refl _ _ (λ at rest y. rw y) (enumPlaced s p) refl (λ a k. refl));
       standalone = λ q w. rw (h, q, w) (last-in s p n 9 16 refl _ _ (λ at rest y. rw y) (familyPlaced s p) refl (λ a k. refl));

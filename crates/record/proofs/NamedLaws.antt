@@ -1,12 +1,12 @@
--- The constants and enums that are found by the index, as their look-ups need them. Assumes nothing.
+-- The constants, enums and unstored keys that are found by the index, as their look-ups need them. Assumes nothing.
 use Prim.Native.Nat.{ℕ}
-use mathlib.Core.Path.{_≡_, refl, _∙_}
+use mathlib.Core.Path.{_≡_, refl, ap, _∙_}
 use mathlib.Core.List.{List}
 use lib.ListN.{drop}
 use Rattle.record.specs.Base.{Str}
-use Rattle.record.specs.Commands.{constantAt, enumAt, place}
-use Rattle.record.specs.Index.{Declared, LastDeclared}
-use Rattle.record.specs.Named.{ConstantThere, EnumThere, FirstConstant, LastConstant, ApiConstant, FirstEnum, ApiEnum}
+use Rattle.record.specs.Commands.{constantAt, enumAt, keyAt, place}
+use Rattle.record.specs.Index.{Declared, LastDeclared, unstoredPlaced}
+use Rattle.record.specs.Named.{ConstantThere, EnumThere, FirstConstant, LastConstant, ApiConstant, FirstEnum, ApiEnum, LastUnstored}
 use Rattle.record.specs.declared.command as D
 use Rattle.record.specs.declared.command.Cursor.{Cursor}
 use Rattle.record.specs.declared.seek.Sought.{Sought}
@@ -15,6 +15,7 @@ use Rattle.record.specs.declared.lists.ConstantStep.{ConstantStep}
 use Rattle.record.specs.declared.lists.ConstantStep.the-variants.{NoConstant, AConstant}
 use Rattle.record.specs.declared.lists.EnumStep.{EnumStep}
 use Rattle.record.specs.declared.lists.EnumStep.the-variants.{NoEnum, AnEnum}
+use Rattle.record.specs.declared.lists.UnstoredStep.the-variants.{NoUnstored, AnUnstored}
 
 -- what stands at a place
 module _ (s : Str) (t : Sought) where
@@ -53,3 +54,12 @@ module _ (s p : Str) (x : List ℕ) (n : Str) (t : Sought) where
     api-enum g = record { this = λ i. g .named i .api-enum refl refl ∙ h .this p }
 
 pub ruleset named-laws = (first-constant, last-constant, api-constant, first-enum, api-enum)
+
+module _ (s p : Str) (x : List ℕ) (n : Str) (t : Sought) (g : LastDeclared s p x 13 0 n t) where
+  pub unstored-none : t ≡ Nowhere → LastUnstored s p x n NoUnstored
+  unstored-none m = record { this = λ i. g .named i .unstored refl refl ∙ ap (unstoredPlaced s p) m }
+
+  pub unstored-last : (a j : ℕ) → t ≡ At a j → (y : Str) → y ≡ drop a s → (c : D.PluginKey.PluginKey) (k : Cursor) → c ≡ keyAt y → LastUnstored s p x n (AnUnstored c k)
+  unstored-last a j m y d c k e = record { this = λ i. g .named i .unstored refl refl ∙ rw (m, e, d) }
+
+pub ruleset last-unstored-laws = (unstored-none, unstored-last)

@@ -11,9 +11,10 @@ use Rattle.record.specs.Base.{Str, eqs, findLast, any}
 use Rattle.record.specs.Stretch.{textOf}
 use Rattle.record.specs.Operands.{textAt, flagAt}
 use Rattle.record.specs.Commands.{constantAt, aliasAt, enumAt, bitfieldAt, structAt, familyAt, commandsAt}
-use Rattle.record.specs.Schema.{Const, Alias, Enum, BitField, Struct, Family}
-use Rattle.record.specs.Lists.{constantOf, aliasOf, enumOf, bitfieldOf, structOf, familyOf}
-use Rattle.record.specs.Steps.{valuesAt, membersAt, fieldsAt, variantsAt, constantsAt, aliasesAt, enumsAt, bitfieldsAt, structsAt, familiesAt, constantIn, aliasIn, enumIn, bitfieldIn, structIn, familyIn}
+use Rattle.record.specs.Commands as Commands
+use Rattle.record.specs.Schema.{Const, Key, Alias, Enum, BitField, Struct, Family}
+use Rattle.record.specs.Lists.{constantOf, keyOf, aliasOf, enumOf, bitfieldOf, structOf, familyOf}
+use Rattle.record.specs.Steps.{valuesAt, membersAt, fieldsAt, variantsAt, constantsAt, aliasesAt, enumsAt, bitfieldsAt, structsAt, familiesAt, unstoredAt, constantIn, aliasIn, enumIn, bitfieldIn, structIn, familyIn}
 use Rattle.record.specs.Seek.{afterAt}
 use Rattle.record.specs.declared.seek.Sought.{Sought}
 use Rattle.record.specs.declared.seek.Sought.the-variants.{Nowhere, At}
@@ -30,9 +31,9 @@ hashOf x =
 unfoldable pub declaredName : Str → Str → ℕ → Str
 declaredName s p at = textOf p (textAt (drop at s) 1)
 
--- whether a command declares a name that look-ups ask for: a constant, an alias, an enum, a bit field, a structure or a family
+-- whether a command declares a name that look-ups ask for: a constant, an alias, an enum, a bit field, a structure, a family or an unstored key
 unfoldable pub declares : ℕ → Bool
-declares b = cond (eqb b 8) true (cond (eqb b 9) true (cond (eqb b 3) true (cond (eqb b 4) true (cond (eqb b 2) true (eqb b 6)))))
+declares b = cond (eqb b 8) true (cond (eqb b 9) true (cond (eqb b 3) true (cond (eqb b 4) true (cond (eqb b 2) true (cond (eqb b 13) true (eqb b 6))))))
 
 -- whether the command at a place has this number and name
 unfoldable pub isNamed : Str → Str → ℕ → Str → ℕ → Bool
@@ -149,6 +150,10 @@ abbrev pub familyPlaced : Str → Str → Sought → Option Family
 familyPlaced s p Nowhere = none
 familyPlaced s p (At a k) = some (familyOf p (familyAt (drop a s)) (fieldsAt s p k) (variantsAt s p k))
 
+abbrev pub unstoredPlaced : Str → Str → Sought → Option Key
+unstoredPlaced s p Nowhere = none
+unstoredPlaced s p (At a k) = some (keyOf p (Commands.keyAt (drop a s)))
+
 -- the answer is the place of the first constant of a name, asked for by 2, and so on
 pub record PlaceNamed (s p n : Str) (b : ℕ) (r : Sought) : Type 0 where
   pub constant : b ≡ 2 → constantIn n (constantsAt s p 0) ≡ constantPlaced s p r
@@ -162,10 +167,11 @@ pub record PlaceNamed (s p n : Str) (b : ℕ) (r : Sought) : Type 0 where
 pub record Declared (s p : Str) (x : List ℕ) (b : ℕ) (n : Str) (r : Sought) : Type 0 where
   pub named : Indexed s p x → PlaceNamed s p n b r
 
--- the answer is the place of the last constant of a name, asked for by 2 with no flag, of the last constant and the last enum in the plugin API, and of the
--- last standalone family
+-- the answer is the place of the last constant of a name, asked for by 2 with no flag, of the last unstored key, of the last constant and the last
+-- enum in the plugin API, and of the last standalone family
 pub record PlaceLast (s p n : Str) (b f : ℕ) (r : Sought) : Type 0 where
   pub constant : b ≡ 2 → f ≡ 0 → findLast (λ (c : Const). eqs (c .name) n) (constantsAt s p 0) ≡ constantPlaced s p r
+  pub unstored : b ≡ 13 → f ≡ 0 → findLast (λ (k : Key). eqs (k .name) n) (unstoredAt s p 0) ≡ unstoredPlaced s p r
   pub api-constant : b ≡ 2 → f ≡ 16 → findLast (λ (c : Const). c .api && eqs (c .name) n) (constantsAt s p 0) ≡ constantPlaced s p r
   pub api-enum : b ≡ 4 → f ≡ 8 → findLast (λ (e : Enum). e .api && eqs (e .name) n) (enumsAt s p 0) ≡ enumPlaced s p r
   pub standalone : b ≡ 9 → f ≡ 16 → findLast (λ (m : Family). m .standalone && eqs (m .name) n) (familiesAt s p 0) ≡ familyPlaced s p r

@@ -45,7 +45,7 @@ fn declared_name<'a>(stream: &[u8], pool: &'a [u8], place: usize) -> &'a [u8]
     bytes_of(pool, text_at(cut::from(stream, place), 1))
 }
 
-// Whether a command declares a name that look-ups ask for: a constant, an alias, an enum, a bit field, a structure or a family.
+// Whether a command declares a name that look-ups ask for: a constant, an alias, an enum, a bit field, a structure, a family or an unstored key.
 fn declares(byte: u8) -> bool
     ensures { λ r. ⌜ r ≡ declares byte ⌝ }
 {
@@ -62,6 +62,9 @@ fn declares(byte: u8) -> bool
         return true;
     }
     if byte == 2 {
+        return true;
+    }
+    if byte == 13 {
         return true;
     }
     byte == 6

@@ -10,13 +10,24 @@ use crate::lists::next_unstored;
 use crate::seek::Between;
 use crate::seek::Sought;
 use crate::seek::seek;
-ghost use Rattle.record.specs.declared.keys.KeysAt.the-variants.{Structs, Unstored};
-ghost use Rattle.record.specs.Keys.{AllKeys, InFields, PluginKeysFrom};
+ghost use Rattle.record.specs.declared.keys.StoredAt.the-variants.{Structs};
+ghost use Rattle.record.specs.declared.keys.KeysAt.the-variants.{Unstored};
+ghost use Rattle.record.specs.Keys.{AllStored, AllKeys, InFields, StoredFrom, PluginKeysFrom};
 
-// What is left of the walk: the structures from a cursor on; the fields and then the structures from a cursor on; the unstored keys from a cursor on.
-pub enum KeysAt {
+// What is left of the walk over structures' fields: the structures from a cursor on; the fields and then the structures from a cursor on.
+pub enum StoredAt {
     Structs(Cursor),
     Fields(Cursor),
+}
+
+pub enum StoredStep {
+    NoStored,
+    AStored(PluginKey, StoredAt),
+}
+
+// What is left of the walk over all keys: those of structures' fields and then the unstored ones; the unstored ones from a cursor on.
+pub enum KeysAt {
+    Stored(StoredAt),
     Unstored(Cursor),
 }
 
@@ -25,11 +36,18 @@ pub enum PluginKeyStep {
     APluginKey(PluginKey, KeysAt),
 }
 
-// The whole walk.
+// The whole walk over structures' fields.
+pub fn first_stored() -> StoredAt
+    ensures { λ r. ⌜ AllStored r ⌝ }
+{
+    StoredAt::Structs(Cursor::new())
+}
+
+// The whole walk over all keys.
 pub fn first_key() -> KeysAt
     ensures { λ r. ⌜ AllKeys r ⌝ }
 {
-    KeysAt::Structs(Cursor::new())
+    KeysAt::Stored(first_stored())
 }
 
 // A plugin key of some fields, with the cursor after its field; or none, with the cursor after the last field.
@@ -65,22 +83,38 @@ fn next_unstored_key(stream: &[u8], from: Cursor) -> PluginKeyStep
     PluginKeyStep::APluginKey(e, KeysAt::Unstored(after))
 }
 
-// The next plugin key of the structures from a cursor on, and after them the first unstored one.
-fn next_in_structs(stream: &[u8], from: Cursor) -> PluginKeyStep
-    ensures { λ r. ⌜ PluginKeysFrom (now (stream .entry)) (Structs from) r ⌝ }
+// The next plugin key of the structures from a cursor on.
+fn next_in_structs(stream: &[u8], from: Cursor) -> StoredStep
+    ensures { λ r. ⌜ StoredFrom (now (stream .entry)) (Structs from) r ⌝ }
 {
     let mut cursor = from;
     loop {
         let StructStep::AStruct(_, after) = next_struct(stream, cursor) else {
-            return next_unstored_key(stream, Cursor::new());
+            return StoredStep::NoStored;
         };
         let key = next_in_fields(stream, after);
         match key {
             FieldKey::Keyed(e, inside) => {
-                return PluginKeyStep::APluginKey(e, KeysAt::Fields(inside));
+                return StoredStep::AStored(e, StoredAt::Fields(inside));
             }
             FieldKey::Ended(end) => {
                 cursor = end;
+            }
+        }
+    }
+}
+
+// The next plugin key of structures' fields, with what is left of the walk after it.
+pub fn next_stored_key(stream: &[u8], at: StoredAt) -> StoredStep
+    ensures { λ r. ⌜ StoredFrom (now (stream .entry)) at r ⌝ }
+{
+    match at {
+        StoredAt::Structs(from) => next_in_structs(stream, from),
+        StoredAt::Fields(from) => {
+            let key = next_in_fields(stream, from);
+            match key {
+                FieldKey::Keyed(e, inside) => StoredStep::AStored(e, StoredAt::Fields(inside)),
+                FieldKey::Ended(end) => next_in_structs(stream, end),
             }
         }
     }
@@ -91,13 +125,11 @@ pub fn next_plugin_key(stream: &[u8], at: KeysAt) -> PluginKeyStep
     ensures { λ r. ⌜ PluginKeysFrom (now (stream .entry)) at r ⌝ }
 {
     match at {
-        KeysAt::Structs(from) => next_in_structs(stream, from),
-        KeysAt::Fields(from) => {
-            let key = next_in_fields(stream, from);
-            match key {
-                FieldKey::Keyed(e, inside) => PluginKeyStep::APluginKey(e, KeysAt::Fields(inside)),
-                FieldKey::Ended(end) => next_in_structs(stream, end),
-            }
+        KeysAt::Stored(from) => {
+            let StoredStep::AStored(e, rest) = next_stored_key(stream, from) else {
+                return next_unstored_key(stream, Cursor::new());
+            };
+            PluginKeyStep::APluginKey(e, KeysAt::Stored(rest))
         }
         KeysAt::Unstored(from) => next_unstored_key(stream, from),
     }

@@ -1,14 +1,16 @@
-// The constants and enums of a record by their names, found by its index.
+// The constants, enums and unstored keys of a record by their names, found by its index.
 use crate::command::Cursor;
 use crate::command::constant_at;
 use crate::command::enum_at;
+use crate::command::key_at;
 use crate::cut;
 use crate::index::find_declared;
 use crate::index::find_last;
 use crate::lists::ConstantStep;
 use crate::lists::EnumStep;
+use crate::lists::UnstoredStep;
 use crate::seek::Sought;
-ghost use Rattle.record.specs.Named.{ConstantThere, EnumThere, FirstConstant, LastConstant, ApiConstant, FirstEnum, ApiEnum};
+ghost use Rattle.record.specs.Named.{ConstantThere, EnumThere, FirstConstant, LastConstant, ApiConstant, FirstEnum, ApiEnum, LastUnstored};
 
 // The constant at a place.
 fn constant_there(stream: &[u8], there: Sought) -> ConstantStep
@@ -63,4 +65,14 @@ pub fn api_enum(stream: &[u8], pool: &[u8], index: &[u16], name: &[u8]) -> EnumS
     ensures { λ r. ⌜ ApiEnum (now (stream .entry)) (now (pool .entry)) (now (index .entry)) (now (name .entry)) r ⌝ }
 {
     enum_there(stream, find_last(stream, pool, index, 4, 8, name))
+}
+
+// The last unstored key of a name.
+pub fn last_unstored(stream: &[u8], pool: &[u8], index: &[u16], name: &[u8]) -> UnstoredStep
+    ensures { λ r. ⌜ LastUnstored (now (stream .entry)) (now (pool .entry)) (now (index .entry)) (now (name .entry)) r ⌝ }
+{
+    let Sought::At(place, after) = find_last(stream, pool, index, 13, 0, name) else {
+        return UnstoredStep::NoUnstored;
+    };
+    UnstoredStep::AnUnstored(key_at(cut::from(stream, place)), Cursor::place(after))
 }

@@ -5,18 +5,17 @@ use Rattle.record.specs.Lists.{optOf}
 use Rattle.record.specs.Steps.{structsAt, unstoredAt}
 use Rattle.record.specs.Keys.{pluginKeys, keysFrom}
 use Rattle.record.proofs.TextLaws.{kept, ended}
-use Rattle.compare.proofs.ShippedLaws.{plugin-keys-nearer}
 use Rattle.definition.specs.FirstReleases.{checkKeyArrivals}
-use Rattle.compare.proofs.FirstReleaseLaws.{keys-begin, key-arrivals-laws}
+use Rattle.compare.proofs.FirstReleaseLaws.{plugin-keys-nearer, keys-begin, key-arrivals-laws}
 use borrow.Author.Needs.{needs}
 use Rattle.compare.proofs.first_releases.check_key_arrivals.Statement.{statement}
 use Rattle.compare.proofs.first_releases.check_key_arrivals.Tie as tie
 
 abbrev Inv-loop : tie.InvT-loop
-Inv-loop stream pool past old current copy at₀ at = checkKeyArrivals (textOf pool current) (optOf old copy) (pluginKeys (structsAt stream pool 0) (unstoredAt stream pool 0)) (pluginKeys (structsAt past old 0) (unstoredAt past old 0)) ≡ checkKeyArrivals (textOf pool current) (optOf old copy) (keysFrom stream pool at) (pluginKeys (structsAt past old 0) (unstoredAt past old 0))
+Inv-loop stream pool past old index current copy at₀ at = checkKeyArrivals (textOf pool current) (optOf old copy) (pluginKeys (structsAt stream pool 0) (unstoredAt stream pool 0)) (pluginKeys (structsAt past old 0) (unstoredAt past old 0)) ≡ checkKeyArrivals (textOf pool current) (optOf old copy) (keysFrom stream pool at) (pluginKeys (structsAt past old 0) (unstoredAt past old 0))
 
 abbrev μ-loop : tie.MeasureT-loop
-μ-loop stream pool past old current copy at₀ at = length (keysFrom stream pool at)
+μ-loop stream pool past old index current copy at₀ at = length (keysFrom stream pool at)
 
 first-key-requires : tie.Need-first-key-requires Inv-loop μ-loop
 first-key-requires c κs = search needs

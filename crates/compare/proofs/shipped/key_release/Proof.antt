@@ -1,76 +1,48 @@
-use mathlib.Core.Path.{_≡_}
-use lib.ListN.{length}
-use Rattle.record.specs.Steps.{structsAt, unstoredAt}
-use Rattle.record.specs.Keys.{pluginKeys, keysFrom}
-use Rattle.record.proofs.TextLaws.{kept, ended}
-use Rattle.definition.specs.FirstReleases.{keyRelease}
-use Rattle.compare.specs.Shipped.{shippedOf}
-use Rattle.compare.proofs.ShippedLaws.{plugin-keys-nearer, keyLatest, key-begin, key-release-laws}
+use Rattle.compare.proofs.ShippedLaws.{key-laws}
 use borrow.Author.Needs.{needs}
 use Rattle.compare.proofs.shipped.key_release.Statement.{statement}
 use Rattle.compare.proofs.shipped.key_release.Tie as tie
+use Rattle.compare.proofs.shipped.key_release.Reads as reads
+use Rattle.compare.proofs.shipped.key_release.Lts as lts
+use Rattle.compare.proofs.shipped.shipped_with.Reads as shipped-with-reads
+use Rattle.compare.proofs.shipped.stored_release.Reads as stored-release-reads
+use Rattle.record.proofs.named.last_unstored.Reads as last-unstored-reads
 
-abbrev Inv-loop : tie.InvT-loop
-Inv-loop past old name found₀ at₀ found at = keyRelease name (pluginKeys (structsAt past old 0) (unstoredAt past old 0)) ≡ keyLatest name (shippedOf old found) (keysFrom past old at)
+-- src/shipped.rt:106:45
+last-unstored-requires : tie.Need-last-unstored-requires
+last-unstored-requires c κs = search needs
 
-abbrev μ-loop : tie.MeasureT-loop
-μ-loop past old name found₀ at₀ found at = length (keysFrom past old at)
-
-first-key-requires : tie.Need-first-key-requires Inv-loop μ-loop
-first-key-requires c κs = search needs
-
-loop-holds : tie.Need-loop-holds Inv-loop μ-loop
-loop-holds c = search key-begin
-
-next-plugin-key-requires : tie.Need-next-plugin-key-requires Inv-loop μ-loop
-next-plugin-key-requires c κs = search needs
-
-enum-known-k : tie.Need-enum-known-k Inv-loop μ-loop
+-- src/shipped.rt:106:37
+enum-known-k : tie.Need-enum-known-k
 enum-known-k c = search needs
 
-enum-told : tie.Need-enum-told Inv-loop μ-loop
-enum-told c = search needs
-
-returns : tie.Need-returns Inv-loop μ-loop
-returns c = search (ended, key-release-laws)
-
-bytes-of-requires : tie.Need-bytes-of-requires Inv-loop μ-loop
-bytes-of-requires c κs = search needs
-
-same-requires : tie.Need-same-requires Inv-loop μ-loop
-same-requires c κs = search needs
-
-shipped-with-requires : tie.Need-shipped-with-requires Inv-loop μ-loop
+-- src/shipped.rt:108:9
+shipped-with-requires : tie.Need-shipped-with-requires
 shipped-with-requires c κs = search needs
 
-loop-less : tie.Need-loop-less Inv-loop μ-loop
-loop-less c = search plugin-keys-nearer
+-- src/shipped.rt:108:9
+returns : tie.Need-returns
+returns c = search key-laws
 
-loop-again : tie.Need-loop-again Inv-loop μ-loop
-loop-again c = search (kept, key-release-laws)
+enum-told : tie.Need-enum-told
+enum-told c = search needs
 
-loop-less-2 : tie.Need-loop-less-2 Inv-loop μ-loop
-loop-less-2 c = search plugin-keys-nearer
+-- src/shipped.rt:110:5
+stored-release-requires : tie.Need-stored-release-requires
+stored-release-requires c κs = search needs
 
-loop-again-2 : tie.Need-loop-again-2 Inv-loop μ-loop
-loop-again-2 c = search (kept, key-release-laws)
+-- src/shipped.rt:102:1
+returns-2 : tie.Need-returns-2
+returns-2 c = search key-laws
 
 pub key-release-spec : {M : Type 1} → statement M
 key-release-spec =
     tie.close
     (tie.spec
-    Inv-loop
-    μ-loop
-    first-key-requires
-    loop-holds
-    next-plugin-key-requires
+    last-unstored-requires
     enum-known-k
-    enum-told
-    returns
-    bytes-of-requires
-    same-requires
     shipped-with-requires
-    loop-less
-    loop-again
-    loop-less-2
-    loop-again-2)
+    returns
+    enum-told
+    stored-release-requires
+    returns-2)

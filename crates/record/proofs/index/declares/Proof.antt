@@ -5,29 +5,34 @@ use Rattle.record.proofs.index.declares.Tie as tie
 use Rattle.record.proofs.index.declares.Reads as reads
 use Rattle.record.proofs.index.declares.Lts as lts
 
--- src/index.rt:54:9
+-- src/index.rt:53:9
 returns : tie.Need-returns
 returns c = search declares-laws
 
--- src/index.rt:57:9
+-- src/index.rt:56:9
 returns-2 : tie.Need-returns-2
 returns-2 c = search declares-laws
 
--- src/index.rt:60:9
+-- src/index.rt:59:9
 returns-3 : tie.Need-returns-3
 returns-3 c = search declares-laws
 
--- src/index.rt:63:9
+-- src/index.rt:62:9
 returns-4 : tie.Need-returns-4
 returns-4 c = search declares-laws
 
--- src/index.rt:66:9
+-- src/index.rt:65:9
 returns-5 : tie.Need-returns-5
 returns-5 c = search declares-laws
 
--- src/index.rt:50:1
+-- src/index.rt:68:9
 returns-6 : tie.Need-returns-6
 returns-6 c = search declares-laws
 
+-- src/index.rt:49:1
+returns-7 : tie.Need-returns-7
+returns-7 c = search declares-laws
+
 pub declares-spec : {M : Type 1} → statement M
-declares-spec = tie.close (tie.spec returns returns-2 returns-3 returns-4 returns-5 returns-6)
+declares-spec =
+    tie.close (tie.spec returns returns-2 returns-3 returns-4 returns-5 returns-6 returns-7)

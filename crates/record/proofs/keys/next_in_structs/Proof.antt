@@ -1,5 +1,5 @@
 use Rattle.record.proofs.KeyLaws.{Idle, idle-at, walk-laws, struct-nearer}
-use Rattle.record.specs.declared.keys.KeysAt.the-variants.{Structs}
+use Rattle.record.specs.declared.keys.StoredAt.the-variants.{Structs}
 use lib.ListN.{length}
 use Prim.Native.Nat.{_-_}
 use borrow.Author.Needs.{needs}
@@ -7,9 +7,7 @@ use Rattle.record.proofs.keys.next_in_structs.Statement.{statement}
 use Rattle.record.proofs.keys.next_in_structs.Tie as tie
 use Rattle.record.proofs.keys.next_in_structs.Reads as reads
 use Rattle.record.proofs.keys.next_in_structs.Lts as lts
-use Rattle.record.proofs.command.Cursor.new.Reads as new-reads
 use Rattle.record.proofs.keys.next_in_fields.Reads as next-in-fields-reads
-use Rattle.record.proofs.keys.next_unstored_key.Reads as next-unstored-key-reads
 use Rattle.record.proofs.lists.next_struct.Reads as next-struct-reads
 
 abbrev Inv-loop : tie.InvT-loop
@@ -18,55 +16,47 @@ Inv-loop stream cursor₀ cursor = Idle stream (Structs cursor₀) (Structs curs
 abbrev μ-loop : tie.MeasureT-loop
 μ-loop stream cursor₀ cursor = length stream - cursor .at
 
--- src/keys.rt:73:5
+-- src/keys.rt:91:5
 loop-holds : tie.Need-loop-holds Inv-loop μ-loop
 loop-holds c = search idle-at
 
--- src/keys.rt:74:45
+-- src/keys.rt:92:45
 next-struct-requires : tie.Need-next-struct-requires Inv-loop μ-loop
 next-struct-requires c κs = search needs
 
--- src/keys.rt:74:36
+-- src/keys.rt:92:36
 enum-known-after : tie.Need-enum-known-after Inv-loop μ-loop
 enum-known-after c = search needs
 
--- src/keys.rt:75:46
+-- src/keys.rt:93:13
 enum-told : tie.Need-enum-told Inv-loop μ-loop
 enum-told c = search needs
 
--- src/keys.rt:75:46
-new-requires : tie.Need-new-requires Inv-loop μ-loop
-new-requires c κs = search needs
-
--- src/keys.rt:75:13
-next-unstored-key-requires : tie.Need-next-unstored-key-requires Inv-loop μ-loop
-next-unstored-key-requires c κs = search needs
-
--- src/keys.rt:75:13
+-- src/keys.rt:93:13
 returns : tie.Need-returns Inv-loop μ-loop
 returns c = search walk-laws
 
--- src/keys.rt:77:13
+-- src/keys.rt:95:13
 next-in-fields-requires : tie.Need-next-in-fields-requires Inv-loop μ-loop
 next-in-fields-requires c κs = search needs
 
--- src/keys.rt:79:29
+-- src/keys.rt:97:29
 enum-known-key : tie.Need-enum-known-key Inv-loop μ-loop
 enum-known-key c = search needs
 
--- src/keys.rt:80:17
+-- src/keys.rt:98:17
 returns-2 : tie.Need-returns-2 Inv-loop μ-loop
 returns-2 c = search walk-laws
 
--- src/keys.rt:82:29
+-- src/keys.rt:100:29
 enum-known-key-2 : tie.Need-enum-known-key-2 Inv-loop μ-loop
 enum-known-key-2 c = search needs
 
--- src/keys.rt:73:5
+-- src/keys.rt:91:5
 loop-less : tie.Need-loop-less Inv-loop μ-loop
 loop-less c = search struct-nearer
 
--- src/keys.rt:73:5
+-- src/keys.rt:91:5
 loop-again : tie.Need-loop-again Inv-loop μ-loop
 loop-again c = search walk-laws
 
@@ -80,8 +70,6 @@ next-in-structs-spec =
     next-struct-requires
     enum-known-after
     enum-told
-    new-requires
-    next-unstored-key-requires
     returns
     next-in-fields-requires
     enum-known-key
