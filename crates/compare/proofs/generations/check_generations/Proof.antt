@@ -11,12 +11,14 @@ mark-owners-requires c κs = search needs
 
 fill-cover-requires : tie.Need-fill-cover-requires
 fill-cover-requires c κs =
-    let pre = c .before .before .before .before .before .before .before .before .before .before .before .before .before .before .before .before .before .before .before .pre in
+    let pre = c .before .before .before .before .before .before .before .before .before .before .before .before .before .before .before .before .before .before .before .before .pre in
     let slots = c .before .before .before .before .before .before .versioned-structs .ensures in
     (pre .0, pre .1, record { marks = c .before .before .before .before .mark-owners .ensures .within (pre .2) slots (pre .4); index = pre .4 }, slots, pre .3)
 
 check-filled-requires : tie.Need-check-filled-requires
-check-filled-requires c κs = search needs
+check-filled-requires c κs =
+    let pre = c .before .before .before .before .before .before .before .before .before .before .before .before .before .before .before .before .before .before .before .before .before .before .before .before .pre in
+    (c .before .before .before .before .before .before .before .before .before .before .versioned-structs .ensures, pre .4, pre .5)
 
 same-length : tie.Need-same-length
 same-length c = search needs
@@ -25,7 +27,7 @@ same-length-2 : tie.Need-same-length-2
 same-length-2 c = search needs
 
 returns : tie.Need-returns
-returns c = search (generations-are, c .before .before .before .before .before .before .before .before .before .before .before .before .before .before .before .before .before .before .before .before .before .before .before .before .pre .0)
+returns c = search (generations-are, c .before .before .before .before .before .before .before .before .before .before .before .before .before .before .before .before .before .before .before .before .before .before .before .before .before .pre .0)
 
 pub check-generations-spec : {M : Type 1} → statement M
 check-generations-spec =
