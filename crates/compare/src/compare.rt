@@ -191,8 +191,8 @@ fn check_tables(
     requires { ⌜ (length (now stream) ≤ 32768) × Exact (rec (now stream) (now pool) (scalarsOf (now rows))) × (length (now past) ≤ 32768) × Exact (rec (now past) (now old) (scalarsOf (now rows))) × Room (now stream) (now types) × Room (now stream) (now scratch) × SizesRoom (now stream) (now sizes) × Room (now past) (now shipped) × Room (now past) (now scratch) × SizesRoom (now past) (now widths) × (length (now stream) ≤ length (now marks)) × Indexed (now stream) (now pool) (now index) × Indexed (now past) (now old) (now «old_index») ⌝ }
     ensures { λ r. ⌜ meaning (now (pool .entry)) (now (old .entry)) r ≡ ((checkFields (typesOf (rec (now (stream .entry)) (now (pool .entry)) (scalarsOf (now (rows .entry))))) (typesOf (rec (now (past .entry)) (now (old .entry)) (scalarsOf (now (rows .entry))))) then checkStandalone (familiesAt (now (stream .entry)) (now (pool .entry)) 0) (familiesAt (now (past .entry)) (now (old .entry)) 0) (typesOf (rec (now (stream .entry)) (now (pool .entry)) (scalarsOf (now (rows .entry))))) (typesOf (rec (now (past .entry)) (now (old .entry)) (scalarsOf (now (rows .entry)))))) then checkGenerations (textOf (now (pool .entry)) current) (optOf (now (old .entry)) copy) (versionsAt (now (stream .entry)) (now (pool .entry)) 0) (typesAt (now (stream .entry)) (now (pool .entry))) (constantsAt (now (stream .entry)) (now (pool .entry)) 0) (constantsAt (now (past .entry)) (now (old .entry)) 0) (changedTypes (rec (now (stream .entry)) (now (pool .entry)) (scalarsOf (now (rows .entry)))) (rec (now (past .entry)) (now (old .entry)) (scalarsOf (now (rows .entry)))))) ⌝ }
 {
-    let n = fill_tables(rows, stream, pool, types, scratch, sizes);
-    let m = fill_tables(rows, past, old, shipped, scratch, widths);
+    let n = fill_tables(rows, stream, pool, index, types, scratch, sizes);
+    let m = fill_tables(rows, past, old, old_index, shipped, scratch, widths);
     check_layouts(
         rows,
         stream,

@@ -11,6 +11,7 @@ use Rattle.record.specs.Base.{bytes}
 use Rattle.record.specs.Commands.{operands, wide, widths, widthWith, widthOf, fieldAt, stepAt, commandsAt}
 use Rattle.record.specs.Lists.{fieldOf}
 use Rattle.record.specs.Shapes.{shapeSize, capped}
+use Rattle.record.specs.Index.{Indexed, Findable}
 use Rattle.record.specs.Reading.{Rec, schemaOf}
 use Rattle.record.specs.declared.command.Cursor.{Cursor}
 use Rattle.record.specs.declared.command.Command.{Command}
@@ -39,16 +40,16 @@ none-read t i h = sym (List·getD-eq-default t 0 {n = i} h)
 abbrev pub Entered : Rec → List ℕ → ℕ → ℕ → Type 0
 Entered r t from at = List·Memᴰ at (placesOf (r .stream) Anything 11 from) ⊎ ((at + 33 ≤ from) × (getD t ((at + 33) / 33) 0 ≡ fieldSize r at))
 
-pub record Sizing (r : Rec) (o t : List ℕ) (from : ℕ) : Type 0 where
-  pub entered : SizesRoom (r .stream) o → (at : ℕ) → List·Memᴰ at (commandsAt (r .stream) 0) → getD (r .stream) at 0 ≡ 11 → Entered r t from at
+pub record Sizing (r : Rec) (w o t : List ℕ) (from : ℕ) : Type 0 where
+  pub entered : Indexed (r .stream) (r .pool) w → SizesRoom (r .stream) o → (at : ℕ) → List·Memᴰ at (commandsAt (r .stream) 0) → getD (r .stream) at 0 ≡ 11 → Entered r t from at
   pub long : length t ≡ length o
 
-pub sizing-start : (r : Rec) (o : List ℕ) → Sizing r o o 0
-sizing-start r o = record { entered = λ room at m b. inl (place-listed (r .stream) 11 at b 0 m); long = refl }
+pub sizing-start : (r : Rec) (w o : List ℕ) → Sizing r w o o 0
+sizing-start r w o = record { entered = λ index room at m b. inl (place-listed (r .stream) 11 at b 0 m); long = refl }
 
-module _ (r : Rec) (o t : List ℕ) (from : ℕ) (z : Sizing r o t from) (g : Sought) (i : SoughtFrom (r .stream) Anything 11 from g) where
-  pub sizing-end : g ≡ Nowhere → SizesRoom (r .stream) o → SizesTable r t
-  sizing-end m room = record { sized = λ at n b. go (z .entered room at n b) }
+module _ (r : Rec) (w o t : List ℕ) (from : ℕ) (z : Sizing r w o t from) (g : Sought) (i : SoughtFrom (r .stream) Anything 11 from g) where
+  pub sizing-end : g ≡ Nowhere → Indexed (r .stream) (r .pool) w → SizesRoom (r .stream) o → SizesTable r t
+  sizing-end m index room = record { sized = λ at n b. go (z .entered index room at n b) }
     where
       go : {at : ℕ} → Entered r t from at → getD t ((at + 33) / 33) 0 ≡ fieldSize r at
       go (inl n) = absurd (List·Memᴰ·not-nil (rw (i .list ∙ ap (placesLeft (r .stream) Anything 11) m) at n))
@@ -66,22 +67,22 @@ module _ (r : Rec) (o t : List ℕ) (from : ℕ) (z : Sizing r o t from) (g : So
     unfolding fieldSize
     size-is x e = e ∙ ap (λ (v : List ℕ). capped (shapeSize (schemaOf r) (fieldOf (r .pool) (fieldAt v) none))) d
 
-    pub sizing-field : (x : ℕ) (u : List ℕ) → x ≡ capped (shapeSize (schemaOf r) (fieldOf (r .pool) (fieldAt y) none)) → u ≡ set t (k / 33) x → Sizing r o u k
-    sizing-field x u e s = record { entered = λ room at n b. go room at (z .entered room at n b); long = ap length s ∙ simp length-set (z .long) }
+    pub sizing-field : (x : ℕ) (u : List ℕ) → (Findable (r .stream) (r .pool) w → x ≡ capped (shapeSize (schemaOf r) (fieldOf (r .pool) (fieldAt y) none))) → u ≡ set t (k / 33) x → Sizing r w o u k
+    sizing-field x u e s = record { entered = λ index room at n b. go index room at (z .entered index room at n b); long = ap length s ∙ simp length-set (z .long) }
       where
-        here : SizesRoom (r .stream) o → (at : ℕ) → List·Memᴰ at (a ∷ placesOf (r .stream) Anything 11 k) → Entered r u k at
-        here room at (List·Memᴰ·head q) =
+        here : Indexed (r .stream) (r .pool) w → SizesRoom (r .stream) o → (at : ℕ) → List·Memᴰ at (a ∷ placesOf (r .stream) Anything 11 k) → Entered r u k at
+        here index room at (List·Memᴰ·head q) =
             let b = after in
-            let w = stands .within in
+            let h = stands .within in
             let l = z .long in
             let n : (at + 33) / 33 ≡ k / 33 = ap (λ (j : ℕ). j / 33) (omega arith) in
             let v : getD u (k / 33) 0 ≡ x = rw s (getD-set-same t (k / 33) x 0 (omega arith)) in
-            inr (omega arith, ap (λ (j : ℕ). getD u j 0) n ∙ v ∙ size-is x e ∙ ap (fieldSize r) (sym q))
-        here room at (List·Memᴰ·tail n) = inl n
+            inr (omega arith, ap (λ (j : ℕ). getD u j 0) n ∙ v ∙ size-is x (e (record { by = inl index })) ∙ ap (fieldSize r) (sym q))
+        here index room at (List·Memᴰ·tail n) = inl n
 
-        go : SizesRoom (r .stream) o → (at : ℕ) → Entered r t from at → Entered r u k at
-        go room at (inl n) = here room at (rw (i .list ∙ ap (placesLeft (r .stream) Anything 11) m) at n)
-        go room at (inr c) =
+        go : Indexed (r .stream) (r .pool) w → SizesRoom (r .stream) o → (at : ℕ) → Entered r t from at → Entered r u k at
+        go index room at (inl n) = here index room at (rw (i .list ∙ ap (placesLeft (r .stream) Anything 11) m) at n)
+        go index room at (inr c) =
             let b = after in
             let j = stands .ahead in
             let p = c .0 in

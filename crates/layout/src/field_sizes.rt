@@ -8,6 +8,7 @@ ghost use Prim.Native.Nat.{_/_};
 ghost use mathlib.Core.Path.{_≡_};
 ghost use lib.ListN.{getD, set};
 ghost use Rattle.record.specs.Scalars.{scalarsOf};
+ghost use Rattle.record.specs.Index.{Indexed};
 ghost use Rattle.record.specs.Reading.{rec};
 ghost use Rattle.layout.specs.Room.{SizesRoom};
 ghost use Rattle.layout.specs.FieldSizes.{SizesTable};
@@ -35,8 +36,8 @@ pub fn size_before(sizes: &[u64], after: usize) -> u64
 }
 
 // The sizes of all fields.
-pub fn fill_sizes(rows: &[u8], stream: &[u8], pool: &[u8], sizes: &mut [u64])
-    ensures { λ r. ⌜ (SizesRoom (now (stream .entry)) (now (sizes .entry)) → SizesTable (rec (now (stream .entry)) (now (pool .entry)) (scalarsOf (now (rows .entry)))) (now (sizes .exit))) ⌝ }
+pub fn fill_sizes(rows: &[u8], stream: &[u8], pool: &[u8], index: &[u16], sizes: &mut [u64])
+    ensures { λ r. ⌜ (Indexed (now (stream .entry)) (now (pool .entry)) (now (index .entry)) → SizesRoom (now (stream .entry)) (now (sizes .entry)) → SizesTable (rec (now (stream .entry)) (now (pool .entry)) (scalarsOf (now (rows .entry)))) (now (sizes .exit))) ⌝ }
 {
     let mut at = 0;
     loop {
@@ -46,7 +47,7 @@ pub fn fill_sizes(rows: &[u8], stream: &[u8], pool: &[u8], sizes: &mut [u64])
         put_size(
             sizes,
             after,
-            field_size(rows, stream, pool, cut::from(stream, place)),
+            field_size(rows, stream, pool, index, cut::from(stream, place)),
         );
         at = after;
     }

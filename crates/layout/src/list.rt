@@ -3,6 +3,7 @@ use crate::answer::Answer;
 use crate::answer::refused;
 use crate::lines::put_types;
 use crate::tables::fill_tables;
+use record::index::fill_index;
 use record::read::Outcome;
 use record::read::read_record;
 use record::refusal::Side;
@@ -10,6 +11,7 @@ use record::scalars::built_in;
 ghost use Prim.Native.Nat.{_≤_};
 ghost use lib.ListN.{length};
 ghost use Rattle.record.specs.Scalars.{scalarsOf, builtIn};
+ghost use Rattle.record.specs.Index.{IndexRoom};
 ghost use Rattle.record.specs.Reading.{rec, schemaOf};
 ghost use Rattle.record.specs.Read.{Exact};
 ghost use Rattle.layout.specs.Room.{Room, SizesRoom};
@@ -21,15 +23,17 @@ fn list_lent(
     rows: &[u8],
     stream: &[u8],
     pool: &[u8],
+    index: &mut [u16],
     types: &mut [u32],
     scratch: &mut [u32],
     sizes: &mut [u64],
     out: &mut [u8],
 ) -> Answer
-    requires { ⌜ (length (now stream) ≤ 32768) × Exact (rec (now stream) (now pool) (scalarsOf (now rows))) × Room (now stream) (now types) × Room (now stream) (now scratch) × SizesRoom (now stream) (now sizes) ⌝ }
+    requires { ⌜ (length (now stream) ≤ 32768) × Exact (rec (now stream) (now pool) (scalarsOf (now rows))) × Room (now stream) (now types) × Room (now stream) (now scratch) × SizesRoom (now stream) (now sizes) × IndexRoom (now stream) (now index) ⌝ }
     ensures { λ r. ⌜ Answered (now (out .entry)) (now (out .exit)) (textOr (length (now (out .entry))) 0 (listOf (schemaOf (rec (now (stream .entry)) (now (pool .entry)) (scalarsOf (now (rows .entry))))))) r ⌝ }
 {
-    let n = fill_tables(rows, stream, pool, types, scratch, sizes);
+    fill_index(stream, pool, index);
+    let n = fill_tables(rows, stream, pool, index, types, scratch, sizes);
     let len = put_types(&mut out[..0], rows, stream, pool, &types[..n], sizes);
     if out.len() < len {
         return Answer {
@@ -53,6 +57,7 @@ fn list_long(rows: &[u8], stream: &[u8], pool: &[u8], out: &mut [u8]) -> Answer
     requires { ⌜ (length (now stream) ≤ 32768) × Exact (rec (now stream) (now pool) (scalarsOf (now rows))) ⌝ }
     ensures { λ r. ⌜ Answered (now (out .entry)) (now (out .exit)) (textOr (length (now (out .entry))) 0 (listOf (schemaOf (rec (now (stream .entry)) (now (pool .entry)) (scalarsOf (now (rows .entry))))))) r ⌝ }
 {
+    let mut index = [0u16; 4938];
     let mut types = [0u32; 8192];
     let mut scratch = [0u32; 8192];
     let mut sizes = [0u64; 993];
@@ -60,6 +65,7 @@ fn list_long(rows: &[u8], stream: &[u8], pool: &[u8], out: &mut [u8]) -> Answer
         rows,
         stream,
         pool,
+        &mut index,
         &mut types,
         &mut scratch,
         &mut sizes,
@@ -72,6 +78,7 @@ fn list_short(rows: &[u8], stream: &[u8], pool: &[u8], out: &mut [u8]) -> Answer
     requires { ⌜ (length (now stream) ≤ 2048) × Exact (rec (now stream) (now pool) (scalarsOf (now rows))) ⌝ }
     ensures { λ r. ⌜ Answered (now (out .entry)) (now (out .exit)) (textOr (length (now (out .entry))) 0 (listOf (schemaOf (rec (now (stream .entry)) (now (pool .entry)) (scalarsOf (now (rows .entry))))))) r ⌝ }
 {
+    let mut index = [0u16; 549];
     let mut types = [0u32; 512];
     let mut scratch = [0u32; 512];
     let mut sizes = [0u64; 63];
@@ -79,6 +86,7 @@ fn list_short(rows: &[u8], stream: &[u8], pool: &[u8], out: &mut [u8]) -> Answer
         rows,
         stream,
         pool,
+        &mut index,
         &mut types,
         &mut scratch,
         &mut sizes,

@@ -17,7 +17,7 @@ use record::seek::Between;
 use record::seek::Sought;
 use record::seek::after_at;
 use record::seek::seek;
-use record::sizes::enum_bytes;
+use record::sizes::front_bytes;
 use record::sizes::scalar_bytes;
 use record::sizes::sum;
 use record::sizes::wide;
@@ -107,7 +107,7 @@ fn discriminant_spot(stream: &[u8], pool: &[u8], f: Family, k: Cursor, offset: u
 {
     let name = f.discriminant_field;
     let named = f.discriminant_type;
-    let size = wide(enum_bytes(stream, pool, OptText::Given(named)));
+    let size = wide(front_bytes(stream, pool, OptText::Given(named)));
     SpotStep::ASpot(
         Spot {
             name,

@@ -3,6 +3,7 @@ use Prim.Native.Nat.{ℕ, zero, suc, _+_, _-_, _*_, _/_, _%_, _≤_, _<_}
 use mathlib.Core.Path.{_≡_, refl, sym, ap, subst, _∙_}
 use mathlib.Core.List.{List, [], _∷_}
 use mathlib.Core.Option.{Option, none, some}
+use mathlib.Core.Logic.{_⊎_, inr, ⊎-elim}
 use mathlib.Core.Bool.{Bool, true, false, _&&_, _||_, cond, false≢true}
 use native.Mathlib.Omega.{arith}
 use borrow.Author.Tests.{eq-eqb, ne-eqb, eqb-true, eqb-false, lt-ltb, le-ltb, ltb-false}
@@ -16,18 +17,19 @@ use Rattle.record.specs.Schema.{Family}
 use Rattle.record.specs.Commands.{operands, wide, widths, widthWith, widthOf, stepAt, commandsAt}
 use Rattle.record.specs.Lists.{anything, listed, constants, unstored, aliases, enums, values, bitfields, members, structs, fields, families, variants}
 use Rattle.record.specs.Steps.{valuesAt, membersAt, fieldsAt, variantsAt, constantsAt, aliasesAt, enumsAt, bitfieldsAt, structsAt, familiesAt, unstoredAt, constantIn, aliasIn, enumIn, bitfieldIn, structIn, familyIn}
-use Rattle.record.specs.Seek.{afterAt}
-use Rattle.record.specs.Index.{hashOf, declaredName, declares, isNamed, isFlagged, counts, onto, declaring, declaredPlaces, keyAt, putAt, latest, Linked, IndexRoom, Chained, Indexed, hitIn, firstIn, linkBefore, Headless, FirstNamed, LastNamed, soughtAt, constantPlaced, unstoredPlaced, aliasPlaced, enumPlaced, bitfieldPlaced, structPlaced, familyPlaced, PlaceNamed, Declared, LastDeclared, Alone}
+use Rattle.record.specs.Seek.{afterAt, SoughtFrom}
+use Rattle.record.specs.Index.{hashOf, declaredName, declares, isNamed, isFlagged, counts, onto, declaring, declaredPlaces, keyAt, putAt, latest, Linked, IndexRoom, Chained, Indexed, hitIn, firstIn, linkBefore, Headless, FirstNamed, LastNamed, soughtAt, constantPlaced, unstoredPlaced, aliasPlaced, enumPlaced, bitfieldPlaced, structPlaced, familyPlaced, PlaceNamed, Declared, LastDeclared, Alone, Findable, Looked}
 use Rattle.record.specs.declared.text.Text.{Text}
 use Rattle.record.specs.declared.command.Cursor.{Cursor}
 use Rattle.record.specs.declared.command.Command.{Command}
 use Rattle.record.specs.declared.command.Step.the-variants.{Next, Stop}
+use Rattle.record.specs.declared.seek.Between.the-variants.{Anything}
 use Rattle.record.specs.declared.seek.Sought.{Sought}
 use Rattle.record.specs.declared.seek.Sought.the-variants.{Nowhere, At}
 use Rattle.record.proofs.Basics.{eqs→eq}
 use Rattle.record.proofs.Stream.{step-found, along, commands-stop, commands-next}
 use Rattle.record.proofs.ListLaws.{byteOf, byte-is, listed-stop, listed-here, listed-over, find-none, find-hit, find-miss}
-use Rattle.record.proofs.SeekLaws.{Stepped, stepped, ended-there}
+use Rattle.record.proofs.SeekLaws.{Stepped, stepped, ended-there, listed-none, listed-some}
 
 -- names ------------------------------------------------------------------------------------------------------------------
 
@@ -784,3 +786,83 @@ module _ (s p : Str) (x : List ℕ) (n : Str) (r : Sought) (g : LastDeclared s p
   alone-there at to e = record { is = λ i. sym (alone-as i ∙ ap (λ (y : Sought). isSome (familyPlaced s p y)) e) }
 
 pub ruleset alone-laws = (alone-none, alone-there)
+
+-- without an index -------------------------------------------------------------------------------------------------------
+
+module _ {A : Type 0} (s p n : Str) (b : ℕ) (f : ℕ → List ℕ → A) (own : A → Bool) (named : (at : ℕ) (rest : List ℕ) → own (f at rest) ≡ eqs (declaredName s p at) n) (at : ℕ) (r : Sought) (i : SoughtFrom s Anything b at r) where
+  scan-none : r ≡ Nowhere → find own (listed s anything b f (commandsAt s at)) ≡ none
+  scan-none m = find-none own _ (listed-none s Anything b f at r i m)
+
+  module _ (a k : ℕ) (m : r ≡ At a k) where
+    scan-some : eqs (declaredName s p a) n ≡ true → find own (listed s anything b f (commandsAt s at)) ≡ some (f a (commandsAt s k))
+    scan-some h = find-hit own _ (f a (commandsAt s k)) _ (listed-some s Anything b f at r i a k m) (named a _ ∙ h)
+
+    scan-over : eqs (declaredName s p a) n ≡ false → find own (listed s anything b f (commandsAt s at)) ≡ find own (listed s anything b f (commandsAt s k))
+    scan-over h = find-miss own _ (f a (commandsAt s k)) _ (listed-some s Anything b f at r i a k m) (named a _ ∙ h)
+
+-- no command of the number before a place has the name
+pub record Scanned (s p n : Str) (b at : ℕ) : Type 0 where
+  pub constant : b ≡ 2 → constantIn n (constantsAt s p 0) ≡ constantIn n (constantsAt s p at)
+  pub alias : b ≡ 3 → aliasIn n (aliasesAt s p 0) ≡ aliasIn n (aliasesAt s p at)
+  pub enum : b ≡ 4 → enumIn n (enumsAt s p 0) ≡ enumIn n (enumsAt s p at)
+  pub bitfield : b ≡ 6 → bitfieldIn n (bitfieldsAt s p 0) ≡ bitfieldIn n (bitfieldsAt s p at)
+  pub struct : b ≡ 8 → structIn n (structsAt s p 0) ≡ structIn n (structsAt s p at)
+  pub family : b ≡ 9 → familyIn n (familiesAt s p 0) ≡ familyIn n (familiesAt s p at)
+
+pub scanned-start : (s p n : Str) (b : ℕ) → Scanned s p n b 0
+scanned-start s p n b = record { constant = λ q. refl; alias = λ q. refl; enum = λ q. refl; bitfield = λ q. refl; struct = λ q. refl; family = λ q. refl }
+
+module _ (s p n : Str) (b at : ℕ) (g : Scanned s p n b at) (r : Sought) (i : SoughtFrom s Anything b at r) where
+  numbered : (k : ℕ) → b ≡ k → SoughtFrom s Anything k at r
+  numbered k q = subst (λ (x : ℕ). SoughtFrom s Anything x at r) q i
+
+  pub scanned-none : r ≡ Nowhere → PlaceNamed s p n b Nowhere
+  unfolding declaredName constantIn aliasIn enumIn bitfieldIn structIn familyIn constantsAt aliasesAt enumsAt bitfieldsAt structsAt familiesAt constants aliases enums bitfields structs families valuesAt membersAt fieldsAt variantsAt
+  scanned-none m = record {
+    constant = λ q. g .constant q ∙ scan-none s p n 2 _ _ (λ at rest. refl) at r (numbered 2 q) m;
+    alias = λ q. g .alias q ∙ scan-none s p n 3 _ _ (λ at rest. refl) at r (numbered 3 q) m;
+    enum = λ q. g .enum q ∙ scan-none s p n 4 _ _ (λ at rest. refl) at r (numbered 4 q) m;
+    bitfield = λ q. g .bitfield q ∙ scan-none s p n 6 _ _ (λ at rest. refl) at r (numbered 6 q) m;
+    struct = λ q. g .struct q ∙ scan-none s p n 8 _ _ (λ at rest. refl) at r (numbered 8 q) m;
+    family = λ q. g .family q ∙ scan-none s p n 9 _ _ (λ at rest. refl) at r (numbered 9 q) m;
+  }
+
+  module _ (a k : ℕ) (m : r ≡ At a k) (y : Str) (v : Bool) (d : y ≡ declaredName s p a) (e : v ≡ eqs y n) where
+    is : eqs (declaredName s p a) n ≡ v
+    is = sym (e ∙ ap (λ (z : Str). eqs z n) d)
+
+    pub scanned-hit : v ≡ true → PlaceNamed s p n b (At a k)
+    unfolding declaredName constantIn aliasIn enumIn bitfieldIn structIn familyIn constantsAt aliasesAt enumsAt bitfieldsAt structsAt familiesAt constants aliases enums bitfields structs families valuesAt membersAt fieldsAt variantsAt
+    scanned-hit h = record {
+      constant = λ q. g .constant q ∙ scan-some s p n 2 _ _ (λ at rest. refl) at r (numbered 2 q) a k m (is ∙ h);
+      alias = λ q. g .alias q ∙ scan-some s p n 3 _ _ (λ at rest. refl) at r (numbered 3 q) a k m (is ∙ h);
+      enum = λ q. g .enum q ∙ scan-some s p n 4 _ _ (λ at rest. refl) at r (numbered 4 q) a k m (is ∙ h);
+      bitfield = λ q. g .bitfield q ∙ scan-some s p n 6 _ _ (λ at rest. refl) at r (numbered 6 q) a k m (is ∙ h);
+      struct = λ q. g .struct q ∙ scan-some s p n 8 _ _ (λ at rest. refl) at r (numbered 8 q) a k m (is ∙ h);
+      family = λ q. g .family q ∙ scan-some s p n 9 _ _ (λ at rest. refl) at r (numbered 9 q) a k m (is ∙ h);
+    }
+
+    pub scanned-on : v ≡ false → Scanned s p n b k
+    unfolding declaredName constantIn aliasIn enumIn bitfieldIn structIn familyIn constantsAt aliasesAt enumsAt bitfieldsAt structsAt familiesAt constants aliases enums bitfields structs families valuesAt membersAt fieldsAt variantsAt
+    scanned-on h = record {
+      constant = λ q. g .constant q ∙ scan-over s p n 2 _ _ (λ at rest. refl) at r (numbered 2 q) a k m (is ∙ h);
+      alias = λ q. g .alias q ∙ scan-over s p n 3 _ _ (λ at rest. refl) at r (numbered 3 q) a k m (is ∙ h);
+      enum = λ q. g .enum q ∙ scan-over s p n 4 _ _ (λ at rest. refl) at r (numbered 4 q) a k m (is ∙ h);
+      bitfield = λ q. g .bitfield q ∙ scan-over s p n 6 _ _ (λ at rest. refl) at r (numbered 6 q) a k m (is ∙ h);
+      struct = λ q. g .struct q ∙ scan-over s p n 8 _ _ (λ at rest. refl) at r (numbered 8 q) a k m (is ∙ h);
+      family = λ q. g .family q ∙ scan-over s p n 9 _ _ (λ at rest. refl) at r (numbered 9 q) a k m (is ∙ h);
+    }
+
+pub ruleset scanned-laws = (scanned-none, scanned-hit, scanned-on)
+
+module _ (s p : Str) (x : List ℕ) (b : ℕ) (n : Str) (r : Sought) where
+  pub looked-all : length x ≡ 0 → PlaceNamed s p n b r → Looked s p x b n r
+  looked-all z g = record { named = λ f. g }
+
+  pub looked-by : (length x ≡ 0 → ⊥) → Declared s p x b n r → Looked s p x b n r
+  looked-by z d = record { named = λ f. ⊎-elim (λ i. d .named i) (λ e. absurd (z e)) (f .by) }
+
+pub ruleset looked-laws = (looked-all, looked-by)
+
+pub no-index : (s p : Str) → Findable s p []
+no-index s p = record { by = inr refl }

@@ -1,6 +1,6 @@
 -- The cases of the sizes, as the code's branches need them. Assumes nothing.
 use mathlib.Core.Path.{_≡_, refl, sym, ap, ap₂, _∙_}
-use mathlib.Core.List.{List, [], _∷_}
+use mathlib.Core.List.{List, []}
 use mathlib.Core.Option.{Option, none, some}
 use mathlib.Core.Bool.{Bool, true, false}
 use Prim.Native.Nat.{ℕ, zero, suc, _+_, _-_, _*_, _/_, _≤_, _<_}
@@ -9,16 +9,16 @@ use native.Mathlib.Omega.{arith}
 use lib.ListN.{drop}
 use lib.Dec.{leb}
 use borrow.Author.Tests.{le-leb, lt-leb, leb-true, leb-false}
-use Rattle.record.specs.Base.{Str, bytes, eqs, orElse, mapOption}
+use Rattle.record.specs.Base.{Str, bytes, orElse, mapOption}
 use Rattle.record.specs.Le.{u32At}
 use Rattle.record.specs.Scalars.{Scalar, primSize}
 use Rattle.record.specs.Schema.{Schema, Key, Enum, Alias, BitField}
 use Rattle.record.specs.Stretch.{textOf}
 use Rattle.record.specs.Operands.{textAt, optTextAt, optNumberAt}
-use Rattle.record.specs.Commands.{enumAt, bitfieldAt, fieldAt, start, place}
-use Rattle.record.specs.Seek.{SoughtFrom}
-use Rattle.record.specs.Lists.{optOf, numberOf, enumOf, fieldOf}
-use Rattle.record.specs.Steps.{enumsAt, valuesAt, enumIn, EnumsFrom, aliasIn, aliasFound, aliasesAt, bitfieldsAt, BitfieldsFrom}
+use Rattle.record.specs.Commands.{fieldAt}
+use Rattle.record.specs.Index.{aliasPlaced, enumPlaced, bitfieldPlaced, Findable, Looked}
+use Rattle.record.specs.Lists.{optOf, numberOf, fieldOf}
+use Rattle.record.specs.Steps.{enumsAt, aliasesAt, bitfieldsAt}
 use Rattle.record.specs.Kind.{kindOf}
 use Rattle.record.specs.Shapes.{enumSize, aliasSize, bitfieldSize, sized, scalarSize, sizeAs, shapeSize, limit, capped}
 use Rattle.record.specs.Reading.{rec, schemaFrom, schemaOf}
@@ -28,18 +28,10 @@ use Rattle.record.specs.declared.operands.OptText.the-variants.{Absent, 
 use Rattle.record.specs.declared.operands.OptNumber.{OptNumber}
 use Rattle.record.specs.declared.operands.OptNumber.the-variants.{Missing, Number}
 use Rattle.record.specs.declared.command as D
-use Rattle.record.specs.declared.command.Cursor.{Cursor}
 use Rattle.record.specs.declared.kind.Kind.{Kind}
 use Rattle.record.specs.declared.kind.Kind.the-variants as K
-use Rattle.record.specs.declared.lists.EnumStep.the-variants.{NoEnum, AnEnum}
-use Rattle.record.specs.declared.seek.Between.the-variants.{Anything}
 use Rattle.record.specs.declared.seek.Sought.{Sought}
 use Rattle.record.specs.declared.seek.Sought.the-variants.{Nowhere, At}
-use Rattle.record.specs.declared.lists.AliasStep.{AliasStep}
-use Rattle.record.specs.declared.lists.AliasStep.the-variants.{NoAlias, AnAlias}
-use Rattle.record.specs.declared.lists.BitfieldStep.the-variants.{NoBitfield, ABitfield}
-use Rattle.record.proofs.ListLaws.{find-none, find-hit, find-miss}
-use Rattle.record.proofs.StepLaws.{enums-none, enums-found, enums-over-now, enums-now, bitfields-none, bitfields-found, find-bitfield-none, find-bitfield-hit, find-bitfield-miss}
 
 -- sizes as far as the limit ----------------------------------------------------------------------------------------------
 
@@ -107,65 +99,37 @@ product-capped x (suc b) = go (leb x limit) refl
 
 -- named sizes ------------------------------------------------------------------------------------------------------------
 
-module _ (s p n : Str) where
-  module _ (w : List Scalar) (r : AliasStep) (f : Cursor) (i : f ≡ start) (h : aliasIn n (aliasesAt s p (f .at)) ≡ aliasFound s p r) where
-    pub alias-size-none : r ≡ NoAlias → none ≡ aliasSize w (aliasesAt s p 0) n
-    unfolding aliasSize mapOption
-    alias-size-none m = sym (ap (mapOption (λ (e : Alias). primSize w (e .underlying))) ((rw i at h) ∙ ap (aliasFound s p) m))
+module _ (s p n : Str) (x : List ℕ) (f : Findable s p x) (r : Sought) where
+  module _ (h : Looked s p x 4 n r) where
+    pub enum-size-none : r ≡ Nowhere → none ≡ enumSize (enumsAt s p 0) n
+    unfolding enumSize mapOption
+    enum-size-none m = sym (ap (mapOption (λ (e : Enum). e .size)) (h .named f .enum refl ∙ ap (enumPlaced s p) m))
 
-    pub alias-size-some : (e : D.TypeAlias.TypeAlias) (k : Cursor) (x : Str) (z : ℕ) → r ≡ AnAlias e k → x ≡ textOf p (e .underlying) → z ≡ primSize w x → some z ≡ aliasSize w (aliasesAt s p 0) n
-    unfolding aliasSize mapOption
-    alias-size-some e k x z m j g = ap some (g ∙ ap (primSize w) j) ∙ sym (ap (mapOption (λ (e : Alias). primSize w (e .underlying))) ((rw i at h) ∙ ap (aliasFound s p) m))
+    pub enum-size-some : (a k : ℕ) (y : Str) (z : ℕ) → r ≡ At a k → y ≡ drop a s → z ≡ u32At y 4 → some z ≡ enumSize (enumsAt s p 0) n
+    unfolding enumSize mapOption
+    enum-size-some a k y z m d l =
+        ap some (l ∙ ap (λ (v : Str). u32At v 4) d) ∙ sym (ap (mapOption (λ (e : Enum). e .size)) (h .named f .enum refl ∙ ap (enumPlaced s p) m))
 
-pub ruleset named-size-laws = (alias-size-none, alias-size-some)
-
--- the first enum of a name, by the places of the enums
-module _ (s p n : Str) (at : ℕ) (r : Sought) (i : SoughtFrom s Anything 4 at r) where
-  pub enum-size-end : r ≡ Nowhere → enumSize (enumsAt s p at) n ≡ none
-  unfolding enumSize enumIn mapOption
-  enum-size-end m = ap (mapOption (λ (e : Enum). e .size)) (find-none (λ (v : Enum). eqs (v .name) n) (enumsAt s p at) (enums-over-now s at NoEnum (enums-none s at r i m) p refl))
-
-  module _ (a k : ℕ) (m : r ≡ At a k) (y : Str) (d : y ≡ drop a s) (t : Text) (e : t ≡ textAt y 1) (x : Str) (g : x ≡ textOf p t) (b : Bool) (q : b ≡ eqs x n) where
-    found : EnumsFrom s at (AnEnum (enumAt y) (place k))
-    found = enums-found s at r i a k m y (enumAt y) (place k) d refl refl
-
-    first : enumsAt s p at ≡ enumOf p (enumAt y) (valuesAt s p k) ∷ enumsAt s p k
-    first = enums-now s at (AnEnum (enumAt y) (place k)) found p (enumAt y) (place k) refl
-
-    named : eqs (textOf p (textAt y 1)) n ≡ b
-    named = sym (q ∙ ap (λ (v : Str). eqs v n) (g ∙ ap (textOf p) e))
-
-    pub enum-size-hit : (z : ℕ) → b ≡ true → z ≡ u32At y 4 → enumSize (enumsAt s p at) n ≡ some z
-    unfolding enumSize enumIn mapOption
-    enum-size-hit z h l = ap (mapOption (λ (v : Enum). v .size)) (find-hit (λ (v : Enum). eqs (v .name) n) (enumsAt s p at) _ _ first (named ∙ h)) ∙ ap some (sym l)
-
-    pub enum-size-miss : b ≡ false → enumSize (enumsAt s p at) n ≡ enumSize (enumsAt s p k) n
-    unfolding enumSize enumIn
-    enum-size-miss h = ap (mapOption (λ (v : Enum). v .size)) (find-miss (λ (v : Enum). eqs (v .name) n) (enumsAt s p at) _ _ first (named ∙ h))
-
-pub ruleset enum-size-laws = (enum-size-end, enum-size-hit, enum-size-miss)
-
--- the first bit field of a name, the same way
-module _ (s p n : Str) (at : ℕ) (r : Sought) (i : SoughtFrom s Anything 6 at r) where
-  pub bitfield-size-end : r ≡ Nowhere → bitfieldSize (bitfieldsAt s p at) n ≡ none
-  unfolding bitfieldSize mapOption
-  bitfield-size-end m = ap (mapOption (λ (e : BitField). e .size)) (find-bitfield-none s at NoBitfield (bitfields-none s at r i m) p n refl)
-
-  module _ (a k : ℕ) (m : r ≡ At a k) (y : Str) (d : y ≡ drop a s) (t : Text) (e : t ≡ textAt y 1) (x : Str) (g : x ≡ textOf p t) (b : Bool) (q : b ≡ eqs x n) where
-    bits-found : BitfieldsFrom s at (ABitfield (bitfieldAt y) (place k))
-    bits-found = bitfields-found s at r i a k m y (bitfieldAt y) (place k) d refl refl
-
-    pub bitfield-size-hit : (z : ℕ) → b ≡ true → z ≡ u32At y 4 → bitfieldSize (bitfieldsAt s p at) n ≡ some z
+  module _ (h : Looked s p x 6 n r) where
+    pub bitfield-size-none : r ≡ Nowhere → none ≡ bitfieldSize (bitfieldsAt s p 0) n
     unfolding bitfieldSize mapOption
-    bitfield-size-hit z h l =
-        ap (mapOption (λ (v : BitField). v .size)) (find-bitfield-hit s at (ABitfield (bitfieldAt y) (place k)) bits-found p n x b (bitfieldAt y) (place k) refl (g ∙ ap (textOf p) e) q h) ∙ ap some (sym l)
+    bitfield-size-none m = sym (ap (mapOption (λ (e : BitField). e .size)) (h .named f .bitfield refl ∙ ap (bitfieldPlaced s p) m))
 
-    pub bitfield-size-miss : b ≡ false → bitfieldSize (bitfieldsAt s p at) n ≡ bitfieldSize (bitfieldsAt s p k) n
-    unfolding bitfieldSize
-    bitfield-size-miss h =
-        ap (mapOption (λ (v : BitField). v .size)) (find-bitfield-miss s at (ABitfield (bitfieldAt y) (place k)) bits-found p n x b (bitfieldAt y) (place k) refl (g ∙ ap (textOf p) e) q h)
+    pub bitfield-size-some : (a k : ℕ) (y : Str) (z : ℕ) → r ≡ At a k → y ≡ drop a s → z ≡ u32At y 4 → some z ≡ bitfieldSize (bitfieldsAt s p 0) n
+    unfolding bitfieldSize mapOption
+    bitfield-size-some a k y z m d l =
+        ap some (l ∙ ap (λ (v : Str). u32At v 4) d) ∙ sym (ap (mapOption (λ (e : BitField). e .size)) (h .named f .bitfield refl ∙ ap (bitfieldPlaced s p) m))
 
-pub ruleset bitfield-size-laws = (bitfield-size-end, bitfield-size-hit, bitfield-size-miss)
+  module _ (w : List Scalar) (h : Looked s p x 3 n r) where
+    pub alias-size-none : r ≡ Nowhere → none ≡ aliasSize w (aliasesAt s p 0) n
+    unfolding aliasSize mapOption
+    alias-size-none m = sym (ap (mapOption (λ (e : Alias). primSize w (e .underlying))) (h .named f .alias refl ∙ ap (aliasPlaced s p) m))
+
+    pub alias-size-some : (a k : ℕ) (y : Str) (t : Text) (u : Str) (z : ℕ) → r ≡ At a k → y ≡ drop a s → t ≡ textAt y 4 → u ≡ textOf p t → z ≡ primSize w u → some z ≡ aliasSize w (aliasesAt s p 0) n
+    unfolding aliasSize mapOption
+    alias-size-some a k y t u z m d j i l =
+        ap some (l ∙ ap (primSize w) (i ∙ ap (textOf p) (j ∙ ap (λ (v : Str). textAt v 4) d)))
+        ∙ sym (ap (mapOption (λ (e : Alias). primSize w (e .underlying))) (h .named f .alias refl ∙ ap (aliasPlaced s p) m))
 
 module _ (n : OptNumber) (d : ℕ) where
   pub or-missing : n ≡ Missing → d ≡ orElse (numberOf n) d

@@ -3,6 +3,7 @@
 use mathlib.Core.Path.{_≡_}
 use mathlib.Core.List.{List, [], _∷_}
 use mathlib.Core.Option.{Option, none, some}
+use mathlib.Core.Logic.{_⊎_}
 use mathlib.Core.Bool.{Bool, true, false, _&&_, cond}
 use Prim.Native.Nat.{ℕ, zero, suc, _+_, _-_, _*_, _/_, _%_, _≤_, _<_}
 use lib.ListN.{length, getD, set, drop}
@@ -166,6 +167,14 @@ pub record PlaceNamed (s p n : Str) (b : ℕ) (r : Sought) : Type 0 where
 -- the same where the index is the record's
 pub record Declared (s p : Str) (x : List ℕ) (b : ℕ) (n : Str) (r : Sought) : Type 0 where
   pub named : Indexed s p x → PlaceNamed s p n b r
+
+-- an index by which names can be looked up: the record's, or an empty one, in whose place all commands are looked at
+pub record Findable (s p : Str) (x : List ℕ) : Type 0 where
+  pub by : Indexed s p x ⊎ (length x ≡ 0)
+
+-- the answer by such an index
+pub record Looked (s p : Str) (x : List ℕ) (b : ℕ) (n : Str) (r : Sought) : Type 0 where
+  pub named : Findable s p x → PlaceNamed s p n b r
 
 -- the answer is the place of the last constant of a name, asked for by 2 with no flag, of the last unstored key, of the last constant and the last
 -- enum in the plugin API, and of the last standalone family

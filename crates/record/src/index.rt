@@ -5,15 +5,17 @@ use crate::cut;
 use crate::le::byte_at;
 use crate::operands::flag_at;
 use crate::operands::text_at;
+use crate::seek::Between;
 use crate::seek::Sought;
 use crate::seek::after_at;
+use crate::seek::seek;
 use crate::text::bytes_of;
 use crate::text::same;
 ghost use mathlib.Core.Path.{_≡_};
 ghost use mathlib.Core.List.{List};
 ghost use Prim.Native.Nat.{_+_, _/_, _≤_, _<_};
 ghost use lib.ListN.{length, getD, set};
-ghost use Rattle.record.specs.Index.{hashOf, declaredName, declares, isNamed, linkBefore, putAt, IndexRoom, Indexed, Headless, FirstNamed, Declared, isFlagged, counts, LastNamed, LastDeclared, Alone};
+ghost use Rattle.record.specs.Index.{hashOf, declaredName, declares, isNamed, linkBefore, putAt, IndexRoom, Indexed, Headless, FirstNamed, PlaceNamed, Declared, isFlagged, counts, LastNamed, LastDeclared, Alone, Looked};
 
 // A byte of a text as a larger number; 0 past its end.
 fn size_at(name: &[u8], at: usize) -> usize
@@ -211,6 +213,32 @@ pub(crate) fn find_declared(
     }
     let place = found - 1;
     Sought::At(place, after_at(stream, place))
+}
+
+// The same without an index, by a look at every command of the number.
+fn scan_declared(stream: &[u8], pool: &[u8], number: u8, name: &[u8]) -> Sought
+    ensures { λ r. ⌜ PlaceNamed (now (stream .entry)) (now (pool .entry)) (now (name .entry)) number r ⌝ }
+{
+    let mut at = 0;
+    loop {
+        let Sought::At(place, after) = seek(stream, at, number, Between::Anything) else {
+            return Sought::Nowhere;
+        };
+        if same(declared_name(stream, pool, place), name) {
+            return Sought::At(place, after);
+        }
+        at = after;
+    }
+}
+
+// By the index, and without it where it is empty: what is read before an index is filled has none.
+pub(crate) fn look_up(stream: &[u8], pool: &[u8], index: &[u16], number: u8, name: &[u8]) -> Sought
+    ensures { λ r. ⌜ Looked (now (stream .entry)) (now (pool .entry)) (now (index .entry)) number (now (name .entry)) r ⌝ }
+{
+    if index.len() == 0 {
+        return scan_declared(stream, pool, number, name);
+    }
+    find_declared(stream, pool, index, number, name)
 }
 
 // Whether the flag at this place of a command is set; any is where the place is 0.

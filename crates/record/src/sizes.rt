@@ -1,23 +1,18 @@
 // The sizes of fields, in bytes. A size is exact as far as the limit of number 9, and one more stands for all that are larger: number 9 refuses
 // every record that has one, so nothing after the reader sees the difference.
-use crate::command::Cursor;
 use crate::cut;
+use crate::index::look_up;
 use crate::kind::Kind;
 use crate::kind::kind_of;
 use crate::le::u32_at;
-use crate::lists::AliasStep;
-use crate::lists::find_alias;
 use crate::operands::OptNumber;
 use crate::operands::OptText;
 use crate::operands::opt_number_at;
 use crate::operands::opt_text_at;
 use crate::operands::text_at;
 use crate::scalars::prim_size;
-use crate::seek::Between;
 use crate::seek::Sought;
-use crate::seek::seek;
 use crate::text::bytes_of;
-use crate::text::same;
 ghost use mathlib.Core.Path.{_≡_};
 ghost use mathlib.Core.Option.{none};
 ghost use Prim.Native.Nat.{_*_, _+_};
@@ -27,6 +22,7 @@ ghost use Rattle.record.specs.Operands.{optTextAt, optNumberAt};
 ghost use Rattle.record.specs.Commands.{fieldAt};
 ghost use Rattle.record.specs.Lists.{optOf, numberOf, fieldOf};
 ghost use Rattle.record.specs.Steps.{enumsAt, aliasesAt, bitfieldsAt};
+ghost use Rattle.record.specs.Index.{Findable};
 ghost use Rattle.record.specs.Shapes.{enumSize, aliasSize, bitfieldSize, sized, shapeSize, capped};
 ghost use Rattle.record.specs.Reading.{rec, schemaOf};
 
@@ -80,47 +76,32 @@ pub fn or_else(n: OptNumber, d: u32) -> u32
     x
 }
 
-// By the places of the enums: of those with other names nothing but the name is read.
-pub fn enum_size(stream: &[u8], pool: &[u8], name: &[u8]) -> OptNumber
-    ensures { λ r. ⌜ numberOf r ≡ enumSize (enumsAt (now (stream .entry)) (now (pool .entry)) 0) (now (name .entry)) ⌝ }
+pub fn enum_size(stream: &[u8], pool: &[u8], index: &[u16], name: &[u8]) -> OptNumber
+    ensures { λ r. ⌜ (Findable (now (stream .entry)) (now (pool .entry)) (now (index .entry)) → numberOf r ≡ enumSize (enumsAt (now (stream .entry)) (now (pool .entry)) 0) (now (name .entry))) ⌝ }
 {
-    let mut at = 0;
-    loop {
-        let Sought::At(place, after) = seek(stream, at, 4, Between::Anything) else {
-            return OptNumber::Missing;
-        };
-        let s = cut::from(stream, place);
-        if same(bytes_of(pool, text_at(s, 1)), name) {
-            return OptNumber::Number(u32_at(s, 4));
-        }
-        at = after;
-    }
-}
-
-pub fn alias_size(rows: &[u8], stream: &[u8], pool: &[u8], name: &[u8]) -> OptNumber
-    ensures { λ r. ⌜ numberOf r ≡ aliasSize (scalarsOf (now (rows .entry))) (aliasesAt (now (stream .entry)) (now (pool .entry)) 0) (now (name .entry)) ⌝ }
-{
-    let AliasStep::AnAlias(e, _) = find_alias(stream, pool, Cursor::new(), name) else {
+    let Sought::At(place, _) = look_up(stream, pool, index, 4, name) else {
         return OptNumber::Missing;
     };
-    OptNumber::Number(prim_size(rows, bytes_of(pool, e.underlying)))
+    OptNumber::Number(u32_at(cut::from(stream, place), 4))
 }
 
-// By the places of the bit fields, as an enum's.
-pub fn bitfield_size(stream: &[u8], pool: &[u8], name: &[u8]) -> OptNumber
-    ensures { λ r. ⌜ numberOf r ≡ bitfieldSize (bitfieldsAt (now (stream .entry)) (now (pool .entry)) 0) (now (name .entry)) ⌝ }
+pub fn alias_size(rows: &[u8], stream: &[u8], pool: &[u8], index: &[u16], name: &[u8]) -> OptNumber
+    ensures { λ r. ⌜ (Findable (now (stream .entry)) (now (pool .entry)) (now (index .entry)) → numberOf r ≡ aliasSize (scalarsOf (now (rows .entry))) (aliasesAt (now (stream .entry)) (now (pool .entry)) 0) (now (name .entry))) ⌝ }
 {
-    let mut at = 0;
-    loop {
-        let Sought::At(place, after) = seek(stream, at, 6, Between::Anything) else {
-            return OptNumber::Missing;
-        };
-        let s = cut::from(stream, place);
-        if same(bytes_of(pool, text_at(s, 1)), name) {
-            return OptNumber::Number(u32_at(s, 4));
-        }
-        at = after;
-    }
+    let Sought::At(place, _) = look_up(stream, pool, index, 3, name) else {
+        return OptNumber::Missing;
+    };
+    let underlying = text_at(cut::from(stream, place), 4);
+    OptNumber::Number(prim_size(rows, bytes_of(pool, underlying)))
+}
+
+pub fn bitfield_size(stream: &[u8], pool: &[u8], index: &[u16], name: &[u8]) -> OptNumber
+    ensures { λ r. ⌜ (Findable (now (stream .entry)) (now (pool .entry)) (now (index .entry)) → numberOf r ≡ bitfieldSize (bitfieldsAt (now (stream .entry)) (now (pool .entry)) 0) (now (name .entry))) ⌝ }
+{
+    let Sought::At(place, _) = look_up(stream, pool, index, 6, name) else {
+        return OptNumber::Missing;
+    };
+    OptNumber::Number(u32_at(cut::from(stream, place), 4))
 }
 
 // A scalar whose word is left out is a byte.
@@ -134,33 +115,40 @@ pub fn scalar_bytes(rows: &[u8], pool: &[u8], word: OptText) -> u32
 }
 
 // An enum that is not declared has one byte.
-pub fn enum_bytes(stream: &[u8], pool: &[u8], name: OptText) -> u32
-    ensures { λ r. ⌜ r ≡ sized (optOf (now (pool .entry)) name) (enumSize (enumsAt (now (stream .entry)) (now (pool .entry)) 0)) 1 ⌝ }
+fn enum_bytes(stream: &[u8], pool: &[u8], index: &[u16], name: OptText) -> u32
+    ensures { λ r. ⌜ (Findable (now (stream .entry)) (now (pool .entry)) (now (index .entry)) → r ≡ sized (optOf (now (pool .entry)) name) (enumSize (enumsAt (now (stream .entry)) (now (pool .entry)) 0)) 1) ⌝ }
 {
     let OptText::Given(x) = name else {
         return 1;
     };
-    or_else(enum_size(stream, pool, bytes_of(pool, x)), 1)
+    or_else(enum_size(stream, pool, index, bytes_of(pool, x)), 1)
+}
+
+// The same where no index is at hand: while the record is read, and for the one enum of a family's front.
+pub fn front_bytes(stream: &[u8], pool: &[u8], name: OptText) -> u32
+    ensures { λ r. ⌜ r ≡ sized (optOf (now (pool .entry)) name) (enumSize (enumsAt (now (stream .entry)) (now (pool .entry)) 0)) 1 ⌝ }
+{
+    enum_bytes(stream, pool, &[], name)
 }
 
 // An alias that is not declared has two bytes.
-fn alias_bytes(rows: &[u8], stream: &[u8], pool: &[u8], name: OptText) -> u32
-    ensures { λ r. ⌜ r ≡ sized (optOf (now (pool .entry)) name) (aliasSize (scalarsOf (now (rows .entry))) (aliasesAt (now (stream .entry)) (now (pool .entry)) 0)) 2 ⌝ }
+fn alias_bytes(rows: &[u8], stream: &[u8], pool: &[u8], index: &[u16], name: OptText) -> u32
+    ensures { λ r. ⌜ (Findable (now (stream .entry)) (now (pool .entry)) (now (index .entry)) → r ≡ sized (optOf (now (pool .entry)) name) (aliasSize (scalarsOf (now (rows .entry))) (aliasesAt (now (stream .entry)) (now (pool .entry)) 0)) 2) ⌝ }
 {
     let OptText::Given(x) = name else {
         return 2;
     };
-    or_else(alias_size(rows, stream, pool, bytes_of(pool, x)), 2)
+    or_else(alias_size(rows, stream, pool, index, bytes_of(pool, x)), 2)
 }
 
 // A bit field that is not declared has no bytes.
-fn bitfield_bytes(stream: &[u8], pool: &[u8], name: OptText) -> u32
-    ensures { λ r. ⌜ r ≡ sized (optOf (now (pool .entry)) name) (bitfieldSize (bitfieldsAt (now (stream .entry)) (now (pool .entry)) 0)) 0 ⌝ }
+fn bitfield_bytes(stream: &[u8], pool: &[u8], index: &[u16], name: OptText) -> u32
+    ensures { λ r. ⌜ (Findable (now (stream .entry)) (now (pool .entry)) (now (index .entry)) → r ≡ sized (optOf (now (pool .entry)) name) (bitfieldSize (bitfieldsAt (now (stream .entry)) (now (pool .entry)) 0)) 0) ⌝ }
 {
     let OptText::Given(x) = name else {
         return 0;
     };
-    or_else(bitfield_size(stream, pool, bytes_of(pool, x)), 0)
+    or_else(bitfield_size(stream, pool, index, bytes_of(pool, x)), 0)
 }
 
 // The bytes of the scalar whose word stands at a place of a command.
@@ -178,14 +166,14 @@ fn number_at(s: &[u8], at: usize) -> u64
 }
 
 // The bytes that a field takes, from the bytes that begin with its command. Of its operands only those are read that its kind needs.
-pub fn field_size(rows: &[u8], stream: &[u8], pool: &[u8], s: &[u8]) -> u64
-    ensures { λ r. ⌜ r ≡ capped (shapeSize (schemaOf (rec (now (stream .entry)) (now (pool .entry)) (scalarsOf (now (rows .entry))))) (fieldOf (now (pool .entry)) (fieldAt (now (s .entry))) none)) ⌝ }
+pub fn field_size(rows: &[u8], stream: &[u8], pool: &[u8], index: &[u16], s: &[u8]) -> u64
+    ensures { λ r. ⌜ (Findable (now (stream .entry)) (now (pool .entry)) (now (index .entry)) → r ≡ capped (shapeSize (schemaOf (rec (now (stream .entry)) (now (pool .entry)) (scalarsOf (now (rows .entry))))) (fieldOf (now (pool .entry)) (fieldAt (now (s .entry))) none))) ⌝ }
 {
     match kind_of(bytes_of(pool, text_at(s, 4))) {
         Kind::Scalar => cap(scalar_at(rows, pool, s, 7)),
-        Kind::Enum => cap(wide(enum_bytes(stream, pool, opt_text_at(s, 7)))),
-        Kind::TypeAlias => cap(wide(alias_bytes(rows, stream, pool, opt_text_at(s, 7)))),
-        Kind::Bitfield => cap(wide(bitfield_bytes(stream, pool, opt_text_at(s, 7)))),
+        Kind::Enum => cap(wide(enum_bytes(stream, pool, index, opt_text_at(s, 7)))),
+        Kind::TypeAlias => cap(wide(alias_bytes(rows, stream, pool, index, opt_text_at(s, 7)))),
+        Kind::Bitfield => cap(wide(bitfield_bytes(stream, pool, index, opt_text_at(s, 7)))),
         Kind::InlineArray => product(scalar_at(rows, pool, s, 10), number_at(s, 13)),
         Kind::InlineArray2d => array2d_size(rows, pool, s),
         Kind::CstrPtr => 4,
@@ -200,6 +188,13 @@ pub fn field_size(rows: &[u8], stream: &[u8], pool: &[u8], s: &[u8]) -> u64
         Kind::Text => 0,
         Kind::Other => 0,
     }
+}
+
+// The same where no index is at hand.
+pub(crate) fn size_unindexed(rows: &[u8], stream: &[u8], pool: &[u8], s: &[u8]) -> u64
+    ensures { λ r. ⌜ r ≡ capped (shapeSize (schemaOf (rec (now (stream .entry)) (now (pool .entry)) (scalarsOf (now (rows .entry))))) (fieldOf (now (pool .entry)) (fieldAt (now (s .entry))) none)) ⌝ }
+{
+    field_size(rows, stream, pool, &[], s)
 }
 
 fn array2d_size(rows: &[u8], pool: &[u8], s: &[u8]) -> u64

@@ -10,9 +10,9 @@ use crate::seek::Sought;
 use crate::seek::after_at;
 use crate::seek::seek;
 use crate::sizes::LIMIT;
-use crate::sizes::enum_bytes;
-use crate::sizes::field_size;
+use crate::sizes::front_bytes;
 use crate::sizes::scalar_bytes;
+use crate::sizes::size_unindexed;
 use crate::sizes::sum;
 use crate::sizes::wide;
 ghost use mathlib.Core.Path.{_≡_};
@@ -72,7 +72,7 @@ pub(crate) fn front_end(rows: &[u8], stream: &[u8], pool: &[u8], f: Family) -> u
 {
     let discriminant = f.discriminant_type;
     let length = f.param_len_type;
-    let first = enum_bytes(stream, pool, OptText::Given(discriminant));
+    let first = front_bytes(stream, pool, OptText::Given(discriminant));
     let second = scalar_bytes(rows, pool, length);
     sum(wide(first), wide(second))
 }
@@ -88,7 +88,7 @@ fn ends_past(rows: &[u8], stream: &[u8], pool: &[u8], from: Cursor, start: u64) 
         let Sought::At(place, after) = seek(stream, at, 11, Between::Keys) else {
             return false;
         };
-        let size = field_size(rows, stream, pool, cut::from(stream, place));
+        let size = size_unindexed(rows, stream, pool, cut::from(stream, place));
         let end = sum(offset, size);
         if LIMIT < end {
             return true;

@@ -36,8 +36,8 @@ slice-aggregate-check-layouts-2 c = cut-long _ _ (search needs)
 check-layouts-requires : tie.Need-check-layouts-requires
 check-layouts-requires c κs =
     let pre = c .before .before .before .before .before .before .before .before .before .before .before .before .before .before .before .before .before .before .before .before .before .before .before .before .before .before .before .before .before .before .before .before .before .before .before .before .before .before .before .pre in
-    let is = c .before .before .before .before .before .before .before .before .before .before .before .before .before .before .before .before .before .before .before .before .before .before .fill-tables .ensures .0 (pre .0) (omega (arith, pre .4)) (omega (arith, pre .5)) (omega (arith, pre .6)) (pre .1) in
-    let was = c .before .before .before .before .before .before .before .before .before .before .before .before .fill-tables2 .ensures .0 (pre .2) (omega (arith, pre .7)) (omega (arith, pre .8)) (omega (arith, pre .9)) (pre .3) in
+    let is = c .before .before .before .before .before .before .before .before .before .before .before .before .before .before .before .before .before .before .before .before .before .before .fill-tables .ensures .0 (pre .11) (pre .0) (omega (arith, pre .4)) (omega (arith, pre .5)) (omega (arith, pre .6)) (pre .1) in
+    let was = c .before .before .before .before .before .before .before .before .before .before .before .before .fill-tables2 .ensures .0 (pre .12) (pre .2) (omega (arith, pre .7)) (omega (arith, pre .8)) (omega (arith, pre .9)) (pre .3) in
     (is, was, omega (arith, pre .10), omega (arith, is .few, pre .5), pre .11, pre .12)
 
 -- src/compare.rt:183:1

@@ -15,10 +15,10 @@ use Rattle.record.proofs.seek.seek.Reads as seek-reads
 use Rattle.record.proofs.sizes.field_size.Reads as field-size-reads
 
 abbrev Inv-loop : tie.InvT-loop
-Inv-loop rows stream pool sizes₀ at₀ sizes at = Sizing (rec stream pool (scalarsOf rows)) sizes₀ sizes at
+Inv-loop rows stream pool index sizes₀ at₀ sizes at = Sizing (rec stream pool (scalarsOf rows)) index sizes₀ sizes at
 
 abbrev μ-loop : tie.MeasureT-loop
-μ-loop rows stream pool sizes₀ at₀ sizes at = length stream - at
+μ-loop rows stream pool index sizes₀ at₀ sizes at = length stream - at
 
 -- src/field_sizes.rt:42:5
 loop-holds : tie.Need-loop-holds Inv-loop μ-loop
@@ -42,7 +42,7 @@ same-length c = search needs
 
 -- src/field_sizes.rt:44:13
 returns : tie.Need-returns Inv-loop μ-loop
-returns c = λ room. search sizing-end
+returns c = λ i room. search sizing-end
 
 -- src/field_sizes.rt:46:26
 from-requires : tie.Need-from-requires Inv-loop μ-loop

@@ -18,8 +18,11 @@ slice-aggregate-list-lent-3 : tie.Need-slice-aggregate-list-lent-3
 slice-aggregate-list-lent-3 c = search needs
 
 -- src/list.rt:78:5
+slice-aggregate-list-lent-4 : tie.Need-slice-aggregate-list-lent-4
+slice-aggregate-list-lent-4 c = search needs
+
 list-lent-requires : tie.Need-list-lent-requires
-list-lent-requires c κs = search needs
+list-lent-requires c κs = (search needs, search needs, search needs, search needs, search needs, search needs)
 
 -- src/list.rt:71:1
 same-length : tie.Need-same-length
@@ -36,6 +39,7 @@ list-short-spec =
     slice-aggregate-list-lent
     slice-aggregate-list-lent-2
     slice-aggregate-list-lent-3
+    slice-aggregate-list-lent-4
     list-lent-requires
     same-length
     returns)

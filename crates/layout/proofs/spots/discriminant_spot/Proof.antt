@@ -3,8 +3,8 @@ use borrow.Author.Needs.{needs}
 use Rattle.layout.proofs.spots.discriminant_spot.Statement.{statement}
 use Rattle.layout.proofs.spots.discriminant_spot.Tie as tie
 
-enum-bytes-requires : tie.Need-enum-bytes-requires
-enum-bytes-requires c κs = search needs
+front-bytes-requires : tie.Need-front-bytes-requires
+front-bytes-requires c κs = search needs
 
 wide-requires : tie.Need-wide-requires
 wide-requires c κs = search needs
@@ -17,4 +17,4 @@ returns c = λ w t. search spot-disc
 
 pub discriminant-spot-spec : {M : Type 1} → statement M
 discriminant-spot-spec =
-    tie.close (tie.spec enum-bytes-requires wide-requires sum-requires returns)
+    tie.close (tie.spec front-bytes-requires wide-requires sum-requires returns)

@@ -19,7 +19,7 @@ same-length-3 : tie.Need-same-length-3
 same-length-3 c = search needs
 
 returns : tie.Need-returns
-returns c = (λ e. search tables-are, search needs)
+returns c = (λ i e. search tables-are, search needs)
 
 pub fill-both-spec : {M : Type 1} → statement M
 fill-both-spec =

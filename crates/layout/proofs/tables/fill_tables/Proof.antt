@@ -8,19 +8,19 @@ use Rattle.layout.proofs.tables.fill_both.Reads as fill-both-reads
 
 -- src/tables.rt:39:9
 returns : tie.Need-returns
-returns c = (λ x y z w e. absurd (omega arith), omega arith)
+returns c = (λ i x y z w e. absurd (omega arith), omega arith)
 
 -- src/tables.rt:42:9
 returns-2 : tie.Need-returns-2
-returns-2 c = (λ x y z w e. absurd (omega arith), omega arith)
+returns-2 c = (λ i x y z w e. absurd (omega arith), omega arith)
 
 -- src/tables.rt:45:9
 returns-3 : tie.Need-returns-3
-returns-3 c = (λ x y z w e. absurd (omega arith), omega arith)
+returns-3 c = (λ i x y z w e. absurd (omega arith), omega arith)
 
 -- src/tables.rt:48:9
 returns-4 : tie.Need-returns-4
-returns-4 c = (λ x y z w e. absurd (omega arith), omega arith)
+returns-4 c = (λ i x y z w e. absurd (omega arith), omega arith)
 
 -- src/tables.rt:50:5
 fill-both-requires : tie.Need-fill-both-requires
@@ -40,7 +40,7 @@ same-length-3 c = search needs
 
 -- src/tables.rt:28:1
 returns-5 : tie.Need-returns-5
-returns-5 c = search needs
+returns-5 c = (λ i x y z w e. c .before .before .before .before .before .before .fill-both .ensures .0 i e, search needs)
 
 pub fill-tables-spec : {M : Type 1} → statement M
 fill-tables-spec =

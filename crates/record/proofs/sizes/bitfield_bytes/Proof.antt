@@ -18,7 +18,7 @@ enum-told c = search needs
 
 -- src/sizes.rt:139:9
 returns : tie.Need-returns
-returns c = search sized-laws
+returns c = λ f. search sized-laws
 
 -- src/sizes.rt:141:41
 bytes-of-requires : tie.Need-bytes-of-requires
@@ -34,7 +34,7 @@ or-else-requires c κs = search needs
 
 -- src/sizes.rt:135:1
 returns-2 : tie.Need-returns-2
-returns-2 c = search sized-laws
+returns-2 c = λ f. search (sized-laws, c .before .bitfield-size .ensures f)
 
 pub bitfield-bytes-spec : {M : Type 1} → statement M
 bitfield-bytes-spec =

@@ -18,7 +18,7 @@ enum-told c = search needs
 
 -- src/sizes.rt:119:9
 returns : tie.Need-returns
-returns c = search sized-laws
+returns c = λ f. search sized-laws
 
 -- src/sizes.rt:121:37
 bytes-of-requires : tie.Need-bytes-of-requires
@@ -34,7 +34,7 @@ or-else-requires c κs = search needs
 
 -- src/sizes.rt:115:1
 returns-2 : tie.Need-returns-2
-returns-2 c = search sized-laws
+returns-2 c = λ f. search (sized-laws, c .before .enum-size .ensures f)
 
 pub enum-bytes-spec : {M : Type 1} → statement M
 enum-bytes-spec =

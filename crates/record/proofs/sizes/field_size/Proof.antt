@@ -180,71 +180,71 @@ enum-told-17 c = search needs
 
 -- src/sizes.rt:163:1
 returns : tie.Need-returns
-returns c = search shape-scalar
+returns c = λ f. search shape-scalar
 
 -- src/sizes.rt:163:1
 returns-2 : tie.Need-returns-2
-returns-2 c = search shape-enum
+returns-2 c = λ f. search (shape-enum, c .before .before .enum-bytes .ensures f)
 
 -- src/sizes.rt:163:1
 returns-3 : tie.Need-returns-3
-returns-3 c = search shape-alias
+returns-3 c = λ f. search (shape-alias, c .before .before .alias-bytes .ensures f)
 
 -- src/sizes.rt:163:1
 returns-4 : tie.Need-returns-4
-returns-4 c = search shape-bitfield
+returns-4 c = λ f. search (shape-bitfield, c .before .before .bitfield-bytes .ensures f)
 
 -- src/sizes.rt:163:1
 returns-5 : tie.Need-returns-5
-returns-5 c = search shape-array
+returns-5 c = λ f. search shape-array
 
 -- src/sizes.rt:163:1
 returns-6 : tie.Need-returns-6
-returns-6 c = search shape-array2d
+returns-6 c = λ f. search shape-array2d
 
 -- src/sizes.rt:163:1
 returns-7 : tie.Need-returns-7
-returns-7 c = search shape-CstrPtr
+returns-7 c = λ f. search shape-CstrPtr
 
 -- src/sizes.rt:163:1
 returns-8 : tie.Need-returns-8
-returns-8 c = search shape-StructPtr
+returns-8 c = λ f. search shape-StructPtr
 
 -- src/sizes.rt:163:1
 returns-9 : tie.Need-returns-9
-returns-9 c = search shape-StructArrayPtr
+returns-9 c = λ f. search shape-StructArrayPtr
 
 -- src/sizes.rt:163:1
 returns-10 : tie.Need-returns-10
-returns-10 c = search shape-StructPtrArrayPtr
+returns-10 c = λ f. search shape-StructPtrArrayPtr
 
 -- src/sizes.rt:163:1
 returns-11 : tie.Need-returns-11
-returns-11 c = search shape-TaggedFamPtr
+returns-11 c = λ f. search shape-TaggedFamPtr
 
 -- src/sizes.rt:163:1
 returns-12 : tie.Need-returns-12
-returns-12 c = search shape-SimpleFamPtr
+returns-12 c = λ f. search shape-SimpleFamPtr
 
 -- src/sizes.rt:163:1
 returns-13 : tie.Need-returns-13
-returns-13 c = search shape-OpaquePtr
+returns-13 c = λ f. search shape-OpaquePtr
 
 -- src/sizes.rt:163:1
 returns-14 : tie.Need-returns-14
-returns-14 c = search shape-FnPtr
+returns-14 c = λ f. search shape-FnPtr
 
 -- src/sizes.rt:163:1
 returns-15 : tie.Need-returns-15
-returns-15 c = search shape-padding
+returns-15 c = λ f. search shape-padding
 
 -- src/sizes.rt:163:1
 returns-16 : tie.Need-returns-16
-returns-16 c = search shape-Text
+returns-16 c = λ f. search shape-Text
 
 -- src/sizes.rt:163:1
 returns-17 : tie.Need-returns-17
-returns-17 c = search shape-Other
+returns-17 c = λ f. search shape-Other
 
 pub field-size-spec : {M : Type 1} → statement M
 field-size-spec =

@@ -13,7 +13,7 @@ use Rattle.record.proofs.vast.ends_past.Reads as reads
 use Rattle.record.proofs.vast.ends_past.Lts as lts
 use Rattle.record.proofs.cut.from.Reads as from-reads
 use Rattle.record.proofs.seek.seek.Reads as seek-reads
-use Rattle.record.proofs.sizes.field_size.Reads as field-size-reads
+use Rattle.record.proofs.sizes.size_unindexed.Reads as size-unindexed-reads
 use Rattle.record.proofs.sizes.sum.Reads as sum-reads
 
 abbrev Inv-loop : tie.InvT-loop
@@ -47,8 +47,8 @@ from-requires : tie.Need-from-requires Inv-loop μ-loop
 from-requires c κs = search needs
 
 -- src/vast.rt:91:13
-field-size-requires : tie.Need-field-size-requires Inv-loop μ-loop
-field-size-requires c κs = search needs
+size-unindexed-requires : tie.Need-size-unindexed-requires Inv-loop μ-loop
+size-unindexed-requires c κs = search needs
 
 -- src/vast.rt:92:13
 sum-requires : tie.Need-sum-requires Inv-loop μ-loop
@@ -78,7 +78,7 @@ ends-past-spec =
     enum-told
     returns
     from-requires
-    field-size-requires
+    size-unindexed-requires
     sum-requires
     returns-2
     loop-less

@@ -4,14 +4,14 @@ use Rattle.record.proofs.vast.front_end.Statement.{statement}
 use Rattle.record.proofs.vast.front_end.Tie as tie
 use Rattle.record.proofs.vast.front_end.Reads as reads
 use Rattle.record.proofs.vast.front_end.Lts as lts
-use Rattle.record.proofs.sizes.enum_bytes.Reads as enum-bytes-reads
+use Rattle.record.proofs.sizes.front_bytes.Reads as front-bytes-reads
 use Rattle.record.proofs.sizes.scalar_bytes.Reads as scalar-bytes-reads
 use Rattle.record.proofs.sizes.sum.Reads as sum-reads
 use Rattle.record.proofs.sizes.wide.Reads as wide-reads
 
 -- src/vast.rt:66:9
-enum-bytes-requires : tie.Need-enum-bytes-requires
-enum-bytes-requires c κs = search needs
+front-bytes-requires : tie.Need-front-bytes-requires
+front-bytes-requires c κs = search needs
 
 -- src/vast.rt:67:9
 scalar-bytes-requires : tie.Need-scalar-bytes-requires
@@ -37,7 +37,7 @@ pub front-end-spec : {M : Type 1} → statement M
 front-end-spec =
     tie.close
     (tie.spec
-    enum-bytes-requires
+    front-bytes-requires
     scalar-bytes-requires
     wide-requires
     wide-requires-2
