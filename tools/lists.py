@@ -5,7 +5,7 @@ and the answers of the printed files proofs/lists/*/Proof.antt. Run from the rep
 
 A row: the list, one element, the function, the model's type, the command and its number, the step's enum with its two cases,
 what may stand between (Between of src/seek.rt), the lists that follow an element, how it is looked up by name: by a walk
-along the list, or by the index of src/index.rt.
+along the list, or by the index of src/index.rt, as an element or as its place alone.
 A step along the fields also says where the field stands."""
 import os
 import sys
@@ -17,7 +17,7 @@ ROWS = [
     # list, one, function, model, command, number, struct, step, none, some, between, children, by name, words
     ('heads', 'head', 'next_head', 'Heading', 'Head', 1, 'Head', 'HeadStep', 'NoHead', 'AHead', 'Anything', [], None, 'head'),
     ('constants', 'constant', 'next_constant', 'Const', 'Constant', 2, 'Constant', 'ConstantStep', 'NoConstant', 'AConstant', 'Anything', [], 'index', 'constant'),
-    ('aliases', 'alias', 'next_alias', 'Alias', 'TypeAlias', 3, 'TypeAlias', 'AliasStep', 'NoAlias', 'AnAlias', 'Anything', [], 'walk', 'alias'),
+    ('aliases', 'alias', 'next_alias', 'Alias', 'TypeAlias', 3, 'TypeAlias', 'AliasStep', 'NoAlias', 'AnAlias', 'Anything', [], 'place', 'alias'),
     ('values', 'value', 'next_value', 'EnumValue', 'Value', 5, 'Value', 'ValueStep', 'NoValue', 'AValue', 'Nothing', [], 'walk', 'value'),
     ('enums', 'enum', 'next_enum', 'Enum', 'Enum', 4, 'Enum', 'EnumStep', 'NoEnum', 'AnEnum', 'Anything', ['valuesAt'], 'index', 'enum'),
     ('members', 'member', 'next_member', 'Member', 'Member', 7, 'Member', 'MemberStep', 'NoMember', 'AMember', 'Nothing', [], 'walk', 'member'),
@@ -153,13 +153,15 @@ pub record %(C)sFrom (s : Str) (at : ℕ) (r : %(step)s) : Type 0 where
   pub left : %(n)sLeft s r ≤ length s - at
 %(standing)s
 ''' % d
-        if d['named']:
+        if d['named'] in ('walk', 'index'):
             o += '''-- the element alone
 abbrev pub %(one)sFound : Str → Str → %(step)s → Option %(model)s
 %(one)sFound s p %(none)s = none
 %(one)sFound s p (%(some)s e k) = some (%(of)s p e%(kid)s)
 
--- the first of that name
+''' % d
+        if d['named']:
+            o += '''-- the first of that name
 unfoldable pub %(one)sIn : Str → List %(model)s → Option %(model)s
 %(one)sIn n l = find (λ (e : %(model)s). eqs (e .name) n) l
 

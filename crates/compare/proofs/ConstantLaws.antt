@@ -210,8 +210,6 @@ module _ (s p q x : Str) (z : List ℕ) (w : C.Constant.Constant) (r : ConstantS
       unfolding meaning ensure
       constant-changed e = rw (in-parts, g, ← ap (isGeneration (structsAt s p 0) (constantsAt s p 0)) n, ← o, e)
 
-pub ruleset constant-laws = (constant-gone, constant-same, constant-exempt, constant-changed)
-
 -- the constants of the table ----------------------------------------------------------------------------------------------
 
 module _ (s p b q : Str) (t : List ℕ) (i : ℕ) where

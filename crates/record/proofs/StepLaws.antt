@@ -12,7 +12,7 @@ use Rattle.record.specs.Schema.{Alias, BitField, Const, Enum, EnumValue,
 use Rattle.record.specs.Commands.{operands, wide, widths, widthWith, widthOf, place, commandsAt, aliasAt, bitfieldAt, constantAt, enumAt, familyAt, fieldAt, headAt, keyAt, memberAt, structAt, valueAt, variantAt, versionAt}
 use Rattle.record.specs.Lists.{aliasOf, aliases, bitfieldOf, bitfields, constantOf, constants, enumOf, enums, families, familyOf, fieldOf, fields, headOf, heads, keyOf, keys, memberOf, members, structOf, structs, unstored, valueOf, values, variantOf, variants, versionOf, versions}
 use Rattle.record.specs.Seek.{SoughtFrom}
-use Rattle.record.specs.Steps.{fieldKeyAt, FieldPlace, fieldPlaced, headsAt, headsOf, headsLeft, HeadsFrom, constantsAt, constantsOf, constantsLeft, ConstantsFrom, aliasesAt, aliasesOf, aliasesLeft, AliasesFrom, aliasFound, aliasIn, valuesAt, valuesOf, valuesLeft, ValuesFrom, valueFound, valueIn, enumsAt, enumsOf, enumsLeft, EnumsFrom, membersAt, membersOf, membersLeft, MembersFrom, memberFound, memberIn, bitfieldsAt, bitfieldsOf, bitfieldsLeft, BitfieldsFrom, bitfieldFound, bitfieldIn, keysAt, keysOf, keysLeft, KeysFrom, fieldsAt, fieldsOf, fieldsLeft, FieldsFrom, structsAt, structsOf, structsLeft, StructsFrom, variantsAt, variantsOf, variantsLeft, VariantsFrom, familiesAt, familiesOf, familiesLeft, FamiliesFrom, familyFound, familyIn, unstoredAt, unstoredOf, unstoredLeft, UnstoredFrom, versionsAt, versionsOf, versionsLeft, VersionsFrom}
+use Rattle.record.specs.Steps.{fieldKeyAt, FieldPlace, fieldPlaced, headsAt, headsOf, headsLeft, HeadsFrom, constantsAt, constantsOf, constantsLeft, ConstantsFrom, aliasesAt, aliasesOf, aliasesLeft, AliasesFrom, valuesAt, valuesOf, valuesLeft, ValuesFrom, valueFound, valueIn, enumsAt, enumsOf, enumsLeft, EnumsFrom, membersAt, membersOf, membersLeft, MembersFrom, memberFound, memberIn, bitfieldsAt, bitfieldsOf, bitfieldsLeft, BitfieldsFrom, bitfieldFound, bitfieldIn, keysAt, keysOf, keysLeft, KeysFrom, fieldsAt, fieldsOf, fieldsLeft, FieldsFrom, structsAt, structsOf, structsLeft, StructsFrom, variantsAt, variantsOf, variantsLeft, VariantsFrom, familiesAt, familiesOf, familiesLeft, FamiliesFrom, familyFound, familyIn, unstoredAt, unstoredOf, unstoredLeft, UnstoredFrom, versionsAt, versionsOf, versionsLeft, VersionsFrom}
 use Rattle.record.specs.declared.command as D
 use Rattle.record.specs.declared.command.Cursor.{Cursor}
 use Rattle.record.specs.declared.seek.Between.the-variants.{Anything, Nothing, Keys, Fields}
@@ -373,22 +373,6 @@ module _ (s : Str) (at : ℕ) (r : AliasStep) (f : AliasesFrom s at r) where
 
   pub aliases-nearer : (e : D.TypeAlias.TypeAlias) (k : Cursor) → r ≡ AnAlias e k → length s - k .at < length s - at
   aliases-nearer e k m = let h : suc (length s - k .at) ≤ length s - at = subst (λ x. aliasesLeft s x ≤ length s - at) m (f .left) in omega arith
-
-  pub find-alias-none : (p n : Str) → r ≡ NoAlias → aliasIn n (aliasesAt s p at) ≡ aliasFound s p NoAlias
-  unfolding aliasIn
-  find-alias-none p n m = find-none (λ (e : Alias). eqs (e .name) n) (aliasesAt s p at) (aliases-over-now p m)
-
-  pub find-alias-hit : (p n x : Str) (b : Bool) (e : D.TypeAlias.TypeAlias) (k : Cursor) → r ≡ AnAlias e k → x ≡ textOf p (e .name) → b ≡ eqs x n → b ≡ true → aliasIn n (aliasesAt s p at) ≡ aliasFound s p (AnAlias e k)
-  unfolding aliasIn
-  find-alias-hit p n x b e k m h i j =
-      find-hit (λ (e : Alias). eqs (e .name) n) (aliasesAt s p at) _ _ (aliases-now p e k m) (ap (λ y. eqs y n) (sym h) ∙ sym i ∙ j)
-
-  pub find-alias-miss : (p n x : Str) (b : Bool) (e : D.TypeAlias.TypeAlias) (k : Cursor) → r ≡ AnAlias e k → x ≡ textOf p (e .name) → b ≡ eqs x n → b ≡ false → aliasIn n (aliasesAt s p at) ≡ aliasIn n (aliasesAt s p (k .at))
-  unfolding aliasIn
-  find-alias-miss p n x b e k m h i j =
-      find-miss (λ (e : Alias). eqs (e .name) n) (aliasesAt s p at) _ _ (aliases-now p e k m) (ap (λ y. eqs y n) (sym h) ∙ sym i ∙ j)
-
-pub ruleset find-alias-laws = (find-alias-none, find-alias-hit, find-alias-miss)
 
 module _ (s : Str) (at : ℕ) (r : ValueStep) (f : ValuesFrom s at r) where
   -- the list itself, at the step

@@ -135,11 +135,6 @@ pub record AliasesFrom (s : Str) (at : ℕ) (r : AliasStep) : Type 0 where
   pub list : (p : Str) → aliasesAt s p at ≡ aliasesOf s p r
   pub left : aliasesLeft s r ≤ length s - at
 
--- the element alone
-abbrev pub aliasFound : Str → Str → AliasStep → Option Alias
-aliasFound s p NoAlias = none
-aliasFound s p (AnAlias e k) = some (aliasOf p e)
-
 -- the first of that name
 unfoldable pub aliasIn : Str → List Alias → Option Alias
 aliasIn n l = find (λ (e : Alias). eqs (e .name) n) l

@@ -34,7 +34,7 @@ use crate::seek::seek;
 use crate::text::bytes_of;
 use crate::text::same;
 ghost use mathlib.Core.Path.{_≡_};
-ghost use Rattle.record.specs.Steps.{HeadsFrom, ConstantsFrom, AliasesFrom, aliasesAt, aliasIn, aliasFound, ValuesFrom, valuesAt, valueIn, valueFound, EnumsFrom, MembersFrom, membersAt, memberIn, memberFound, BitfieldsFrom, bitfieldsAt, bitfieldIn, bitfieldFound, KeysFrom, FieldsFrom, StructsFrom, VariantsFrom, FamiliesFrom, familiesAt, familyIn, familyFound, UnstoredFrom, VersionsFrom};
+ghost use Rattle.record.specs.Steps.{HeadsFrom, ConstantsFrom, AliasesFrom, ValuesFrom, valuesAt, valueIn, valueFound, EnumsFrom, MembersFrom, membersAt, memberIn, memberFound, BitfieldsFrom, bitfieldsAt, bitfieldIn, bitfieldFound, KeysFrom, FieldsFrom, StructsFrom, VariantsFrom, FamiliesFrom, familiesAt, familyIn, familyFound, UnstoredFrom, VersionsFrom};
 
 pub enum HeadStep {
     NoHead,
@@ -244,22 +244,6 @@ pub fn next_version(stream: &[u8], from: Cursor) -> VersionStep
         return VersionStep::NoVersion;
     };
     VersionStep::AVersion(version_at(cut::from(stream, at)), Cursor::place(after))
-}
-
-// The first alias of that name from a cursor on.
-pub fn find_alias(stream: &[u8], pool: &[u8], from: Cursor, name: &[u8]) -> AliasStep
-    ensures { λ r. ⌜ aliasIn (now (name .entry)) (aliasesAt (now (stream .entry)) (now (pool .entry)) (from .at)) ≡ aliasFound (now (stream .entry)) (now (pool .entry)) r ⌝ }
-{
-    let mut cursor = from;
-    loop {
-        let AliasStep::AnAlias(e, after) = next_alias(stream, cursor) else {
-            return AliasStep::NoAlias;
-        };
-        if same(bytes_of(pool, e.name), name) {
-            return AliasStep::AnAlias(e, after);
-        }
-        cursor = after;
-    }
 }
 
 // The first value of that name from a cursor on.
