@@ -1,12 +1,12 @@
 -- The table of where to look for the fields of a type: while it is filled, and what it says of a name. Assumes nothing.
-use Prim.Native.Nat.{ℕ, zero, suc, _+_, _-_, _*_, _/_, _%_, _≤_, _<_}
+use Prim.Native.Nat.{ℕ, _+_, _-_, _*_, _/_, _%_, _≤_, _<_}
 use mathlib.Core.Path.{_≡_, refl, sym, ap, subst, _∙_}
 use mathlib.Core.List.{List}
 use mathlib.Core.Bool.{Bool, true, false, false≢true}
 use native.Mathlib.Omega.{arith}
 use lib.Dec.{eqb}
 use borrow.Author.Tests.{eqb-true, eqb-false}
-use lib.ListN.{length, getD, take, set, replicate, length-take, List·getD-eq-default}
+use lib.ListN.{length, getD, take, set, length-take, List·getD-eq-default}
 use lib.Seq.{getD-set-same, getD-set-other}
 use Rattle.record.specs.Base.{Str, eqs}
 use Rattle.record.specs.Scalars.{Scalar}
@@ -66,15 +66,6 @@ module _ (t : List ℕ) (k at offset : ℕ) where
         put = λ z n. ap cursorIn e ∙ entry-read a;
         done = λ i z. omega arith;
       }
-
--- an array as it is made has no entry
-zeros : (n q : ℕ) → _≡_ {A = ℕ} (getD (replicate n 0) q 0) 0
-zeros zero q = refl
-zeros (suc n) zero = refl
-zeros (suc n) (suc q) = zeros n q
-
-pub clear-made : (n : ℕ) → Clear (replicate n 0)
-clear-made n = record { none = zeros n }
 
 -- the table while it is filled ---------------------------------------------------------------------------------------------------
 

@@ -49,22 +49,11 @@ fn front_at(fronts: &[u64], place: usize) -> u64
     e / 131072
 }
 
-// Takes every entry away.
-fn clear(fronts: &mut [u64])
-    ensures { λ r. ⌜ Clear (now (fronts .exit)) ⌝ }
-{
-    let mut i = 0;
-    while i < fronts.len() {
-        fronts[i] = 0;
-        i += 1;
-    }
-}
-
-// The fronts of the names of some types.
+// The fronts of the names of some types, in a table without entries.
 pub(crate) fn fill_fronts(stream: &[u8], pool: &[u8], handles: &[u32], fronts: &mut [u64])
+    requires { ⌜ Clear (now fronts) ⌝ }
     ensures { λ r. ⌜ Fronts (now (stream .entry)) (now (pool .entry)) (now (fronts .exit)) ⌝ }
 {
-    clear(fronts);
     let mut i = 0;
     while i < handles.len() {
         let place = place_part(handles[i]);

@@ -14,6 +14,7 @@ use record::text::bytes_of;
 ghost use Prim.Native.Nat.{_/_, _≤_, _<_};
 ghost use mathlib.Core.Path.{_≡_};
 ghost use lib.ListN.{length, take};
+ghost use Rattle.record.specs.Marks.{Clear};
 ghost use Rattle.layout.specs.Room.{Room};
 ghost use Rattle.layout.specs.Handles.{typeName};
 ghost use Rattle.layout.specs.Fronts.{Fronts};
@@ -44,7 +45,7 @@ fn arrange_lent(
     handles: &mut [u32],
     scratch: &mut [u32],
 ) -> usize
-    requires { ⌜ (length (now scratch) ≡ length (now handles)) × (length (now handles) ≤ 65536) ⌝ }
+    requires { ⌜ (length (now scratch) ≡ length (now handles)) × (length (now handles) ≤ 65536) × Clear (now fronts) ⌝ }
     ensures { λ r. ⌜ (take r (now (handles .exit)) ≡ lasts (typeName (now (stream .entry)) (now (pool .entry))) (arranged (typeName (now (stream .entry)) (now (pool .entry))) (now (handles .entry)))) × (r ≤ length (now (handles .entry))) ⌝ }
 {
     fill_fronts(stream, pool, handles, fronts);

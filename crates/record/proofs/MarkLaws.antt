@@ -6,7 +6,7 @@ use mathlib.Core.Bool.{Bool, true, false}
 use mathlib.Core.Logic.{_⊎_, inl, inr}
 use Prim.Native.Nat.{ℕ, zero, suc, _+_, _*_, _≤_, _<_}
 use native.Mathlib.Omega.{arith}
-use lib.ListN.{length, getD, set, drop, length-set, List·getD-eq-default}
+use lib.ListN.{length, getD, set, drop, replicate, length-set, List·getD-eq-default}
 use lib.Seq.{getD-set-same, getD-set-other}
 use lib.Dec.{eqb, ltb}
 use borrow.Author.Tests.{eq-eqb, ne-eqb, eqb-true, eqb-false, ltb-true, ltb-false}
@@ -57,6 +57,15 @@ module _ (before m : List ℕ) (i : ℕ) (c : ClearTo before m i) where
       go q false e = let l = ltb-false q i e in List·getD-eq-default m 0 {n = q} (omega arith)
 
 pub ruleset clear-laws = (clear-start, clear-on, clear-end)
+
+-- an array as it is made has no mark
+zeros : (n q : ℕ) → _≡_ {A = ℕ} (getD (replicate n 0) q 0) 0
+zeros zero q = refl
+zeros (suc n) zero = refl
+zeros (suc n) (suc q) = zeros n q
+
+pub clear-made : (n : ℕ) → Clear (replicate n 0)
+clear-made n = record { none = zeros n }
 
 -- a mark that is set makes one fewer that is not
 pub unseen-set : (l : List ℕ) (i v : ℕ) → i < length l → getD l i 0 ≡ 0 → 0 < v → unseen (set l i v) + 1 ≡ unseen l

@@ -1,4 +1,4 @@
-use Rattle.compare.proofs.NearLaws.{clear-made}
+use Rattle.record.proofs.MarkLaws.{clear-made}
 use borrow.Author.Needs.{needs}
 use Rattle.compare.proofs.fields.check_many.Statement.{statement}
 use Rattle.compare.proofs.fields.check_many.Tie as tie

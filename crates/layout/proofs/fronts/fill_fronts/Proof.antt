@@ -6,13 +6,6 @@ use Rattle.layout.proofs.FrontLaws.{fronts-clear, fronts-more}
 use borrow.Author.Needs.{needs}
 use Rattle.layout.proofs.fronts.fill_fronts.Statement.{statement}
 use Rattle.layout.proofs.fronts.fill_fronts.Tie as tie
-use Rattle.layout.proofs.fronts.fill_fronts.Reads as reads
-use Rattle.layout.proofs.fronts.fill_fronts.Lts as lts
-use Rattle.layout.proofs.fronts.clear.Reads as clear-reads
-use Rattle.layout.proofs.fronts.put_front.Reads as put-front-reads
-use Rattle.layout.proofs.names.name_at.Reads as name-at-reads
-use Rattle.layout.proofs.names.place_part.Reads as place-part-reads
-use Rattle.record.proofs.words.front_of.Reads as front-of-reads
 
 abbrev Inv-loop : tie.InvT-loop
 Inv-loop stream pool handles fronts₀ i₀ fronts i = Fronts stream pool fronts × (length fronts ≡ length fronts₀)
@@ -20,55 +13,39 @@ Inv-loop stream pool handles fronts₀ i₀ fronts i = Fronts stream pool fronts
 abbrev μ-loop : tie.MeasureT-loop
 μ-loop stream pool handles fronts₀ i₀ fronts i = length handles - i
 
--- src/fronts.rt:67:5
-clear-requires : tie.Need-clear-requires Inv-loop μ-loop
-clear-requires c κs = search needs
-
--- src/fronts.rt:69:5
 loop-holds : tie.Need-loop-holds Inv-loop μ-loop
 loop-holds c = (search fronts-clear, search needs)
 
--- src/fronts.rt:70:32
 mul-place-part : tie.Need-mul-place-part Inv-loop μ-loop
 mul-place-part c = search needs
 
--- src/fronts.rt:70:32
 shared-slice-read-place-part : tie.Need-shared-slice-read-place-part Inv-loop μ-loop
 shared-slice-read-place-part c = search needs
 
--- src/fronts.rt:70:13
 place-part-requires : tie.Need-place-part-requires Inv-loop μ-loop
 place-part-requires c κs = search needs
 
--- src/fronts.rt:71:43
 name-at-requires : tie.Need-name-at-requires Inv-loop μ-loop
 name-at-requires c κs = search needs
 
--- src/fronts.rt:71:34
 front-of-requires : tie.Need-front-of-requires Inv-loop μ-loop
 front-of-requires c κs = search needs
 
--- src/fronts.rt:71:9
 put-front-requires : tie.Need-put-front-requires Inv-loop μ-loop
 put-front-requires c κs = search needs
 
--- src/fronts.rt:72:9
 add-i : tie.Need-add-i Inv-loop μ-loop
 add-i c = search needs
 
--- src/fronts.rt:69:5
 loop-less : tie.Need-loop-less Inv-loop μ-loop
 loop-less c = search needs
 
--- src/fronts.rt:69:5
 loop-again : tie.Need-loop-again Inv-loop μ-loop
 loop-again c = (search fronts-more, search needs)
 
--- src/fronts.rt:64:1
 same-length : tie.Need-same-length Inv-loop μ-loop
 same-length c = search needs
 
--- src/fronts.rt:64:1
 returns : tie.Need-returns Inv-loop μ-loop
 returns c = search needs
 
@@ -78,7 +55,6 @@ fill-fronts-spec =
     (tie.spec
     Inv-loop
     μ-loop
-    clear-requires
     loop-holds
     mul-place-part
     shared-slice-read-place-part
