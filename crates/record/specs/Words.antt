@@ -1,4 +1,4 @@
--- Eight bytes of a text as a number: the code's way to compare names faster. Assumes nothing.
+-- The first four bytes of a text as a number: the code's way to compare names faster. Assumes nothing.
 use Prim.Native.Nat.{ℕ, _+_, _*_, _<_, _≤_}
 use mathlib.Core.Path.{_≡_}
 use lib.ListN.{getD, length}

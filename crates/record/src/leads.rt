@@ -1,6 +1,6 @@
 // For each declared type a field that refers to it, such that no other that does has a lower mark: a table, in a slice that the caller lends, where many
-// names are asked of one walk. A type is kept by the place of its command, of which no two stand within ten bytes, and a field by one more than its place.
-// A table of no entries knows nothing.
+// names are asked of one walk. A type is kept by one more than the place of its command, divided by ten, since no two stand within ten bytes; a field by one
+// more than its place. A table of no entries knows nothing.
 use crate::index::first_named;
 use crate::index::link_at;
 use crate::le::byte_at;
