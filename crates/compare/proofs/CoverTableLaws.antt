@@ -25,7 +25,7 @@ use Rattle.record.proofs.LeadLaws.{led-none}
 use Rattle.layout.specs.Layout.{TypeLayout, types, typeIn}
 use Rattle.layout.specs.Handles.{typeName, layoutOf}
 use Rattle.layout.specs.Names.{nameOf, stretchesOf}
-use Rattle.layout.specs.Table.{Typed, foundEnd, FoundType}
+use Rattle.layout.specs.Table.{Typed, FoundType}
 use Rattle.layout.specs.Tables.{Tables}
 use Rattle.layout.specs.declared.names.TypeName.{TypeName}
 use Rattle.layout.specs.declared.table.TypeFound.{TypeFound}
@@ -36,6 +36,7 @@ use Rattle.definition.specs.Verdicts.{uncovered}
 use Rattle.definition.specs.Pass.{_then_, ensure, each, onFound}
 use Rattle.definition.specs.Fields.{eqPlaces, sameAs, changed}
 use Rattle.definition.specs.Coverage.{owning, standsAlone, checkCovered, checkAllCovered, under, firstUnder}
+use Rattle.compare.proofs.FieldLaws.{found-typed}
 use Rattle.compare.specs.CoverTable.{coverIn, coverFor, stretchIn, coverMeant, Owners, Knows, changedTypes, Changes, Entered, CoverTable, firstUncovered, isUnder, firstTouched, touchedName, touchedBy}
 use Rattle.verdicts.specs.Meaning.{meaning}
 use Rattle.verdicts.specs.declared.verdict.Verdict.{Verdict}
@@ -221,21 +222,18 @@ module _ (s p : Str) (w : List Scalar) (was : List TypeLayout) where
 -- the table is filled -----------------------------------------------------------------------------------------------------
 
 -- a type against the released one of its name
-module _ (s p b q : Str) (w : List Scalar) (h : ℕ) (t z₀ : List ℕ) (o : TypeFound) (f : FoundType b q t (typeName s p h) o) where
-  found-inside : (i : ℕ) → o ≡ At i → i < length t
-  found-inside i e = let l : foundEnd (At i) ≤ length t = subst (λ (x : TypeFound). foundEnd x ≤ length t) e (f .inside) in omega arith
-
-  pub found-typed : (i g : ℕ) → o ≡ At i → Tables (rec b q w) t z₀ → g ≡ getD t i 0 → Typed b g
-  found-typed i g e y d = subst (λ (x : ℕ). Typed b x) (sym d) (y .types .typed i (found-inside i e))
+module _ (s p b q : Str) (w : List Scalar) (h : ℕ) (t z₀ : List ℕ) (o : TypeFound) (y : Tables (rec b q w) t z₀) (f : FoundType b q t (typeName s p h) o) where
+  pub same-typed : (i g : ℕ) → o ≡ At i → g ≡ getD t i 0 → Typed b g
+  same-typed i g e d = subst (λ (x : ℕ). Typed b x) (sym d) (found-typed b q (typeName s p h) t o i (y .types) f e)
 
   pub same-none : o ≡ NoType → false ≡ sameAs (typeIn (typeName s p h) (types (schemaOf (rec b q w)))) (layoutOf (rec s p w) h)
   unfolding sameAs
-  same-none e = rw (f .layout w, e)
+  same-none e = rw (f .layout (y .types) w, e)
 
   pub same-found : (i g : ℕ) (r : Bool) → o ≡ At i → g ≡ getD t i 0 → r ≡ eqPlaces (layoutOf (rec b q w) g .fields) (layoutOf (rec s p w) h .fields)
       → r ≡ sameAs (typeIn (typeName s p h) (types (schemaOf (rec b q w)))) (layoutOf (rec s p w) h)
   unfolding sameAs
-  same-found i g r e d k = rw (f .layout w, e, ← d) k
+  same-found i g r e d k = rw (f .layout (y .types) w, e, ← d) k
 
 -- the table's handles are of types
 pub handle-typed : (s p : Str) (w : List Scalar) (t z : List ℕ) (i h : ℕ) → Tables (rec s p w) t z → i < length t → h ≡ getD t i 0 → Typed s h

@@ -135,7 +135,7 @@ pub found-typed : (s p n : Str) (t : List ℕ) (r : TypeFound) (i : ℕ) → Typ
 found-typed s p n t r i y f m = y .typed i (found-inside s p n t r i f m)
 
 -- one type
-module _ (s p b q : Str) (w : List Scalar) (h : ℕ) (t : List ℕ) (r : TypeFound) (f : FoundType s p t (typeName b q h) r) where
+module _ (s p b q : Str) (w : List Scalar) (h : ℕ) (t : List ℕ) (r : TypeFound) (y : TypesTable s p t) (f : FoundType s p t (typeName b q h) r) where
   abbrev R : Rec
   R = rec s p w
 
@@ -144,7 +144,7 @@ module _ (s p b q : Str) (w : List Scalar) (h : ℕ) (t : List ℕ) (r : TypeFou
 
   pub type-gone : (n : TypeName) → n ≡ stretchesOf b h → r ≡ NoType → meaning p q (TypeGone n) ≡ checkType (typesOf R) (layoutOf R₀ h)
   unfolding meaning checkType onFound layoutOf
-  type-gone n e m = rw (f .layout w, m, e, stretches-read b q h)
+  type-gone n e m = rw (f .layout y w, m, e, stretches-read b q h)
 
   laid-name : layoutOf R₀ h .name ≡ typeName b q h
   unfolding layoutOf
@@ -153,7 +153,7 @@ module _ (s p b q : Str) (w : List Scalar) (h : ℕ) (t : List ℕ) (r : TypeFou
   module _ (i : ℕ) (m : r ≡ At i) where
     pub type-there : (v : Verdict) → meaning p q v ≡ checkPlaces (typeName b q h) (layoutOf R (getD t i 0) .fields) (layoutOf R₀ h .fields) → meaning p q v ≡ checkType (typesOf R) (layoutOf R₀ h)
     unfolding checkType onFound
-    type-there v g = rw (laid-name, f .layout w, m) g
+    type-there v g = rw (laid-name, f .layout y w, m) g
 
 -- the types of a record: those so far stand as they were
 pub record TypesOn (r : Rec) (t : List ℕ) (is was : List TypeLayout) (i : ℕ) : Type 0 where

@@ -95,17 +95,17 @@ module _ (s p q : Str) (w : List Scalar) (z : List ℕ) (was : List Place) (a c 
 module _ (s p b q : Str) (t t₀ : List ℕ) (n : Str) (r r₀ : TypeFound) (y₀ : TypesTable b q t₀) (f₀ : FoundType b q t₀ n r₀) where
   pub both-new : r₀ ≡ NoType → PairFound s p b q n NoPair
   unfolding checkShipped onFound
-  both-new m = record { checked = λ w. rw (f₀ .layout w, m); typed = tt }
+  both-new m = record { checked = λ w. rw (f₀ .layout y₀ w, m); typed = tt }
 
   module _ (j : ℕ) (m₀ : r₀ ≡ At j) (y : TypesTable s p t) (f : FoundType s p t n r) where
     pub both-gone : r ≡ NoType → PairFound s p b q n NoPair
     unfolding checkShipped onFound
-    both-gone m = record { checked = λ w. rw (f₀ .layout w, m₀, f .layout w, m); typed = tt }
+    both-gone m = record { checked = λ w. rw (f₀ .layout y₀ w, m₀, f .layout y w, m); typed = tt }
 
     pub both-there : (i : ℕ) → r ≡ At i → PairFound s p b q n (Both (getD t i 0) (getD t₀ j 0))
     unfolding checkShipped onFound
     both-there i m =
-        record { checked = λ w. rw (f₀ .layout w, m₀, f .layout w, m); typed = (found-typed s p n t r i y f m, found-typed b q n t₀ r₀ j y₀ f₀ m₀) }
+        record { checked = λ w. rw (f₀ .layout y₀ w, m₀, f .layout y w, m); typed = (found-typed s p n t r i y f m, found-typed b q n t₀ r₀ j y₀ f₀ m₀) }
 
 -- one layout
 module _ (s b : Str) (r : Pair) (h h₀ : ℕ) (m : r ≡ Both h h₀) (y : pairTyped s b r) where

@@ -91,15 +91,15 @@ kept-sorted key a b x r e f = f ∙ ap (lasts key) e
 
 -- a search ----------------------------------------------------------------------------------------------------------------
 
--- before lo all names go before the one sought, and from hi on none does
+-- where the table is the record's, all names before lo go before the one sought, and from hi on none does
 pub record Seeking (s p : Str) (t : List ℕ) (n : Str) (lo hi : ℕ) : Type 0 where
-  pub low : (i : ℕ) → i < lo → before (typeName s p (getD t i 0)) n ≡ true
-  pub high : (i : ℕ) → hi ≤ i → i < length t → before (typeName s p (getD t i 0)) n ≡ false
+  pub low : TypesTable s p t → (i : ℕ) → i < lo → before (typeName s p (getD t i 0)) n ≡ true
+  pub high : TypesTable s p t → (i : ℕ) → hi ≤ i → i < length t → before (typeName s p (getD t i 0)) n ≡ false
   pub apart : lo ≤ hi
   pub within : hi ≤ length t
 
 pub seek-start : (s p : Str) (t : List ℕ) (n : Str) (m : ℕ) → m ≡ length t → Seeking s p t n 0 m
-seek-start s p t n m e = record { low = λ i h. absurd (omega arith); high = λ i h k. absurd (omega arith); apart = omega arith; within = omega arith }
+seek-start s p t n m e = record { low = λ y i h. absurd (omega arith); high = λ y i h k. absurd (omega arith); apart = omega arith; within = omega arith }
 
 module _ (s p : Str) (w : List Scalar) (n : Str) where
   abbrev R : Rec
@@ -140,16 +140,16 @@ same-between a b h k = go (eqs a b) refl
     go true e = refl
     go false e = absurd (false≢true (sym k ∙ before-total a b e h))
 
-module _ (s p : Str) (t : List ℕ) (n : Str) (lo hi : ℕ) (k : Seeking s p t n lo hi) (y : TypesTable s p t) where
+module _ (s p : Str) (t : List ℕ) (n : Str) (lo hi : ℕ) (k : Seeking s p t n lo hi) where
   abbrev name : ℕ → Str
   name i = typeName s p (getD t i 0)
 
   pub seek-up : (mid : ℕ) (b : Bool) → lo ≤ mid → mid < hi → b ≡ before (typeName s p (getD t mid 0)) n → b ≡ true → Seeking s p t n (mid + 1) hi
-  seek-up mid b u v e z = record { low = λ i h. go i (omega arith) (ltb i mid) refl; high = k .high; apart = omega arith; within = k .within }
+  seek-up mid b u v e z = record { low = λ y i h. go y i (omega arith) (ltb i mid) refl; high = k .high; apart = omega arith; within = k .within }
     where
-      go : (i : ℕ) → i ≤ mid → (c : Bool) → ltb i mid ≡ c → before (name i) n ≡ true
-      go i h true f = let w = k .within in before-trans (name i) (name mid) n (y .upward i mid (ltb-true i mid f) (omega arith)) (sym e ∙ z)
-      go i h false f =
+      go : TypesTable s p t → (i : ℕ) → i ≤ mid → (c : Bool) → ltb i mid ≡ c → before (name i) n ≡ true
+      go y i h true f = let w = k .within in before-trans (name i) (name mid) n (y .upward i mid (ltb-true i mid f) (omega arith)) (sym e ∙ z)
+      go y i h false f =
           let g = ltb-false i mid f in
           let m : i ≡ mid = omega arith in
           ap (λ (j : ℕ). before (name j) n) m ∙ sym e ∙ z
@@ -157,31 +157,31 @@ module _ (s p : Str) (t : List ℕ) (n : Str) (lo hi : ℕ) (k : Seeking s p t n
   pub seek-down : (mid : ℕ) (b : Bool) → lo ≤ mid → mid < hi → b ≡ before (typeName s p (getD t mid 0)) n → b ≡ false → Seeking s p t n lo mid
   seek-down mid b u v e z =
       let w = k .within in
-      record { low = k .low; high = λ i h l. go i h l (ltb mid i) (before (name i) n) refl refl; apart = u; within = omega arith }
+      record { low = k .low; high = λ y i h l. go y i h l (ltb mid i) (before (name i) n) refl refl; apart = u; within = omega arith }
     where
-      go : (i : ℕ) → mid ≤ i → i < length t → (c d : Bool) → ltb mid i ≡ c → before (name i) n ≡ d → d ≡ false
-      go i h l c false f g = refl
-      go i h l true true f g = absurd (false≢true (sym (sym e ∙ z) ∙ before-trans (name mid) (name i) n (y .upward mid i (ltb-true mid i f) l) g))
-      go i h l false true f g =
+      go : TypesTable s p t → (i : ℕ) → mid ≤ i → i < length t → (c d : Bool) → ltb mid i ≡ c → before (name i) n ≡ d → d ≡ false
+      go y i h l c false f g = refl
+      go y i h l true true f g = absurd (false≢true (sym (sym e ∙ z) ∙ before-trans (name mid) (name i) n (y .upward mid i (ltb-true mid i f) l) g))
+      go y i h l false true f g =
           let q = ltb-false mid i f in
           let m : i ≡ mid = omega arith in
           absurd (false≢true (sym (ap (λ (j : ℕ). before (name j) n) m ∙ sym e ∙ z) ∙ g))
 
-  lower : (i : ℕ) → i < lo → eqs (name i) n ≡ false
-  lower i h = apart-before (name i) n (k .low i h)
+  lower : TypesTable s p t → (i : ℕ) → i < lo → eqs (name i) n ≡ false
+  lower y i h = apart-before (name i) n (k .low y i h)
 
   pub seek-past : hi ≤ lo → length t ≤ lo → FoundType s p t n NoType
   seek-past h l =
-      record { layout = λ w. ap (typeIn n) (sym (y .layouts w)) ∙ none-found s p w n t (λ i q. lower i (omega arith)); inside = omega arith }
+      record { layout = λ y w. ap (typeIn n) (sym (y .layouts w)) ∙ none-found s p w n t (λ i q. lower y i (omega arith)); inside = omega arith }
 
   pub seek-other : (b : Bool) → hi ≤ lo → lo < length t → b ≡ before n (typeName s p (getD t lo 0)) → b ≡ true → FoundType s p t n NoType
   seek-other b h l e z =
-      record { layout = λ w. ap (typeIn n) (sym (y .layouts w)) ∙ none-found s p w n t (λ i q. go i q (ltb i lo) (ltb lo i) refl refl); inside = omega arith }
+      record { layout = λ y w. ap (typeIn n) (sym (y .layouts w)) ∙ none-found s p w n t (λ i q. go y i q (ltb i lo) (ltb lo i) refl refl); inside = omega arith }
     where
-      go : (i : ℕ) → i < length t → (c d : Bool) → ltb i lo ≡ c → ltb lo i ≡ d → eqs (name i) n ≡ false
-      go i q true d f g = lower i (ltb-true i lo f)
-      go i q false true f g = apart-after (name i) n (before-trans n (name lo) (name i) (sym e ∙ z) (y .upward lo i (ltb-true lo i g) q))
-      go i q false false f g =
+      go : TypesTable s p t → (i : ℕ) → i < length t → (c d : Bool) → ltb i lo ≡ c → ltb lo i ≡ d → eqs (name i) n ≡ false
+      go y i q true d f g = lower y i (ltb-true i lo f)
+      go y i q false true f g = apart-after (name i) n (before-trans n (name lo) (name i) (sym e ∙ z) (y .upward lo i (ltb-true lo i g) q))
+      go y i q false false f g =
           let a = ltb-false i lo f in
           let c = ltb-false lo i g in
           let m : i ≡ lo = omega arith in
@@ -190,7 +190,7 @@ module _ (s p : Str) (t : List ℕ) (n : Str) (lo hi : ℕ) (k : Seeking s p t n
   pub seek-found : (b : Bool) → hi ≤ lo → lo < length t → b ≡ before n (typeName s p (getD t lo 0)) → b ≡ false → FoundType s p t n (At lo)
   seek-found b h l e z =
       record {
-        layout = λ w. ap (typeIn n) (sym (y .layouts w)) ∙ one-found s p w n t lo l lower (same-between (name lo) n (k .high lo h l) (sym e ∙ z));
+        layout = λ y w. ap (typeIn n) (sym (y .layouts w)) ∙ one-found s p w n t lo l (lower y) (same-between (name lo) n (k .high y lo h l) (sym e ∙ z));
         inside = omega arith;
       }
 

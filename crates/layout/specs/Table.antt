@@ -37,7 +37,7 @@ abbrev pub foundEnd : TypeFound → ℕ
 foundEnd NoType = 0
 foundEnd (At i) = suc i
 
--- the type of that name, whatever the scalar words
+-- an index of the table, or none; and where the table is the record's, the type of that name, whatever the scalar words
 pub record FoundType (s p : Str) (t : List ℕ) (n : Str) (r : TypeFound) : Type 0 where
-  pub layout : (w : List Scalar) → typeIn n (types (schemaOf (rec s p w))) ≡ foundIn (rec s p w) t r
+  pub layout : TypesTable s p t → (w : List Scalar) → typeIn n (types (schemaOf (rec s p w))) ≡ foundIn (rec s p w) t r
   pub inside : foundEnd r ≤ length t

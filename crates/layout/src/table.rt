@@ -131,7 +131,7 @@ fn find_parts(
     b: &[u8],
     near: usize,
 ) -> TypeFound
-    requires { ⌜ TypesTable (now stream) (now pool) (now types) × Parts (now f) k (now b) ⌝ }
+    requires { ⌜ Parts (now f) k (now b) ⌝ }
     ensures { λ r. ⌜ FoundType (now (stream .entry)) (now (pool .entry)) (now (types .entry)) (joined (now (f .entry)) k (now (b .entry))) r ⌝ }
 {
     let mut lo = 0;
@@ -160,7 +160,6 @@ fn find_parts(
 
 // The type of a name.
 fn find_type(stream: &[u8], pool: &[u8], types: &[u32], name: &[u8]) -> TypeFound
-    requires { ⌜ TypesTable (now stream) (now pool) (now types) ⌝ }
     ensures { λ r. ⌜ FoundType (now (stream .entry)) (now (pool .entry)) (now (types .entry)) (now (name .entry)) r ⌝ }
 {
     find_parts(stream, pool, types, name, 0, &name[..0], 0)
@@ -176,7 +175,6 @@ pub fn find_same(
     handle: u32,
     near: usize,
 ) -> TypeFound
-    requires { ⌜ TypesTable (now stream) (now pool) (now types) ⌝ }
     ensures { λ r. ⌜ FoundType (now (stream .entry)) (now (pool .entry)) (now (types .entry)) (typeName (now (past .entry)) (now (old .entry)) handle) r ⌝ }
 {
     let f = front(past, old, handle);
@@ -192,7 +190,6 @@ pub fn find_named(
     texts: &[u8],
     name: TypeName,
 ) -> TypeFound
-    requires { ⌜ TypesTable (now stream) (now pool) (now types) ⌝ }
     ensures { λ r. ⌜ FoundType (now (stream .entry)) (now (pool .entry)) (now (types .entry)) (nameOf (now (texts .entry)) name) r ⌝ }
 {
     let front = name.front;

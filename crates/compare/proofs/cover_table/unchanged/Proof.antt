@@ -1,4 +1,4 @@
-use Rattle.compare.proofs.CoverTableLaws.{found-typed, same-none, same-found}
+use Rattle.compare.proofs.CoverTableLaws.{same-typed, same-none, same-found}
 use borrow.Author.Needs.{needs}
 use Rattle.compare.proofs.cover_table.unchanged.Statement.{statement}
 use Rattle.compare.proofs.cover_table.unchanged.Tie as tie
@@ -19,7 +19,7 @@ entry-at-requires : tie.Need-entry-at-requires
 entry-at-requires c κs = search needs
 
 same-fields-requires : tie.Need-same-fields-requires
-same-fields-requires c κs = search found-typed
+same-fields-requires c κs = search same-typed
 
 returns-2 : tie.Need-returns-2
 returns-2 c = search same-found

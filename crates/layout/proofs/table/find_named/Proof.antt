@@ -24,7 +24,7 @@ bytes-of-requires-2 : tie.Need-bytes-of-requires-2
 bytes-of-requires-2 c κs = search needs
 
 find-parts-requires : tie.Need-find-parts-requires
-find-parts-requires c κs = (search needs, record { few = omega arith; fits = omega (arith, text-short) })
+find-parts-requires c κs = record { few = omega arith; fits = omega (arith, text-short) }
 
 returns-2 : tie.Need-returns-2
 returns-2 c = search found-variant
