@@ -1,7 +1,7 @@
 -- The check's answer, from what the two readings and the comparison answer. Assumes nothing.
 use Prim.Native.Nat.{ℕ, _≤_}
 use mathlib.Core.List.{List}
-use mathlib.Core.Path.{_≡_, sym, ap, subst, _∙_}
+use mathlib.Core.Path.{_≡_, ap, subst, _∙_}
 use lib.ListN.{length}
 use Rattle.record.specs.Base.{Str}
 use Rattle.record.specs.Scalars.{Scalar, scalarsOf, builtIn, builtInRows}

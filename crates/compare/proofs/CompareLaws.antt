@@ -1,27 +1,24 @@
 -- The whole comparison of two records, from its passes over their lists. Assumes nothing.
 use mathlib.Core.Path.{_≡_, refl, sym, ap, _∙_}
-use mathlib.Core.List.{List, [], _∷_}
+use mathlib.Core.List.{[], _∷_}
 use mathlib.Core.Option.{Option}
 use mathlib.Core.Bool.{Bool, true, false}
 use Rattle.record.specs.Base.{Str}
 use Rattle.record.specs.Stretch.{textOf}
 use Rattle.record.specs.Lists.{optOf}
 use Rattle.record.specs.Schema.{Schema}
-use Rattle.record.specs.Steps.{constantsAt, aliasesAt, enumsAt, bitfieldsAt, structsAt, familiesAt, unstoredAt, versionsAt}
+use Rattle.record.specs.Steps.{constantsAt, enumsAt, bitfieldsAt, structsAt, familiesAt, unstoredAt, versionsAt}
 use Rattle.record.specs.Keys.{pluginKeys}
-use Rattle.record.specs.Owner.{Types, typesIn}
 use Rattle.record.specs.References.{typesAt}
-use Rattle.record.specs.Reading.{Rec, rec, schemaOf}
+use Rattle.record.specs.Reading.{Rec, schemaOf}
 use Rattle.record.specs.declared.text.Text.{Text}
 use Rattle.record.specs.declared.operands.OptText.{OptText}
 use Rattle.record.proofs.SchemaLaws.{schema-release, schema-unreleased, schema-constants, schema-aliases, schema-enums, schema-bitfields, schema-structs, schema-families, schema-unstored, schema-versions}
-use Rattle.layout.specs.Layout.{types}
 use Rattle.definition.specs.Verdicts as D
 use Rattle.definition.specs.Pass.{_then_, required}
 use Rattle.compare.specs.Required.{RequiredText}
 use Rattle.compare.specs.Heads.{HeadRelease, HeadUnreleased}
 use Rattle.compare.specs.Sought.{UnreleasedFrom}
-use Rattle.definition.specs.Unreleased.{checkUnreleased}
 use Rattle.definition.specs.ReleaseOrder.{checkReleaseOrder}
 use Rattle.definition.specs.FirstReleases.{checkFirstReleases}
 use Rattle.definition.specs.Constants.{checkConstants}

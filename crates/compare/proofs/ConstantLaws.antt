@@ -8,13 +8,13 @@ use native.Mathlib.Numerals.{add-one}
 use native.Mathlib.Omega.{arith}
 use lib.ListN.{length, take, drop, getD, drop-of-length-le}
 use lib.Seq.{take-at, drop-cons}
-use Rattle.record.specs.Base.{Str, eqs, signed, orElse, any}
+use Rattle.record.specs.Base.{Str, eqs, signed, any}
 use Rattle.record.specs.Schema.{Struct}
 use Rattle.record.specs.Stretch.{textOf}
 use Rattle.record.specs.Fill.{fronted}
 use Rattle.record.specs.Write.{Puts}
 use Rattle.record.specs.Commands.{constantAt}
-use Rattle.record.specs.Lists.{optOf, constantOf}
+use Rattle.record.specs.Lists.{constantOf}
 use Rattle.record.specs.Steps.{structsAt, structFound, constantsAt, constantFound}
 use Rattle.record.specs.Index.{Indexed}
 use Rattle.record.specs.Named.{LastConstant}
@@ -23,7 +23,6 @@ use Rattle.record.specs.Versioned.{InSlots}
 use Rattle.record.specs.Generation.{generationOf, heldAs, HoldsGeneration}
 use Rattle.record.specs.declared.text.Text.{Text}
 use Rattle.record.specs.declared.operands.OptText.{OptText}
-use Rattle.record.specs.declared.operands.OptText.the-variants.{Absent, Given}
 use Rattle.record.specs.declared.command.Cursor.{Cursor}
 use Rattle.record.specs.declared.command as C
 use Rattle.record.specs.declared.generation.Generation.{Generation}

@@ -1,7 +1,7 @@
 -- What a record holds, the premises of demand 3 (01, Premises of the chain), and what demand 3 says of two schemas. Assumes nothing.
 use mathlib.Core.Path.{_≡_}
 use mathlib.Core.List.{List, [], _∷_, map, List·Memᴰ}
-use mathlib.Core.Option.{Option, none, some}
+use mathlib.Core.Option.{some}
 use mathlib.Core.Bool.{false}
 use Prim.Native.Nat.{ℕ}
 use Rattle.record.specs.Base.{Str, withSome}

@@ -1,20 +1,19 @@
 -- Along the commands of a stream: the bytes they take, and the elements of a list that is read off them. Assumes nothing.
-use Prim.Native.Nat.{ℕ, zero, suc, _+_, _≤_}
-use mathlib.Core.List.{List, _∷_, map, List·Memᴰ, List·Memᴰ·head, List·Memᴰ·tail, List·Memᴰ·not-nil}
+use Prim.Native.Nat.{ℕ, _+_, _≤_}
+use mathlib.Core.List.{List, _∷_, List·Memᴰ, List·Memᴰ·head, List·Memᴰ·tail, List·Memᴰ·not-nil}
 use mathlib.Core.Bool.{Bool, true, false}
-use mathlib.Core.Path.{_≡_, refl, sym, ap, ap₂, _∙_}
+use mathlib.Core.Path.{_≡_, refl, sym, ap, _∙_}
 use native.Mathlib.Omega.{arith}
 use lib.Dec.{eqb}
 use borrow.Author.Tests.{eqb-true, eqb-false}
-use lib.ListN.{length, getD}
+use lib.ListN.{getD}
 use Rattle.record.specs.Base.{Str, bytes}
 use Rattle.record.specs.Commands.{operands, wide, widths, widthWith, widthOf, stepAt, commandsAt}
 use Rattle.record.specs.Lists.{listed}
 use Rattle.record.specs.declared.command.Cursor.{Cursor}
 use Rattle.record.specs.declared.command.Command.{Command}
 use Rattle.record.specs.declared.command.Command.the-variants as C
-use Rattle.record.specs.declared.command.Step.{Step}
-use Rattle.record.specs.declared.command.Step.the-variants.{Next, Stop}
+use Rattle.record.specs.declared.command.Step.the-variants.{Next}
 use Rattle.record.proofs.Stream.{step-found, along, commands-stop, commands-next, commands-here, commands-later}
 use Rattle.record.proofs.ListLaws.{byteOf, byte-is, listed-stop, listed-here, listed-over, listed-end}
 

@@ -1,7 +1,7 @@
 -- The handles along the stream, a table while it is filled, and the room that it needs. Assumes nothing.
 use Prim.Native.Nat.{ℕ, suc, _+_, _-_, _*_, _/_, _≤_, _<_}
 use mathlib.Core.List.{List, [], _∷_, _++_, append-assoc, append-nil}
-use mathlib.Core.Bool.{Bool, true, false, _||_, cond}
+use mathlib.Core.Bool.{Bool, true, false, cond}
 use mathlib.Core.Path.{_≡_, refl, sym, ap, ap₂, subst, _∙_}
 use native.Mathlib.Omega.{arith}
 use native.Mathlib.Numerals.{add-one}
@@ -23,7 +23,7 @@ use Rattle.record.specs.declared.command.Command.{Command}
 use Rattle.record.specs.declared.command.Step.the-variants.{Next, Stop}
 use Rattle.record.proofs.Stream.{step-found, along}
 use Rattle.record.proofs.ListLaws.{byteOf, listed-stop, listed-here, listed-over, listed-end}
-use Rattle.layout.proofs.Along.{four-wide, step-four}
+use Rattle.layout.proofs.Along.{step-four}
 use Rattle.record.specs.Fill.{fronted}
 use Rattle.layout.specs.Room.{Room}
 use Rattle.layout.specs.Handles.{variantHandles, joinedHandles, familyHandles, handlesOf, familiesFrom}

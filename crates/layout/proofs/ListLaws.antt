@@ -2,16 +2,15 @@
 use Prim.Native.Nat.{ℕ, _≤_, _<_}
 use mathlib.Core.List.{List, [], _∷_, _++_}
 use mathlib.Core.Bool.{Bool, true, false, cond}
-use mathlib.Core.Path.{_≡_, refl, sym, ap, subst, _∙_}
+use mathlib.Core.Path.{_≡_, refl, ap, subst, _∙_}
 use native.Mathlib.Omega.{arith}
-use lib.Dec.{leb}
 use lib.ListN.{length, take, drop}
 use borrow.Author.Tests.{le-leb, lt-leb}
 use Rattle.record.specs.Base.{Str}
 use Rattle.record.specs.Scalars.{Scalar, scalarsOf, builtIn, builtInRows}
 use Rattle.record.specs.Fill.{fronted}
 use Rattle.record.specs.Refusals.{refusalNumber, sideNumber}
-use Rattle.record.specs.Reading.{Rec, rec, read, refuse, reading, schemaOf}
+use Rattle.record.specs.Reading.{Rec, rec, schemaOf}
 use Rattle.record.specs.Read.{Exact, Read}
 use Rattle.record.specs.Write.{Puts}
 use Rattle.record.specs.declared.refusal.Refusal.{Refusal}

@@ -4,11 +4,9 @@ use mathlib.Core.List.{List, [], _∷_, _++_, append-nil}
 use mathlib.Core.Bool.{Bool, true, false, _&&_, _||_, cond, false≢true}
 use mathlib.Core.Path.{_≡_, refl, sym, ap, subst, _∙_}
 use native.Mathlib.Omega.{arith}
-use lib.ListN.{length, take, drop, getD, length-append, length-take, length-drop, List·getD-append, drop-of-length-le}
+use lib.ListN.{length, take, drop, getD, length-append, List·getD-append}
 use lib.Seq.{getD-append-add, length-take-le}
 use lib.Dec.{eqb, ltb}
-use mir.Val.{Fits}
-use mir.Syntax.{w8}
 use borrow.Author.Tests.{eq-eqb, ne-eqb, le-ltb}
 use Rattle.record.specs.Base.{Str, eqs, before}
 use Rattle.record.specs.Stretch.{textOf}
@@ -22,7 +20,6 @@ use Rattle.record.specs.Words.{Skipped}
 use Rattle.layout.specs.Layout.{variantName}
 use Rattle.layout.specs.Handles.{nameAt, familyPart, placePart, typeName}
 use Rattle.layout.specs.Names.{joined, frontOf, colonsOf, backOf, Parts, nameOf, nameTextAt, stretchesOf}
-use Rattle.record.specs.Lists.{optOf}
 use Rattle.layout.specs.declared.names.TypeName.{TypeName}
 use Rattle.record.proofs.WordLaws.{before-next, before-below, before-above, before-longer, before-shorter, before-end, before-skip}
 

@@ -3,7 +3,7 @@ use Prim.Native.Nat.{ℕ, suc, _+_, _-_, _/_, _≤_, _<_}
 use mathlib.Core.List.{List, [], _∷_, _++_, List·Memᴰ, List·Memᴰ·head, List·Memᴰ·tail}
 use mathlib.Core.Option.{none, some}
 use mathlib.Core.Bool.{Bool, true, false}
-use mathlib.Core.Path.{_≡_, refl, sym, ap, ap₂, subst, _∙_}
+use mathlib.Core.Path.{_≡_, refl, sym, ap, subst, _∙_}
 use native.Mathlib.Omega.{arith}
 use types.Run.{OneOf}
 use denote.Enum.Declared.{tagOf}
@@ -26,7 +26,6 @@ use Rattle.record.specs.Kind.{words, meaning, kindOf, isPadding}
 use Rattle.record.specs.Shapes.{enumSize, sized, scalarSize, sizeAs, shapeSize, spaced, named, restAs, shapeType, Place, placeOf, places, plain, prefix, limit, capped}
 use Rattle.record.specs.Describe.{describedAs, Shaped}
 use Rattle.record.specs.Reading.{Rec, rec, schemaFrom, schemaOf}
-use Rattle.record.specs.Read.{Exact}
 use Rattle.record.specs.declared.text.Text.{Text}
 use Rattle.record.specs.declared.operands.OptText.{OptText}
 use Rattle.record.specs.declared.operands.OptText.the-variants.{Given}
@@ -55,8 +54,8 @@ use Rattle.layout.specs.declared.spots.SpotCursor.{SpotCursor}
 use Rattle.layout.specs.declared.spots.SpotStep.{SpotStep}
 use Rattle.layout.specs.declared.spots.SpotStep.the-variants.{NoSpot, ASpot}
 use Rattle.layout.specs.Handles.{nameAt, placePart, handleFields, layoutOf}
-use Rattle.layout.specs.Table.{Typed, TypesTable}
-use Rattle.layout.specs.FieldSizes.{fieldSize, SizesFrom, SizesTable}
+use Rattle.layout.specs.Table.{Typed}
+use Rattle.layout.specs.FieldSizes.{fieldSize, SizesFrom}
 use Rattle.layout.specs.Spots.{spotOf, placeAt, cursorAt, bodyPlace, fieldsAhead, placesFrom, aheadLeft, spotsLeft, Sound, spotsOf, soundAfter, stepLeft, SpotsFrom, TypeSpots, OthersPassed}
 use Rattle.layout.proofs.Along.{place-stands}
 use Rattle.layout.proofs.Flattened.{own-fields, family-fields}

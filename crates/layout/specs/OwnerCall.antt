@@ -1,6 +1,5 @@
 -- What the owner call answers, by 01, What a check returns: the owner of a name of a current record. Assumes nothing.
 use mathlib.Core.Path.{_≡_}
-use Prim.Native.Nat.{ℕ}
 use mathlib.Core.Option.{Option, none, some}
 use Rattle.record.specs.Base.{Str}
 use Rattle.record.specs.Stretch.{textOf}

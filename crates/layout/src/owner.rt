@@ -10,7 +10,7 @@ use record::text::Text;
 ghost use mathlib.Core.Path.{_≡_};
 ghost use Rattle.record.specs.Scalars.{builtIn};
 ghost use Rattle.record.specs.Reading.{rec};
-ghost use Rattle.layout.specs.OwnerCall.{ownerFields, ownerAsked, OwnerAsked};
+ghost use Rattle.layout.specs.OwnerCall.{ownerFields, OwnerAsked};
 
 // The owner's name, as the stretch that the root's own command gives; or none; or the record's refusal with its place.
 pub enum OwnerAnswer {

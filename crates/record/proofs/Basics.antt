@@ -1,7 +1,7 @@
 -- Laws of the tests, look-ups and verdicts. Assumes nothing.
 use mathlib.Core.Path.{_≡_, refl, sym, _∙_, ap, ap₂}
 use mathlib.Core.List.{List, [], _∷_, List·Memᴰ, List·Memᴰ·head, List·Memᴰ·tail, List·Memᴰ·not-nil}
-use mathlib.Core.Option.{some}
+use mathlib.Core.Option.{none, some}
 use mathlib.Core.Bool.{Bool, true, false, _&&_, _||_, cond, and-eq-true-iff, false≢true}
 use Prim.Native.Nat.{ℕ}
 use native.Mathlib.Omega.{arith}
@@ -11,6 +11,9 @@ use Rattle.record.specs.Base.{Str, eqs, find, any, filterB}
 
 pub both : (a b : Bool) → (a && b) ≡ true → (a ≡ true) × (b ≡ true)
 both a b = and-eq-true-iff a b .0
+
+pub none≢some : {A : Type 0} {a : A} → none ≡ some a → ⊥
+none≢some e = let z : _≡_ {A = ℕ} 0 1 = cc in omega arith
 
 pub eqs→eq : (s t : Str) → eqs s t ≡ true → s ≡ t
 unfolding eqs

@@ -8,15 +8,15 @@ use native.Mathlib.Omega.{arith}
 use lib.ListN.{length, length-append}
 use types.Run.{OneOf, miss}
 use denote.Enum.Declared.{tagOf}
-use Rattle.record.specs.Base.{Str, bytes, eqs, decimal, orElse, orOption}
+use Rattle.record.specs.Base.{Str, bytes, decimal, orElse, orOption}
 use Rattle.record.specs.Schema.{Field, Key}
 use Rattle.record.specs.Stretch.{textOf}
-use Rattle.record.specs.Lists.{optOf, numberOf, fieldOf}
+use Rattle.record.specs.Lists.{numberOf, fieldOf}
 use Rattle.record.specs.Operands.{textAt, optTextAt, optNumberAt}
 use Rattle.record.specs.Commands.{fieldAt}
-use Rattle.record.specs.Kind.{words, meaning, kindOf, isPadding}
+use Rattle.record.specs.Kind.{kindOf, isPadding}
 use Rattle.record.specs.Write.{Puts}
-use Rattle.record.specs.Shapes.{spaced, named, restAs, shapeType, plain}
+use Rattle.record.specs.Shapes.{spaced, named, restAs, shapeType}
 use Rattle.record.specs.declared.text.Text.{Text}
 use Rattle.record.specs.declared.operands.OptText.{OptText}
 use Rattle.record.specs.declared.operands.OptText.the-variants.{Absent, Given}

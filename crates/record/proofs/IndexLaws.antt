@@ -1,5 +1,5 @@
 -- The index of a record while it is filled, and the way along the places of one number. Assumes nothing.
-use Prim.Native.Nat.{ℕ, zero, suc, _+_, _-_, _*_, _/_, _%_, _≤_, _<_}
+use Prim.Native.Nat.{ℕ, suc, _+_, _-_, _*_, _/_, _%_, _≤_, _<_}
 use mathlib.Core.Path.{_≡_, refl, sym, ap, subst, _∙_}
 use mathlib.Core.List.{List, [], _∷_}
 use mathlib.Core.Option.{Option, none, some}
@@ -15,7 +15,7 @@ use Rattle.record.specs.Stretch.{textOf}
 use Rattle.record.specs.Operands.{textAt, flagAt}
 use Rattle.record.specs.Schema.{Family}
 use Rattle.record.specs.Commands.{operands, wide, widths, widthWith, widthOf, stepAt, commandsAt}
-use Rattle.record.specs.Lists.{anything, listed, constants, unstored, aliases, enums, values, bitfields, members, structs, fields, families, variants}
+use Rattle.record.specs.Lists.{anything, listed, constants, unstored, aliases, enums, bitfields, structs, families}
 use Rattle.record.specs.Steps.{valuesAt, membersAt, fieldsAt, variantsAt, constantsAt, aliasesAt, enumsAt, bitfieldsAt, structsAt, familiesAt, unstoredAt, constantIn, aliasIn, enumIn, bitfieldIn, structIn, familyIn}
 use Rattle.record.specs.Seek.{afterAt, SoughtFrom}
 use Rattle.record.specs.Index.{hashOf, declaredName, declares, isNamed, isFlagged, counts, onto, declaring, declaredPlaces, keyAt, putAt, latest, Linked, IndexRoom, Chained, Indexed, hitIn, firstIn, linkBefore, Headless, FirstNamed, LastNamed, soughtAt, constantPlaced, unstoredPlaced, aliasPlaced, enumPlaced, bitfieldPlaced, structPlaced, familyPlaced, PlaceNamed, Declared, LastDeclared, Alone, Findable, Looked}

@@ -19,9 +19,8 @@ use Rattle.record.specs.Ownership.{EightClear}
 use Rattle.record.specs.declared.text.Text.{Text}
 use Rattle.record.specs.declared.operands.OptText.{OptText}
 use Rattle.record.specs.declared.operands.OptText.the-variants.{Absent, Given}
-use Rattle.record.specs.declared.leads.Lead.{Lead}
 use Rattle.record.specs.declared.leads.Lead.the-variants.{Unknown, NoField, AField}
-use Rattle.record.proofs.RootLaws.{none≢some}
+use Rattle.record.proofs.Basics.{none≢some}
 
 -- entries ----------------------------------------------------------------------------------------------------------------
 

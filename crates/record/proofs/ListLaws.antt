@@ -1,16 +1,16 @@
 -- The laws that every list of a record shares: what one step along the stream says of the list from there on. Assumes nothing.
 use mathlib.Core.Path.{_≡_, refl, sym, ap, ap₂, _∙_}
 use mathlib.Core.List.{List, [], _∷_, map}
-use mathlib.Core.Option.{Option, none, some}
+use mathlib.Core.Option.{none, some}
 use mathlib.Core.Bool.{Bool, true, false, cond}
-use Prim.Native.Nat.{ℕ, suc, _-_, _≤_}
+use Prim.Native.Nat.{ℕ, suc, _-_}
 use native.Mathlib.Omega.{arith}
 use types.Run.{OneOf}
 use denote.Enum.Declared.{tagOf}
-use lib.ListN.{length, getD, drop}
+use lib.ListN.{getD, drop}
 use lib.Dec.{T, eqb}
 use borrow.Author.Tests.{eq-eqb, ne-eqb, eqb-true, eqb-false}
-use Rattle.record.specs.Base.{Str, find}
+use Rattle.record.specs.Base.{find}
 use Rattle.record.specs.Commands.{widthOf, commandOf, stepAt, commandsAt}
 use Rattle.record.specs.Lists.{listed}
 use Rattle.record.specs.declared.command.Cursor.{Cursor}

@@ -38,10 +38,9 @@ use Rattle.record.specs.declared.leads.Lead.{Lead}
 use Rattle.record.specs.declared.leads.Lead.the-variants.{Unknown, NoField, AField}
 use Rattle.record.specs.declared.ownership.Owner.{Owner}
 use Rattle.record.specs.declared.ownership.Owner.the-variants.{Nobody, Owned}
-use Rattle.record.proofs.Basics.{eqs→eq, eqs-refl}
+use Rattle.record.proofs.Basics.{eqs→eq, eqs-refl, none≢some}
 use Rattle.record.proofs.ListLaws.{find-hit, find-miss}
 use Rattle.record.proofs.Walk.{owner-is-first}
-use Rattle.record.proofs.RootLaws.{none≢some}
 use Rattle.record.proofs.LeadLaws.{leads-unknown}
 use Rattle.record.proofs.PlaceLaws.{entered-is, is-entered}
 

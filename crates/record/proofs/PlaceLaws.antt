@@ -10,13 +10,13 @@ use lib.Dec.{eqb}
 use borrow.Author.Tests.{eqb-true}
 use Rattle.record.specs.Base.{Str, bytes, first}
 use Rattle.record.specs.Stretch.{textOf}
-use Rattle.record.specs.Schema.{Field, Struct, Family}
-use Rattle.record.specs.Commands.{operands, wide, widths, widthWith, widthOf, start, place, commandsAt, fieldAt, variantAt}
+use Rattle.record.specs.Schema.{Field}
+use Rattle.record.specs.Commands.{operands, wide, widths, widthWith, widthOf, place, commandsAt, fieldAt, variantAt}
 use Rattle.record.specs.Lists.{aVariant, optOf, fieldOf, variantOf, listed, keys, fields, variants}
-use Rattle.record.specs.Steps.{keysAt, fieldKeyAt, fieldsAt, structsAt, variantsAt, familiesAt, structIn, structFound, familyIn, familyFound}
+use Rattle.record.specs.Steps.{keysAt, fieldKeyAt, fieldsAt, variantsAt}
 use Rattle.record.specs.Seek.{SoughtFrom}
 use Rattle.record.specs.Owner.{Types, referenced, hasSlot, variantFields, fieldsIn, typeFields}
-use Rattle.record.specs.Index.{Indexed, structPlaced, familyPlaced, PlaceNamed, Declared}
+use Rattle.record.specs.Index.{Indexed, Declared}
 use Rattle.record.specs.References.{typesAt, Refers, HasSlot}
 use Rattle.record.specs.Marks.{between, bodyAt, bodyLeft, PlacesFrom, referenceAt, entered, targetAt}
 use Rattle.record.specs.declared.text.Text.{Text}
@@ -26,10 +26,6 @@ use Rattle.record.specs.declared.command.Cursor.{Cursor}
 use Rattle.record.specs.declared.seek.Between.{Between}
 use Rattle.record.specs.declared.seek.Sought.{Sought}
 use Rattle.record.specs.declared.seek.Sought.the-variants.{Nowhere, At}
-use Rattle.record.specs.declared.lists.StructStep.{StructStep}
-use Rattle.record.specs.declared.lists.StructStep.the-variants.{NoStruct, AStruct}
-use Rattle.record.specs.declared.lists.FamilyStep.{FamilyStep}
-use Rattle.record.specs.declared.lists.FamilyStep.the-variants.{NoFamily, AFamily}
 use Rattle.record.specs.declared.marks.PlaceStep.{PlaceStep}
 use Rattle.record.specs.declared.marks.PlaceStep.the-variants.{NoPlace, APlace}
 use Rattle.record.proofs.CommandLaws.{step-end}

@@ -24,9 +24,7 @@ use Rattle.record.specs.declared.command.Cursor.{Cursor}
 use Rattle.record.specs.declared.lists.StructStep.{StructStep}
 use Rattle.record.specs.declared.lists.StructStep.the-variants.{NoStruct, AStruct}
 use Rattle.record.proofs.MarkLaws.{marked-stays, full-stays, walked-none, walked-into}
-
-pub none≢some : {A : Type 0} {a : A} → none ≡ some a → ⊥
-none≢some e = let z : _≡_ {A = ℕ} 0 1 = cc in omega arith
+use Rattle.record.proofs.Basics.{none≢some}
 
 -- a root's walk ----------------------------------------------------------------------------------------------------------
 

@@ -11,7 +11,7 @@ use Rattle.record.specs.Base.{Str, eqs, find}
 use Rattle.record.specs.Schema.{Field, Struct, Family}
 use Rattle.record.specs.Steps.{structIn, familyIn}
 use Rattle.record.specs.Owner.{Types, Owned, ownedIn, hasSlot, referenced, fieldsIn, typeFields, unless, enter, visit, visitAll, claim, declared, claimRoots, roots, rootOf, ownerOf, Edge, Leads, here, along, First, now, later}
-use Rattle.record.proofs.Basics.{eqs→eq, eqs-refl, find-some}
+use Rattle.record.proofs.Basics.{eqs→eq, eqs-refl, find-some, none≢some}
 
 -- the name stands in the list
 abbrev Has : List Owned → Str → Type 0
@@ -23,9 +23,6 @@ has-or-not os n = go (ownedIn os n) refl
     go : (x : Option Owned) → ownedIn os n ≡ x → Has os n ⊎ (ownedIn os n ≡ none)
     go none e = inr e
     go (some o) e = inl (o, e)
-
-none≢some : {A : Type 0} {a : A} → none ≡ some a → ⊥
-none≢some e = let z : _≡_ {A = ℕ} 0 1 = cc in omega arith
 
 has-head : (n r : Str) (os : List Owned) → Has (record { name = n; root = r } ∷ os) n
 unfolding ownedIn find

@@ -1,7 +1,7 @@
 -- A bound of all the sizes in a record, by the numbers in its commands alone. Assumes nothing.
 use Prim.Native.Nat.{ℕ, _+_, _*_}
 use mathlib.Core.List.{List, [], _∷_}
-use mathlib.Core.Bool.{_||_, cond}
+use mathlib.Core.Bool.{cond}
 use lib.ListN.{getD, drop}
 use lib.Dec.{eqb}
 use Rattle.record.specs.Base.{Str, orElse}

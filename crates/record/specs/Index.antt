@@ -4,7 +4,7 @@ use mathlib.Core.Path.{_≡_}
 use mathlib.Core.List.{List, [], _∷_}
 use mathlib.Core.Option.{Option, none, some}
 use mathlib.Core.Logic.{_⊎_}
-use mathlib.Core.Bool.{Bool, true, false, _&&_, cond}
+use mathlib.Core.Bool.{Bool, true, _&&_, cond}
 use Prim.Native.Nat.{ℕ, zero, suc, _+_, _-_, _*_, _/_, _%_, _≤_, _<_}
 use lib.ListN.{length, getD, set, drop}
 use lib.Dec.{eqb, ltb}
@@ -113,9 +113,13 @@ pub record Headless (before x : List ℕ) : Type 0 where
   pub same-length : length x ≡ length before
   pub none : (h : ℕ) → h < 256 → getD x h 0 ≡ 0
 
--- the answer, where the index is the record's: the first command of a number and a name
+-- the first command of a number and a name, one more than its place; 0 where there is none
+abbrev pub firstPlace : Str → Str → ℕ → Str → ℕ
+firstPlace s p b n = hitIn (isNamed s p b n) (declaredPlaces s) 0
+
+-- the answer, where the index is the record's
 pub record FirstNamed (s p : Str) (x : List ℕ) (b : ℕ) (n : Str) (r : ℕ) : Type 0 where
-  pub first : Indexed s p x → r ≡ hitIn (isNamed s p b n) (declaredPlaces s) 0
+  pub first : Indexed s p x → r ≡ firstPlace s p b n
 
 -- the same of the last one that has a flag, which stands first among the places
 pub record LastNamed (s p : Str) (x : List ℕ) (b f : ℕ) (n : Str) (r : ℕ) : Type 0 where

@@ -1,7 +1,6 @@
 -- The plugin keys of a record: plugin_keys of schema.rs and of released.rs. Assumes nothing.
 use mathlib.Core.Path.{_≡_}
 use mathlib.Core.List.{List, [], _∷_}
-use mathlib.Core.Option.{Option, none, some}
 use Prim.Native.Nat.{ℕ, _≤_}
 use Rattle.record.specs.Base.{Str, withSome}
 use Rattle.record.specs.Schema.{Key, Field, Struct}

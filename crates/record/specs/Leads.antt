@@ -1,4 +1,5 @@
--- The table of leads: for each declared type a field that refers to it, such that no other that does has a lower mark. Assumes nothing.
+-- The table of leads: for each declared type a place whose mark is no higher than that of any field with a mark that refers to it. What stands at the
+-- place is left open, since a look-up reads it again. Assumes nothing.
 use mathlib.Core.Path.{_≡_}
 use mathlib.Core.List.{List}
 use mathlib.Core.Option.{some}
@@ -7,18 +8,14 @@ use Prim.Native.Nat.{ℕ, _+_, _-_, _/_, _≤_, _<_}
 use lib.Dec.{eqb}
 use lib.ListN.{length, getD}
 use Rattle.record.specs.Base.{Str}
-use Rattle.record.specs.Index.{isNamed, declaredPlaces, hitIn, Indexed}
+use Rattle.record.specs.Index.{firstPlace, Indexed}
 use Rattle.record.specs.Marks.{referenceAt}
 use Rattle.record.specs.declared.leads.Lead.{Lead}
 use Rattle.record.specs.declared.leads.Lead.the-variants.{NoField, AField}
 
--- the first command of a number and a name, one more than its place; 0 where there is none
-abbrev pub firstOf : Str → Str → ℕ → Str → ℕ
-firstOf s p b n = hitIn (isNamed s p b n) (declaredPlaces s) 0
-
--- the entry of a name: by the first structure, else by the first family
+-- the entry of a name: by the first structure, else by the first family; names that nobody declares share the first
 unfoldable pub entryOf : Str → Str → Str → ℕ
-entryOf s p n = cond (eqb (firstOf s p 8 n) 0) (firstOf s p 9 n / 10) (firstOf s p 8 n / 10)
+entryOf s p n = cond (eqb (firstPlace s p 8 n) 0) (firstPlace s p 9 n / 10) (firstPlace s p 8 n / 10)
 
 -- the answer, where the index is the record's
 pub record EntryNamed (s p : Str) (x : List ℕ) (n : Str) (r : ℕ) : Type 0 where

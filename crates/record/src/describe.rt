@@ -174,7 +174,7 @@ fn put_named(out: &mut [u8], at: usize, pool: &[u8], kind: Text, s: &[u8]) -> us
     put_text(out, at, pool, kind)
 }
 
-// Puts how a field's type reads, from the bytes that begin with its command.
+// Puts how a field's type reads, from the bytes that begin with its command: without its parts, since the list puts every field.
 pub fn put_shape(out: &mut [u8], at: usize, pool: &[u8], s: &[u8]) -> usize
     ensures { λ r. ⌜ Puts (now (out .entry)) at (shapeType (fieldOf (now (pool .entry)) (fieldAt (now (s .entry))) none)) (now (out .exit)) r × (r ≤ at + 559) ⌝ }
 {

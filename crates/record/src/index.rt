@@ -12,7 +12,6 @@ use crate::seek::seek;
 use crate::text::bytes_of;
 use crate::text::same;
 ghost use mathlib.Core.Path.{_≡_};
-ghost use mathlib.Core.List.{List};
 ghost use Prim.Native.Nat.{_+_, _/_, _≤_, _<_};
 ghost use lib.ListN.{length, getD, set};
 ghost use Rattle.record.specs.Index.{hashOf, declaredName, declares, isNamed, linkBefore, putAt, IndexRoom, Indexed, Headless, FirstNamed, PlaceNamed, Declared, isFlagged, counts, LastNamed, LastDeclared, Alone, Looked};
@@ -261,7 +260,8 @@ fn counts(stream: &[u8], pool: &[u8], number: u8, flag: usize, name: &[u8], plac
     false
 }
 
-// The last command of a number and a name that has a flag, one more than its place; 0 where there is none. It is the first that is seen.
+// The last command of a number and a name whose flag at a place of the command is set (any, where that place is 0), one more than its place; 0 where there
+// is none. It is the first that is seen.
 fn last_named(
     stream: &[u8],
     pool: &[u8],
@@ -283,7 +283,7 @@ fn last_named(
     0
 }
 
-// The place of the last command of a number and a name that has a flag, and the place after it.
+// The place of that command, and the place after it.
 pub(crate) fn find_last(
     stream: &[u8],
     pool: &[u8],

@@ -1,6 +1,6 @@
-// For each declared type a field that refers to it, such that no other that does has a lower mark: a table, in a slice that the caller lends, where many
-// names are asked of one walk. A type is kept by one more than the place of its command, divided by ten, since no two stand within ten bytes; a field by one
-// more than its place. A table of no entries knows nothing.
+// For each declared type a place whose mark is no higher than that of any field with a mark that refers to it: a table, in a slice that the caller lends,
+// where many names are asked of one walk. The entry of a type is (its command's place + 1) / 10, since no two stand within ten bytes, and names that nobody
+// declares share entry 0. A place is kept as one more than it is. A table of no entries knows nothing.
 use crate::index::first_named;
 use crate::index::link_at;
 use crate::le::byte_at;
@@ -8,12 +8,10 @@ use crate::marks::reference_at;
 use crate::operands::OptText;
 use crate::ownership::eight_clear;
 use crate::text::bytes_of;
-ghost use mathlib.Core.Path.{_≡_};
 ghost use Prim.Native.Nat.{_<_};
-ghost use lib.ListN.{length};
 ghost use Rattle.record.specs.Leads.{EntryNamed, IsLeast, PutLeast, PutLead, LeadsFilled, LeadGiven};
 
-// The field of the lowest mark that refers to a name, as far as it is known.
+// A place whose mark is no higher than that of any field with a mark that refers to a name, as far as it is known.
 pub enum Lead {
     Unknown,
     NoField,

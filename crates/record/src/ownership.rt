@@ -148,7 +148,7 @@ fn owner_in(
     Owner::Nobody
 }
 
-// The owner of a name by the roots, where the marks and the index are the record's.
+// The owner of a name, where the roots, the marks and the index are the record's and what the lead says holds.
 fn owner_by(
     stream: &[u8],
     pool: &[u8],

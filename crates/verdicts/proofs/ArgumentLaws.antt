@@ -1,6 +1,6 @@
 -- The put-together arguments of messages, as the code's branches put them. Assumes nothing.
 use mathlib.Core.Path.{_≡_}
-use mathlib.Core.List.{[], _∷_, _++_}
+use mathlib.Core.List.{[], _++_}
 use mathlib.Core.Bool.{Bool, true, false}
 use Prim.Native.Nat.{ℕ}
 use Rattle.record.specs.Base.{Str, bytes, signed, orElse}
