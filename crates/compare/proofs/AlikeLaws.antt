@@ -17,30 +17,26 @@ use Rattle.record.specs.Scalars.{Scalar}
 use Rattle.record.specs.Schema.{Field}
 use Rattle.record.specs.Commands.{operands, wide, widths, widthWith, widthOf, place, fieldAt}
 use Rattle.record.specs.Lists.{optOf, numberOf, fieldOf}
-use Rattle.record.specs.Steps.{fieldKeyAt, FieldsFrom}
 use Rattle.record.specs.Seek.{SoughtFrom}
 use Rattle.record.specs.Kind.{kindOf, isPadding}
-use Rattle.record.specs.Shapes.{Place, placeOf, shapeSize, shapeType, capped}
-use Rattle.record.specs.Reading.{rec, schemaOf}
+use Rattle.record.specs.Shapes.{Place, shapeType, capped}
+use Rattle.record.specs.Reading.{rec}
 use Rattle.record.specs.declared.command as C
 use Rattle.record.specs.declared.command.Cursor.{Cursor}
 use Rattle.record.specs.declared.text.Text.{Text}
 use Rattle.record.specs.declared.operands.OptText.{OptText}
 use Rattle.record.specs.declared.operands.OptNumber.the-variants.{Missing, Number}
-use Rattle.record.specs.declared.lists.FieldStep.the-variants.{AField}
 use Rattle.record.specs.declared.seek.Between.the-variants.{Keys}
 use Rattle.record.specs.declared.seek.Sought.{Sought}
 use Rattle.record.specs.declared.seek.Sought.the-variants.{At}
 use Rattle.record.proofs.Basics.{eqs-refl}
 use Rattle.record.proofs.SeekLaws.{sought-stands, sought-nearer}
-use Rattle.record.proofs.StepLaws.{fields-found}
-use Rattle.record.proofs.DescribeLaws.{described-keyless}
 use Rattle.layout.specs.Handles.{nameAt}
-use Rattle.layout.specs.Spots.{cursorAt, placesFrom, Sound}
+use Rattle.layout.specs.Spots.{placeAt, cursorAt, placesFrom, Sound}
 use Rattle.layout.specs.declared.spots.Ahead.{Ahead}
 use Rattle.layout.specs.declared.spots.Ahead.the-variants.{Body}
 use Rattle.layout.specs.declared.spots.SpotCursor.{SpotCursor}
-use Rattle.layout.proofs.SpotLaws.{sized-so, field-passed, passed-sound}
+use Rattle.layout.proofs.SpotLaws.{place-passed, place-sound}
 use Rattle.definition.specs.Fields.{eqPlace, eqPlaces}
 use Rattle.compare.proofs.LayoutLaws.{same-word}
 use Rattle.compare.specs.Alike.{SameNumbers, SameTexts, AlikePassed, Begins, AlikeNext, alikeFrom}
@@ -171,54 +167,33 @@ module _ (s p : Str) (z : List ℕ) (at : ℕ) (b q : Str) (y : List ℕ) (to : 
   abbrev G : C.Field.Field
   G = fieldAt (drop a₀ b)
 
-  found : FieldsFrom s at (AField F (place k))
-  found = fields-found s at r i a k m (drop a s) F (place k) refl refl refl
-
-  found₀ : FieldsFrom b to (AField G (place k₀))
-  found₀ = fields-found b to r₀ i₀ a₀ k₀ m₀ (drop a₀ b) G (place k₀) refl refl refl
-
   module _ (size : ℕ) (u : size ≡ getD z (k / 33) 0) (u₀ : size ≡ getD y (k₀ / 33) 0) (e : fieldOf p F none ≡ fieldOf q G none) where
-    module _ (w : List Scalar) (offset end : ℕ) (v : end ≡ capped (offset + size)) (d : Sound (rec s p w) z (cursorAt (Body (place at)) offset))
-        (d₀ : Sound (rec b q w) y (cursorAt (Body (place to)) offset)) where
-      abbrev one : Field
-      one = fieldOf p F (fieldKeyAt s p k)
+    one-place : (offset : ℕ) → placeAt p (drop a s) offset size ≡ placeAt q (drop a₀ b) offset size
+    one-place offset =
+        let n : textOf p (F .name) ≡ textOf q (G .name) = ap (λ (x : Field). x .name) e in
+        let t : shapeType (fieldOf p F none) ≡ shapeType (fieldOf q G none) = ap shapeType e in
+        let g : isPadding (kindOf (textOf p (F .kind))) ≡ isPadding (kindOf (textOf q (G .kind))) = ap (λ (x : Field). isPadding (kindOf (x .kind))) e in
+        λ x. record { name = n x; offset = offset; size = size; described = t x; padding = g x }
 
-      abbrev two : Field
-      two = fieldOf q G (fieldKeyAt b q k₀)
-
-      one-size : size ≡ shapeSize (schemaOf (rec s p w)) one
-      one-size = sized-so s p w z (place at) offset (AField F (place k)) found F (place k) refl size end u v d d
-
-      two-size : size ≡ shapeSize (schemaOf (rec b q w)) two
-      two-size = sized-so b q w y (place to) offset (AField G (place k₀)) found₀ G (place k₀) refl size end u₀ v d₀ d₀
-
-      one-place : placeOf (schemaOf (rec s p w)) offset one ≡ placeOf (schemaOf (rec b q w)) offset two
-      unfolding placeOf
-      one-place =
-          let n : textOf p (F .name) ≡ textOf q (G .name) = ap (λ (x : Field). x .name) e in
-          let l : shapeSize (schemaOf (rec s p w)) one ≡ shapeSize (schemaOf (rec b q w)) two = sym one-size ∙ two-size in
-          let t : shapeType one ≡ shapeType two = described-keyless p F (fieldKeyAt s p k) ∙ ap shapeType e ∙ sym (described-keyless q G (fieldKeyAt b q k₀)) in
-          let g : isPadding (kindOf (textOf p (F .kind))) ≡ isPadding (kindOf (textOf q (G .kind))) = ap (λ (x : Field). isPadding (kindOf (x .kind))) e in
-          λ x. record { name = n x; offset = offset; size = l x; described = t x; padding = g x }
-
-      begins : Begins (rec s p w) z (rec b q w) y (nameAt s p a) (cursorAt (Body (place at)) offset) (cursorAt (Body (place to)) offset) (cursorAt (Body (place k)) end) (cursorAt (Body (place k₀)) end)
-      unfolding placeOf nameAt
-      begins =
-          record {
-            field = placeOf (schemaOf (rec s p w)) offset one;
-            named = refl;
-            first = field-passed s p w z (place at) offset (AField F (place k)) found F (place k) refl size end u v d;
-            second = field-passed b q w y (place to) offset (AField G (place k₀)) found₀ G (place k₀) refl size end u₀ v d₀
-                ∙ ap (λ (x : Place). x ∷ placesFrom (rec b q w) (cursorAt (Body (place k₀)) end)) (sym one-place);
-            sound = passed-sound s p w z (place at) offset (AField F (place k)) found F (place k) refl size end u v d;
-            sound₀ = passed-sound b q w y (place to) offset (AField G (place k₀)) found₀ G (place k₀) refl size end u₀ v d₀;
-          }
+    begins : (w : List Scalar) (offset end : ℕ) → end ≡ capped (offset + size) → Sound (rec s p w) z (cursorAt (Body (place at)) offset) → Sound (rec b q w) y (cursorAt (Body (place to)) offset)
+        → Begins (rec s p w) z (rec b q w) y (nameAt s p a) (cursorAt (Body (place at)) offset) (cursorAt (Body (place to)) offset) (cursorAt (Body (place k)) end) (cursorAt (Body (place k₀)) end)
+    unfolding nameAt
+    begins w offset end v d d₀ =
+        record {
+          field = placeAt p (drop a s) offset size;
+          named = refl;
+          first = place-passed s p w z at offset r i a k m size end u v d;
+          second = place-passed b q w y to offset r₀ i₀ a₀ k₀ m₀ size end u₀ v d₀
+              ∙ ap (λ (x : Place). x ∷ placesFrom (rec b q w) (cursorAt (Body (place k₀)) end)) (sym (one-place offset));
+          sound = place-sound s p w z at offset r i a k m size end u v d;
+          sound₀ = place-sound b q w y to offset r₀ i₀ a₀ k₀ m₀ size end u₀ v d₀;
+        }
 
   pub alike-next : (x x₀ : ℕ) (t : Bool) → x ≡ getD z (k / 33) 0 → x₀ ≡ getD y (k₀ / 33) 0 → x ≡ x₀ → (t ≡ true → fieldOf p (fieldAt (drop a s)) none ≡ fieldOf q (fieldAt (drop a₀ b)) none) → t ≡ true
       → AlikeNext s p z at b q y to a k k₀ x
   alike-next x x₀ t u u₀ o h e =
       record {
-        passed = λ w offset end v d d₀. begins x u (o ∙ u₀) (h e) w offset end v d d₀;
+        passed = begins x u (o ∙ u₀) (h e);
         sought = subst (λ (f : Sought). SoughtFrom s Keys 11 at f) m i;
         sized = u;
       }

@@ -8,7 +8,7 @@ use native.Mathlib.Nat.{add-zero}
 use native.Mathlib.Numerals.{add-one}
 use native.Mathlib.Omega.{arith}
 use lib.Dec.{eqb, ltb}
-use lib.ListN.{length, drop, getD, set, drop-of-length-le, List·getD-eq-default, length-set}
+use lib.ListN.{length, drop, getD, set, drop-of-length-le, length-set}
 use lib.Seq.{drop-cons, drop-drop, getD-drop, getD-set-same, getD-set-other}
 use borrow.Author.Tests.{eq-eqb, ne-eqb, lt-ltb, le-ltb, eqb-true, eqb-false, ltb-true}
 use Rattle.record.specs.Base.{Str, eqs, isText, mapOption, find, filterB}
@@ -46,9 +46,6 @@ use Rattle.compare.specs.declared.coverage.Last.the-variants.{NoLast, En
 use Rattle.compare.specs.declared.cover_table.Touched.the-variants.{Untouched, Changed}
 
 -- entries one after the other ---------------------------------------------------------------------------------------------
-
-pub entry-past : (m : List ℕ) (i : ℕ) → length m ≤ i → 0 ≡ getD m i 0
-entry-past m i h = sym (List·getD-eq-default m 0 {n = i} h)
 
 module _ (m : List ℕ) (i : ℕ) where
   entry-now : getD (drop i m) 0 0 ≡ getD m i 0

@@ -80,7 +80,7 @@ Knows s p (Entry h n) = coverMeant p n ≡ coverIn (typesAt s p) (owning (typeNa
 abbrev pub changedTypes : Rec → Rec → List TypeLayout
 changedTypes r r₀ = changed (types (schemaOf r)) (types (schemaOf r₀))
 
--- a number for each type of a record, against a released one: 0 where the type is as it was
+-- a number for each type of a record, against a released one: 0 just where the type is as it was
 pub record Changes (r r₀ : Rec) (t m : List ℕ) : Type 0 where
   pub same : (i : ℕ) → i < length t
       → eqb (getD m i 0) 0 ≡ sameAs (typeIn (typeName (r .stream) (r .pool) (getD t i 0)) (types (schemaOf r₀))) (layoutOf r (getD t i 0))

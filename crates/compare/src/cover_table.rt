@@ -1,4 +1,4 @@
-// The table of what covers each type: an entry for each handle of the table of types, filled in one walk.
+// The table of what covers each type: an entry for each handle of the table of types, filled in two walks: which types changed, then what covers those.
 use crate::coverage::Last;
 use crate::coverage::entry_after;
 use crate::layouts::same_fields;

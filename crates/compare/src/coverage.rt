@@ -132,7 +132,7 @@ pub enum Last {
     Entry(u32, u32),
 }
 
-// The entry of a changed type, taken over from the one before where both have one name before the first "::": an owner is sought once.
+// The entry of a changed type, taken over from the one before where both have one name before the first "::": an owner is seldom sought twice.
 pub(crate) fn entry_after(
     stream: &[u8],
     pool: &[u8],

@@ -1,4 +1,5 @@
 // The pass over the first releases of the plugin API: each says what the last release did. First releases compare as texts.
+// The index is the copy's.
 use crate::required::required_text;
 use crate::shipped::Shipped;
 use crate::shipped::constant_release;

@@ -178,7 +178,7 @@ fn same_ahead(
     same_rest(rows, stream, pool, sizes, is, past, old, widths, was)
 }
 
-// Whether no field is seen to be ahead.
+// Whether it is seen that no field is ahead; before a family's front it is not.
 pub(crate) fn is_bare(stream: &[u8], c: SpotCursor) -> bool
     ensures { λ r. ⌜ (r ≡ true → (p : Str) (w : List Scalar) → placesFrom (rec (now (stream .entry)) p w) c ≡ []) ⌝ }
 {

@@ -1,4 +1,5 @@
 // What the copy of the last release says of one item of the plugin API. Of two of one name the later counts, and one outside the plugin API does not.
+// The index is the copy's.
 use record::dates::member_release;
 use record::keys::StoredStep;
 use record::keys::first_stored;

@@ -206,13 +206,13 @@ module _ (s p : Str) (w : List Scalar) (t : List ℕ) (k : Cursor) (offset : ℕ
       more : fieldsAt s p (k .at) ≡ whole ∷ fieldsAt s p (j .at)
       more = fields-now s (k .at) r h p f j m
 
-      pub sized-so : Sound (rec s p w) t (cursorAt (Body k) offset) → z ≡ shapeSize T whole
+      sized-so : Sound (rec s p w) t (cursorAt (Body k) offset) → z ≡ shapeSize T whole
       sized-so y = size-exact (rec s p w) t (Body k) (Body j) offset whole more y z (u ∙ table-size (y .sizes))
 
-      pub field-passed : placesFrom (rec s p w) (cursorAt (Body k) offset) ≡ placeOf T offset whole ∷ placesFrom (rec s p w) (cursorAt (Body j) e)
+      field-passed : placesFrom (rec s p w) (cursorAt (Body k) offset) ≡ placeOf T offset whole ∷ placesFrom (rec s p w) (cursorAt (Body j) e)
       field-passed = one-more (rec s p w) t (Body k) (Body j) offset whole more z e sized-so i table-kept d
 
-      pub passed-sound : Sound (rec s p w) t (cursorAt (Body j) e)
+      passed-sound : Sound (rec s p w) t (cursorAt (Body j) e)
       passed-sound = still-sound (rec s p w) t (Body k) (Body j) offset whole more z e sized-so i table-kept d
 
 -- the same by the place of its command

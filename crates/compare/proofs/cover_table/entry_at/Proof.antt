@@ -1,4 +1,4 @@
-use Rattle.compare.proofs.CoverTableLaws.{entry-past}
+use Rattle.layout.proofs.FieldSizeLaws.{none-read}
 use borrow.Author.Needs.{needs}
 use Rattle.compare.proofs.cover_table.entry_at.Statement.{statement}
 use Rattle.compare.proofs.cover_table.entry_at.Tie as tie
@@ -13,7 +13,7 @@ returns : tie.Need-returns
 returns c = search needs
 
 returns-2 : tie.Need-returns-2
-returns-2 c = search entry-past
+returns-2 c = search none-read
 
 pub entry-at-spec : {M : Type 1} → statement M
 entry-at-spec = tie.close (tie.spec mul-result shared-slice-read-result returns returns-2)
