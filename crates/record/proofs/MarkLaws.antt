@@ -11,19 +11,18 @@ use lib.Seq.{getD-set-same, getD-set-other}
 use lib.Dec.{eqb, ltb}
 use borrow.Author.Tests.{eq-eqb, ne-eqb, eqb-true, eqb-false, ltb-true, ltb-false}
 use Rattle.record.specs.Base.{Str}
-use Rattle.record.specs.Stretch.{textOf}
 use Rattle.record.specs.Schema.{Field, Key}
 use Rattle.record.specs.Commands.{fieldAt}
-use Rattle.record.specs.Lists.{optOf, fieldOf}
+use Rattle.record.specs.Lists.{fieldOf}
 use Rattle.record.specs.Steps.{fieldKeyAt}
 use Rattle.record.specs.Index.{Indexed}
 use Rattle.record.specs.Owner.{referenced, typeFields, Edge, Leads, here, along}
 use Rattle.record.specs.References.{typesAt}
-use Rattle.record.specs.Marks.{bodyAt, bodyOf, PlacesFrom, referenceAt, entered, targetAt, placePast, Clear, unseen, Ready, Named, Full, Fresh, Led, Walked, TypeWalked, Beyond, FieldWalked}
-use Rattle.record.specs.declared.text.Text.{Text}
-use Rattle.record.specs.declared.operands.OptText.{OptText}
-use Rattle.record.specs.declared.operands.OptText.the-variants.{Absent, Given}
+use Rattle.record.specs.Marks.{bodyAt, bodyOf, PlacesFrom, referenceAt, entered, targetAt, IsBody, Into, leadsTo, placePast, Clear, unseen, Ready, Named, Full, Fresh, Led, Walked, TypeWalked, BodyWalked, Beyond, FieldWalked}
 use Rattle.record.specs.declared.command.Cursor.{Cursor}
+use Rattle.record.specs.declared.marks.Body.{Body}
+use Rattle.record.specs.declared.marks.Target.{Target}
+use Rattle.record.specs.declared.marks.Target.the-variants.{Nothing, Fields}
 use Rattle.record.specs.declared.marks.PlaceStep.{PlaceStep}
 use Rattle.record.specs.declared.marks.PlaceStep.the-variants.{NoPlace, APlace}
 use Rattle.record.proofs.ReferenceLaws.{referenced-key}
@@ -177,31 +176,34 @@ module _ (s p : Str) (mark q : ℕ) (m : List ℕ) where
         closed x false e (inl h) = inl (λ z. h (getD-set-other m q x mark 0 (eqb-false x q e) ∙ z))
         closed x false e (inr f) = inr f
 
-    module _ (x : List ℕ) (r : OptText) (found : Indexed s p x → optOf p r ≡ targetAt s p q) where
-      pub field-ends : r ≡ Absent → Led s p x m (set m q mark) (FieldWalked s p mark q m (set m q mark))
+    module _ (x : List ℕ) (r : Target) (found : Indexed s p x → leadsTo s p q r) where
+      pub field-ends : r ≡ Nothing → Led s p x m (set m q mark) (FieldWalked s p mark q m (set m q mark))
       field-ends e = record {
         same-length = length-set m q mark;
         fewer = let u = unseen-set m q mark inside free real in omega arith;
         so = λ i.
-            let nothing : targetAt s p q ≡ none = sym (found i) ∙ ap (optOf p) e in
+            let nothing : targetAt s p q ≡ none = subst (leadsTo s p q) e (found i) in
             marking (set m q mark) (walked-none s p) (λ n t. absurd (let z : _≡_ {A = ℕ} 0 1 = cc in omega arith));
       }
 
-      pub field-leads : (t : Text) (w : Str) (after : List ℕ) → r ≡ Given t → w ≡ textOf p t → Led s p x (set m q mark) after (TypeWalked s p mark w (set m q mark) after) → Led s p x m after (FieldWalked s p mark q m after)
-      field-leads t w after e h g = record {
+      pub field-leads : (b : Body) (after : List ℕ) → r ≡ Fields b → Led s p x (set m q mark) after (BodyWalked s p mark b (set m q mark) after) → Led s p x m after (FieldWalked s p mark q m after)
+      field-leads b after e g = record {
         same-length = g .same-length ∙ length-set m q mark;
         fewer = let f = g .fewer in let u = unseen-set m q mark inside free real in omega arith;
-        so = λ i.
-            let there : targetAt s p q ≡ some w = sym (found i) ∙ ap (optOf p) e ∙ ap some (sym h) in
-            marking after
-            (walked-into s p (λ n l. record { through = w; target = there; leads = l }) (g .so i .walked))
-            (λ n k. subst (Full s p after) (let y : w ≡ n = cc in y) (g .so i .full));
+        so = λ i. through (subst (leadsTo s p q) e (found i)) (g .so i);
       }
+        where
+          through : Into s p q b → BodyWalked s p mark b (set m q mark) after → FieldWalked s p mark q m after
+          through t w =
+              let v = w .of (t .name) (t .body) in
+              marking after
+              (walked-into s p (λ n l. record { through = t .name; target = t .target; leads = l }) (v .walked))
+              (λ n k. let e : some (t .name) ≡ some n = sym (t .target) ∙ k in subst (Full s p after) (let y : t .name ≡ n = cc in y) (v .full))
 
 pub ruleset field-laws = (field-seen, field-ends, field-leads)
 
-pub field-length : (s p : Str) (x : List ℕ) (mark q : ℕ) (n : Str) (m after : List ℕ) → Led s p x (set m q mark) after (TypeWalked s p mark n (set m q mark) after) → length after ≡ length m
-field-length s p x mark q n m after w = w .same-length ∙ length-set m q mark
+pub field-length : (s p : Str) (x : List ℕ) (mark q : ℕ) (b : Body) (m after : List ℕ) → Led s p x (set m q mark) after (BodyWalked s p mark b (set m q mark) after) → length after ≡ length m
+field-length s p x mark q b m after w = w .same-length ∙ length-set m q mark
 
 -- a type's walk ----------------------------------------------------------------------------------------------------------
 
@@ -211,7 +213,11 @@ pub record Going (s p : Str) (mark : ℕ) (n : Str) (before m : List ℕ) (field
   pub own : (f : Field) → List·Memᴰ f fields → List·Memᴰ f (typeFields (typesAt s p) n)
   pub done : (f : Field) → List·Memᴰ f (typeFields (typesAt s p) n) → List·Memᴰ f fields ⊎ ((x : Str) → entered (typesAt s p) (referenced f) ≡ some x → Named s p m x)
 
-module _ (s p : Str) (x : List ℕ) (mark : ℕ) (n : Str) (before m : List ℕ) (fields : List Field) (g : Led s p x before m (Going s p mark n before m fields)) where
+-- the same for every type whose fields begin so
+pub record BodyGoing (s p : Str) (mark : ℕ) (b : Body) (family : Bool) (before m : List ℕ) (at : ℕ) : Type 0 where
+  pub of : (n : Str) → IsBody s p n b → Going s p mark n before m (bodyAt family s p at)
+
+module _ (s p : Str) (x : List ℕ) (mark : ℕ) (b : Body) (family : Bool) (before m : List ℕ) (at : ℕ) (g : Led s p x before m (BodyGoing s p mark b family before m at)) where
   pub going-length : length m ≡ length before
   going-length = g .same-length
 
@@ -275,18 +281,18 @@ module _ (s p : Str) (mark : ℕ) (n : Str) where
         done f (inl i) = rest f (List·Memᴰ·cases-cons (subst (λ (l : List Field). List·Memᴰ f l) list i))
         done f (inr h) = inr (λ x e. let y = h x e in record { place = y .place; marked = marked-stays s p (w .walked) (y .place) (y .marked); leads = y .leads })
 
-  -- the same by an index
-  module _ (x : List ℕ) where
-    pub type-starts : (m : List ℕ) (fields : List Field) → (Indexed s p x → typeFields (typesAt s p) n ≡ fields) → Led s p x m m (Going s p mark n m m fields)
-    type-starts m fields e = record { same-length = refl; fewer = omega arith; so = λ i. going-start m fields (e i) }
+-- the same by an index
+module _ (s p : Str) (mark : ℕ) (b : Body) (x : List ℕ) where
+  pub type-starts : (m : List ℕ) → Led s p x m m (BodyGoing s p mark b (b .family) m m (b .from .at))
+  type-starts m = record { same-length = refl; fewer = omega arith; so = λ i. record { of = λ n h. going-start s p mark n m _ (h .fields) } }
 
-    module _ (family : Bool) (before m : List ℕ) (at : ℕ) (g : Led s p x before m (Going s p mark n before m (bodyAt family s p at))) (r : PlaceStep) (step : PlacesFrom family s at r) where
-      pub type-ends : r ≡ NoPlace → Led s p x before m (TypeWalked s p mark n before m)
-      type-ends e = record { same-length = g .same-length; fewer = g .fewer; so = λ i. going-end family before m at (g .so i) r step e }
+  module _ (family : Bool) (before m : List ℕ) (at : ℕ) (g : Led s p x before m (BodyGoing s p mark b family before m at)) (r : PlaceStep) (step : PlacesFrom family s at r) where
+    pub type-ends : r ≡ NoPlace → Led s p x before m (BodyWalked s p mark b before m)
+    type-ends e = record { same-length = g .same-length; fewer = g .fewer; so = λ i. record { of = λ n h. going-end s p mark n family before m at (g .so i .of n h) r step e } }
 
-      pub type-goes : (q : ℕ) (k : Cursor) (after : List ℕ) → r ≡ APlace q k → Led s p x m after (FieldWalked s p mark q m after) → Led s p x before after (Going s p mark n before after (bodyAt family s p (k .at)))
-      type-goes q k after e w = record {
-        same-length = w .same-length ∙ g .same-length;
-        fewer = let a = w .fewer in let b = g .fewer in omega arith;
-        so = λ i. going-on family before m at (g .so i) r step q k after e (w .so i);
-      }
+    pub type-goes : (q : ℕ) (k : Cursor) (after : List ℕ) → r ≡ APlace q k → Led s p x m after (FieldWalked s p mark q m after) → Led s p x before after (BodyGoing s p mark b family before after (k .at))
+    type-goes q k after e w = record {
+      same-length = w .same-length ∙ g .same-length;
+      fewer = let a = w .fewer in let c = g .fewer in omega arith;
+      so = λ i. record { of = λ n h. going-on s p mark n family before m at (g .so i .of n h) r step q k after e (w .so i) };
+    }

@@ -17,8 +17,8 @@ use Rattle.record.specs.Steps.{keysAt, fieldKeyAt, fieldsAt, variantsAt}
 use Rattle.record.specs.Seek.{SoughtFrom}
 use Rattle.record.specs.Owner.{Types, referenced, hasSlot, variantFields, fieldsIn, typeFields}
 use Rattle.record.specs.Index.{Indexed, Declared}
-use Rattle.record.specs.References.{typesAt, Refers, HasSlot}
-use Rattle.record.specs.Marks.{between, bodyAt, bodyLeft, PlacesFrom, referenceAt, entered, targetAt}
+use Rattle.record.specs.References.{typesAt, Refers}
+use Rattle.record.specs.Marks.{between, bodyAt, bodyLeft, PlacesFrom, referenceAt, entered, targetAt, IsBody, entering, leadsTo}
 use Rattle.record.specs.declared.text.Text.{Text}
 use Rattle.record.specs.declared.operands.OptText.{OptText}
 use Rattle.record.specs.declared.operands.OptText.the-variants.{Absent, Given}
@@ -26,10 +26,15 @@ use Rattle.record.specs.declared.command.Cursor.{Cursor}
 use Rattle.record.specs.declared.seek.Between.{Between}
 use Rattle.record.specs.declared.seek.Sought.{Sought}
 use Rattle.record.specs.declared.seek.Sought.the-variants.{Nowhere, At}
+use Rattle.record.specs.declared.marks.Body.{Body}
+use Rattle.record.specs.declared.marks.Target.{Target}
+use Rattle.record.specs.declared.marks.Target.the-variants.{Nothing, Fields}
 use Rattle.record.specs.declared.marks.PlaceStep.{PlaceStep}
 use Rattle.record.specs.declared.marks.PlaceStep.the-variants.{NoPlace, APlace}
 use Rattle.record.proofs.CommandLaws.{step-end}
 use Rattle.record.proofs.Stream.{commands-stop}
+use Rattle.record.specs.Operands.{optTextAt}
+use Rattle.record.proofs.ReferenceLaws.{slot-none, slot-absent, slot-given}
 use Rattle.record.proofs.SeekLaws.{sought-stands, sought-nearer, listed-none, listed-some}
 
 -- where the fields begin -------------------------------------------------------------------------------------------------
@@ -62,21 +67,42 @@ module _ (s p : Str) where
       go false false true a c h = h
       go false false false a c h = refl
 
-module _ (s p : Str) (x : List ℕ) (i : Indexed s p x) (n : Str) (r : Sought) (found : Declared s p x 8 n r) where
-  pub body-struct : (a k : ℕ) (c : Cursor) → r ≡ At a k → c ≡ place k → typeFields (typesAt s p) n ≡ bodyAt false s p (c .at)
-  unfolding typeFields fieldsIn bodyAt fieldsAt fields
-  body-struct a k c m h = rw (h, found .named i .struct refl, m)
+module _ (s p : Str) (x : List ℕ) (i : Indexed s p x) (n : Str) where
+  module _ (r : Sought) (found : Declared s p x 8 n r) where
+    pub body-struct : (a k : ℕ) (c : Cursor) → r ≡ At a k → c ≡ place k → IsBody s p n (record { from = c; family = false })
+    unfolding typeFields fieldsIn bodyAt fieldsAt fields
+    body-struct a k c m h = record { fields = rw (h, found .named i .struct refl, m) }
 
-  module _ (q : Sought) (found' : Declared s p x 9 n q) (m : r ≡ Nowhere) where
-    pub body-family : (a k : ℕ) (c : Cursor) → q ≡ At a k → c ≡ place k → typeFields (typesAt s p) n ≡ bodyAt true s p (c .at)
+    pub body-else : (b : Body) → r ≡ Nowhere → (Indexed s p x → Declared s p x 8 n Nowhere → IsBody s p n b) → IsBody s p n b
+    body-else b m h = h i (subst (Declared s p x 8 n) m found)
+
+  module _ (found : Declared s p x 8 n Nowhere) (q : Sought) (found' : Declared s p x 9 n q) where
+    pub body-family : (a k : ℕ) (c : Cursor) → q ≡ At a k → c ≡ place k → IsBody s p n (record { from = c; family = true })
     unfolding typeFields fieldsIn bodyAt fieldsAt variantsAt one
-    body-family a k c g h = rw (h, found .named i .struct refl, m, found' .named i .family refl, g) (family-fields s p (commandsAt s k))
+    body-family a k c g h = record { fields = rw (h, found .named i .struct refl, found' .named i .family refl, g) (family-fields s p (commandsAt s k)) }
 
-    pub body-none : (c : Cursor) → c ≡ place (length s) → q ≡ Nowhere → typeFields (typesAt s p) n ≡ bodyAt false s p (c .at)
+    pub body-none : (c : Cursor) → c ≡ place (length s) → q ≡ Nowhere → IsBody s p n (record { from = c; family = false })
     unfolding typeFields fieldsIn bodyAt listed
-    body-none c h g = rw (h, found .named i .struct refl, m, found' .named i .family refl, g, commands-stop s (length s) (sym (step-end s (length s) (omega arith))))
+    body-none c h g = record { fields = rw (h, found .named i .struct refl, found' .named i .family refl, g, commands-stop s (length s) (sym (step-end s (length s) (omega arith)))) }
 
-pub ruleset body-laws = (body-struct, body-family, body-none)
+pub ruleset body-laws = (body-struct, body-else)
+
+pub ruleset family-laws = (body-family, body-none)
+
+-- what a reference leads to ----------------------------------------------------------------------------------------------
+
+module _ (s p : Str) (x : List ℕ) (i : Indexed s p x) (n : Str) (r : Sought) (found : Declared s p x 8 n r) where
+  pub enter-else : (b : Body) → r ≡ Nowhere → (Indexed s p x → Declared s p x 8 n Nowhere → IsBody s p n b) → entering s p n (Fields b)
+  enter-else b m h = (sym (slot-none s p x n r found m .is i), body-else s p x i n r found b m h)
+
+  module _ (a k : ℕ) (y : Str) (o : OptText) (m : r ≡ At a k) (d : y ≡ drop a s) (e : o ≡ optTextAt y 4) where
+    pub enter-slotted : (t : Text) → o ≡ Given t → entering s p n Nothing
+    enter-slotted t h = sym (slot-given s p x n r found a k y o m d e t h .is i)
+
+    pub enter-free : (c : Cursor) → o ≡ Absent → c ≡ place k → entering s p n (Fields (record { from = c; family = false }))
+    enter-free c h g = (sym (slot-absent s p x n r found a k y o m d e h .is i), body-struct s p x i n r found a k c m g)
+
+pub ruleset enter-laws = (enter-else, enter-slotted, enter-free)
 
 -- a step -----------------------------------------------------------------------------------------------------------------
 
@@ -108,33 +134,6 @@ pub ruleset place-laws = (place-end, place-found)
 pub places-nearer : (f : Bool) (s : Str) (at : ℕ) (r : PlaceStep) → PlacesFrom f s at r → (q : ℕ) (k : Cursor) → r ≡ APlace q k → length s - k .at < length s - at
 places-nearer f s at r h q k m = let g : suc (length s - k .at) ≤ length s - at = subst (λ x. bodyLeft s x ≤ length s - at) m (h .left) in omega arith
 
--- what a field leads to --------------------------------------------------------------------------------------------------
-
-module _ (s p : Str) (q : ℕ) where
-  pub reference-is : (x : Str) (r : OptText) → x ≡ drop q s → Refers p (fieldAt x) r → optOf p r ≡ referenceAt s p q
-  unfolding referenceAt
-  reference-is x r h g = g .name none ∙ ap (λ (y : Str). referenced (fieldOf p (fieldAt y) none)) h
-
-  module _ (r : OptText) (found : optOf p r ≡ referenceAt s p q) where
-    pub target-none : r ≡ Absent → optOf p Absent ≡ targetAt s p q
-    unfolding targetAt entered
-    target-none m = ap (λ (x : OptText). entered (typesAt s p) (optOf p x)) (sym m) ∙ ap (entered (typesAt s p)) found
-
-    module _ (x : List ℕ) (i : Indexed s p x) (t : Text) (w : Str) (b : Bool) (m : r ≡ Given t) (e : w ≡ textOf p t) (slot : HasSlot s p x w b) where
-      step : cond b none (some (textOf p t)) ≡ targetAt s p q
-      unfolding targetAt entered
-      step =
-          ap (λ (x : Bool). cond x none (some (textOf p t))) (slot .is i ∙ ap (hasSlot (typesAt s p)) e)
-          ∙ ap (λ (x : OptText). entered (typesAt s p) (optOf p x)) (sym m) ∙ ap (entered (typesAt s p)) found
-
-      pub target-slotted : b ≡ true → optOf p Absent ≡ targetAt s p q
-      target-slotted y = ap (λ (x : Bool). cond x none (some (textOf p t))) (sym y) ∙ step
-
-      pub target-free : b ≡ false → optOf p (Given t) ≡ targetAt s p q
-      target-free y = ap (λ (x : Bool). cond x none (some (textOf p t))) (sym y) ∙ step
-
-pub ruleset target-laws = (target-none, target-slotted, target-free)
-
 -- a name that is entered is the one referred to, and has no slot
 pub entered-is : (t : Types) (o : Option Str) (n : Str) → entered t o ≡ some n → (o ≡ some n) × (hasSlot t n ≡ false)
 unfolding entered
@@ -148,3 +147,33 @@ entered-is t (some x) n e = go (hasSlot t x) refl e
 pub is-entered : (t : Types) (o : Option Str) (n : Str) → o ≡ some n → hasSlot t n ≡ false → entered t o ≡ some n
 unfolding entered
 is-entered t o n e h = rw (e, h)
+
+pub not-entered : (t : Types) (n : Str) → hasSlot t n ≡ true → entered t (some n) ≡ none
+unfolding entered
+not-entered t n h = rw h
+
+-- what a field leads to --------------------------------------------------------------------------------------------------
+
+module _ (s p : Str) (q : ℕ) where
+  pub reference-is : (x : Str) (r : OptText) → x ≡ drop q s → Refers p (fieldAt x) r → optOf p r ≡ referenceAt s p q
+  unfolding referenceAt
+  reference-is x r h g = g .name none ∙ ap (λ (y : Str). referenced (fieldOf p (fieldAt y) none)) h
+
+  module _ (r : OptText) (found : optOf p r ≡ referenceAt s p q) where
+    pub target-none : r ≡ Absent → leadsTo s p q Nothing
+    unfolding targetAt entered
+    target-none m = ap (entered (typesAt s p)) (sym found ∙ ap (optOf p) m)
+
+    module _ (x : List ℕ) (i : Indexed s p x) (t : Text) (w : Str) (m : r ≡ Given t) (e : w ≡ textOf p t) where
+      named : referenceAt s p q ≡ some w
+      named = sym found ∙ ap (optOf p) m ∙ ap some (sym e)
+
+      entered-target : (o : Target) → entering s p w o → leadsTo s p q o
+      unfolding targetAt
+      entered-target Nothing h = ap (entered (typesAt s p)) named ∙ not-entered (typesAt s p) w h
+      entered-target (Fields b) h = record { name = w; target = is-entered (typesAt s p) (referenceAt s p q) w named (h .0); body = h .1 }
+
+      pub target-entered : (o : Target) → (Indexed s p x → entering s p w o) → leadsTo s p q o
+      target-entered o h = entered-target o (h i)
+
+pub ruleset target-laws = (target-none, target-entered)

@@ -15,12 +15,13 @@ use Rattle.record.specs.Steps.{structsAt, fieldsAt, structFound}
 use Rattle.record.specs.Owner.{structInSlot, Leads, here, along}
 use Rattle.record.specs.Index.{Indexed}
 use Rattle.record.specs.References.{typesAt, InSlot}
-use Rattle.record.specs.Marks.{targetAt, Clear, Full, Fresh, Led, Walked, TypeWalked}
+use Rattle.record.specs.Marks.{targetAt, IsBody, Clear, Full, Fresh, Led, Walked, TypeWalked, BodyWalked}
 use Rattle.record.specs.Ownership.{Through, Claimed, RootWalked, Within, Resolved, OwnerMarks, OwnersMarked}
 use Rattle.record.specs.Versioned.{InSlots}
 use Rattle.record.specs.declared.versioned.Versioned.{Versioned}
 use Rattle.record.specs.declared.command as D
 use Rattle.record.specs.declared.command.Cursor.{Cursor}
+use Rattle.record.specs.declared.marks.Body.{Body}
 use Rattle.record.specs.declared.lists.StructStep.{StructStep}
 use Rattle.record.specs.declared.lists.StructStep.the-variants.{NoStruct, AStruct}
 use Rattle.record.proofs.MarkLaws.{marked-stays, full-stays, walked-none, walked-into}
@@ -28,14 +29,14 @@ use Rattle.record.proofs.Basics.{none≢some}
 
 -- a root's walk ----------------------------------------------------------------------------------------------------------
 
-module _ (s p slot : Str) (x : List ℕ) (j : Indexed s p x) (mark : ℕ) (r : StructStep) (i : InSlot s p slot r) (m : List ℕ) where
+module _ (s p slot : Str) (mark : ℕ) (r : StructStep) (i : InSlot s p slot r) (m : List ℕ) where
   none-claimed : r ≡ NoStruct → Claimed s p mark slot m m
   none-claimed e = record { walked = walked-none s p; full = λ root f. absurd (none≢some (sym (i .struct ∙ ap (structFound s p) e) ∙ f)) }
 
-  some-claimed : (root : D.Struct.Struct) (k : Cursor) (w : Str) (after : List ℕ) → r ≡ AStruct root k → w ≡ textOf p (root .name) → Led s p x m after (TypeWalked s p mark w m after) → Claimed s p mark slot m after
+  some-claimed : (root : D.Struct.Struct) (k : Cursor) (w : Str) (after : List ℕ) → r ≡ AStruct root k → w ≡ textOf p (root .name) → TypeWalked s p mark w m after → Claimed s p mark slot m after
   some-claimed root k w after e h t = record {
-    walked = walked-into s p (λ n l. record { root = there; fills = fills; leads = subst (λ (x : Str). Leads (typesAt s p) x n) h l }) (t .so j .walked);
-    full = λ x f. subst (Full s p after) (h ∙ ap (λ (y : Struct). y .name) (same x f)) (t .so j .full);
+    walked = walked-into s p (λ n l. record { root = there; fills = fills; leads = subst (λ (x : Str). Leads (typesAt s p) x n) h l }) (t .walked);
+    full = λ x f. subst (Full s p after) (h ∙ ap (λ (y : Struct). y .name) (same x f)) (t .full);
   }
     where
       there : Struct
@@ -49,10 +50,10 @@ module _ (s p slot : Str) (x : List ℕ) (j : Indexed s p x) (mark : ℕ) (r : S
 
 module _ (s p : Str) (x : List ℕ) (mark : ℕ) (r : StructStep) (m : List ℕ) where
   pub root-none : r ≡ NoStruct → RootWalked s p x mark r m m
-  root-none e = record { by = λ slot i j. none-claimed s p slot x j mark r i m e }
+  root-none e = record { by = λ slot i j. none-claimed s p slot mark r i m e }
 
-  pub root-walked : (root : D.Struct.Struct) (k : Cursor) (w : Str) (after : List ℕ) → r ≡ AStruct root k → w ≡ textOf p (root .name) → Led s p x m after (TypeWalked s p mark w m after) → RootWalked s p x mark r m after
-  root-walked root k w after e h t = record { by = λ slot i j. some-claimed s p slot x j mark r i m root k w after e h t }
+  pub root-walked : (root : D.Struct.Struct) (k : Cursor) (w : Str) (b : Body) (after : List ℕ) → r ≡ AStruct root k → w ≡ textOf p (root .name) → (Indexed s p x → IsBody s p w b) → Led s p x m after (BodyWalked s p mark b m after) → RootWalked s p x mark r m after
+  root-walked root k w b after e h f t = record { by = λ slot i j. some-claimed s p slot mark r i m root k w after e h (t .so j .of w (f j)) }
 
 pub ruleset root-laws = (root-none, root-walked)
 

@@ -17,8 +17,11 @@ use Rattle.record.specs.Seek.{overOf}
 use Rattle.record.specs.declared.seek.Between.{Between}
 use Rattle.record.specs.declared.seek.Between.the-variants.{Keys, Variants}
 use Rattle.record.specs.Index.{Indexed}
-use Rattle.record.specs.Owner.{Types, referenced, hasSlot, Edge, Leads}
+use Rattle.record.specs.Owner.{Types, referenced, hasSlot, typeFields, Edge, Leads}
 use Rattle.record.specs.References.{typesAt}
+use Rattle.record.specs.declared.marks.Body.{Body}
+use Rattle.record.specs.declared.marks.Target.{Target}
+use Rattle.record.specs.declared.marks.Target.the-variants.{Nothing, Fields}
 use Rattle.record.specs.declared.marks.PlaceStep.{PlaceStep}
 use Rattle.record.specs.declared.marks.PlaceStep.the-variants.{NoPlace, APlace}
 
@@ -63,6 +66,26 @@ entered t (some n) = cond (hasSlot t n) none (some n)
 -- the name that the field at a place leads to
 unfoldable pub targetAt : Str → Str → ℕ → Option Str
 targetAt s p q = entered (typesAt s p) (referenceAt s p q)
+
+-- the fields of the type of a name begin here
+pub record IsBody (s p : Str) (n : Str) (b : Body) : Type 0 where
+  pub fields : typeFields (typesAt s p) n ≡ bodyAt (b .family) s p (b .from .at)
+
+-- what a reference to a name leads to: nothing where it is a structure with slot text, else the fields of its type
+abbrev pub entering : Str → Str → Str → Target → Type 0
+entering s p n Nothing = hasSlot (typesAt s p) n ≡ true
+entering s p n (Fields b) = (hasSlot (typesAt s p) n ≡ false) × IsBody s p n b
+
+-- the field at a place leads to a name whose fields begin here
+pub record Into (s p : Str) (q : ℕ) (b : Body) : Type 0 where
+  pub name : Str
+  pub target : targetAt s p q ≡ some name
+  pub body : IsBody s p name b
+
+-- what the field at a place leads to
+abbrev pub leadsTo : Str → Str → ℕ → Target → Type 0
+leadsTo s p q Nothing = targetAt s p q ≡ none
+leadsTo s p q (Fields b) = Into s p q b
 
 -- walks ------------------------------------------------------------------------------------------------------------------
 
@@ -111,6 +134,10 @@ pub record Walked (s p : Str) (mark : ℕ) (R : Str → Type 0) (before after : 
 pub record TypeWalked (s p : Str) (mark : ℕ) (n : Str) (before after : List ℕ) : Type 0 where
   pub walked : Walked s p mark (Leads (typesAt s p) n) before after
   pub full : Full s p after n
+
+-- a walk of the fields that begin here, which is that of every name whose fields they are
+pub record BodyWalked (s p : Str) (mark : ℕ) (b : Body) (before after : List ℕ) : Type 0 where
+  pub of : (n : Str) → IsBody s p n b → TypeWalked s p mark n before after
 
 -- what a field leads to leads to the name
 pub record Beyond (s p : Str) (q : ℕ) (n : Str) : Type 0 where

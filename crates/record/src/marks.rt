@@ -5,7 +5,7 @@ use crate::cut;
 use crate::index::find_declared;
 use crate::lists::StructStep;
 use crate::operands::OptText;
-use crate::references::has_slot;
+use crate::operands::opt_text_at;
 use crate::references::referenced_type;
 use crate::seek::Between;
 use crate::seek::Sought;
@@ -16,10 +16,8 @@ ghost use mathlib.Core.Path.{_≡_};
 ghost use Prim.Native.Nat.{_≤_, _<_};
 ghost use lib.ListN.{length};
 ghost use Rattle.record.specs.Lists.{optOf};
-ghost use Rattle.record.specs.Owner.{typeFields};
-ghost use Rattle.record.specs.Index.{Indexed};
-ghost use Rattle.record.specs.References.{typesAt};
-ghost use Rattle.record.specs.Marks.{between, bodyAt, PlacesFrom, referenceAt, targetAt, Clear, Ready, Led, TypeWalked, FieldWalked};
+ghost use Rattle.record.specs.Index.{Indexed, Declared};
+ghost use Rattle.record.specs.Marks.{between, PlacesFrom, referenceAt, IsBody, entering, leadsTo, Clear, Ready, Led, BodyWalked, FieldWalked};
 ghost use Rattle.record.specs.Versioned.{InSlots};
 ghost use Rattle.record.specs.Ownership.{RootWalked, OwnerMarks, OwnersMarked};
 
@@ -29,17 +27,10 @@ struct Body {
     family: bool,
 }
 
-// The fields of the first structure of a name, else of the first family. A name that nobody declares has none: its fields begin where the
-// stream ends.
-fn type_fields(stream: &[u8], pool: &[u8], index: &[u16], name: &[u8]) -> Body
-    ensures { λ r. ⌜ (Indexed (now (stream .entry)) (now (pool .entry)) (now (index .entry)) → typeFields (typesAt (now (stream .entry)) (now (pool .entry))) (now (name .entry)) ≡ bodyAt (r .family) (now (stream .entry)) (now (pool .entry)) (r .from .at)) ⌝ }
+// The fields of the first family of a name. A name that nobody declares has none: its fields begin where the stream ends.
+fn family_fields(stream: &[u8], pool: &[u8], index: &[u16], name: &[u8]) -> Body
+    ensures { λ r. ⌜ (Indexed (now (stream .entry)) (now (pool .entry)) (now (index .entry)) → Declared (now (stream .entry)) (now (pool .entry)) (now (index .entry)) 8 (now (name .entry)) Sought.Nowhere → IsBody (now (stream .entry)) (now (pool .entry)) (now (name .entry)) r) ⌝ }
 {
-    if let Sought::At(_, after) = find_declared(stream, pool, index, 8, name) {
-        return Body {
-            from: Cursor::place(after),
-            family: false,
-        };
-    }
     if let Sought::At(_, after) = find_declared(stream, pool, index, 9, name) {
         return Body {
             from: Cursor::place(after),
@@ -48,6 +39,19 @@ fn type_fields(stream: &[u8], pool: &[u8], index: &[u16], name: &[u8]) -> Body
     }
     Body {
         from: Cursor::place(stream.len()),
+        family: false,
+    }
+}
+
+// The fields of the first structure of a name, else of the first family.
+fn type_fields(stream: &[u8], pool: &[u8], index: &[u16], name: &[u8]) -> Body
+    ensures { λ r. ⌜ (Indexed (now (stream .entry)) (now (pool .entry)) (now (index .entry)) → IsBody (now (stream .entry)) (now (pool .entry)) (now (name .entry)) r) ⌝ }
+{
+    let Sought::At(_, after) = find_declared(stream, pool, index, 8, name) else {
+        return family_fields(stream, pool, index, name);
+    };
+    Body {
+        from: Cursor::place(after),
         family: false,
     }
 }
@@ -86,20 +90,40 @@ pub fn reference_at(stream: &[u8], pool: &[u8], place: usize) -> OptText
     referenced_type(pool, cut::from(stream, place))
 }
 
-// The name that the field at a place leads to: no structure with slot text.
-fn target_at(stream: &[u8], pool: &[u8], index: &[u16], place: usize) -> OptText
-    ensures { λ r. ⌜ (Indexed (now (stream .entry)) (now (pool .entry)) (now (index .entry)) → optOf (now (pool .entry)) r ≡ targetAt (now (stream .entry)) (now (pool .entry)) place) ⌝ }
-{
-    let OptText::Given(name) = reference_at(stream, pool, place) else {
-        return OptText::Absent;
-    };
-    if has_slot(stream, pool, index, bytes_of(pool, name)) {
-        return OptText::Absent;
-    }
-    OptText::Given(name)
+// What a reference leads to.
+enum Target {
+    Nothing,
+    Fields(Body),
 }
 
-// Visits a field that has no mark: marks it, and visits the type that it names.
+// The fields of the type of a name, unless it is a structure with slot text: one look-up tells both.
+fn enter(stream: &[u8], pool: &[u8], index: &[u16], name: &[u8]) -> Target
+    ensures { λ r. ⌜ (Indexed (now (stream .entry)) (now (pool .entry)) (now (index .entry)) → entering (now (stream .entry)) (now (pool .entry)) (now (name .entry)) r) ⌝ }
+{
+    let Sought::At(place, after) = find_declared(stream, pool, index, 8, name) else {
+        return Target::Fields(family_fields(stream, pool, index, name));
+    };
+    let slot = opt_text_at(cut::from(stream, place), 4);
+    if let OptText::Given(_) = slot {
+        return Target::Nothing;
+    }
+    Target::Fields(Body {
+        from: Cursor::place(after),
+        family: false,
+    })
+}
+
+// What the field at a place leads to.
+fn target_at(stream: &[u8], pool: &[u8], index: &[u16], place: usize) -> Target
+    ensures { λ r. ⌜ (Indexed (now (stream .entry)) (now (pool .entry)) (now (index .entry)) → leadsTo (now (stream .entry)) (now (pool .entry)) place r) ⌝ }
+{
+    let OptText::Given(name) = reference_at(stream, pool, place) else {
+        return Target::Nothing;
+    };
+    enter(stream, pool, index, bytes_of(pool, name))
+}
+
+// Visits a field that has no mark: marks it, and visits the type that it leads to.
 fn walk_field(stream: &[u8], pool: &[u8], index: &[u16], marks: &mut [u8], place: usize, mark: u8)
     requires { ⌜ Ready (now stream) (now marks) mark × (place < length (now stream)) ⌝ }
     ensures { λ _. ⌜ Led (now (stream .entry)) (now (pool .entry)) (now (index .entry)) (now (marks .entry)) (now (marks .exit)) (FieldWalked (now (stream .entry)) (now (pool .entry)) mark place (now (marks .entry)) (now (marks .exit))) ⌝ }
@@ -108,18 +132,17 @@ fn walk_field(stream: &[u8], pool: &[u8], index: &[u16], marks: &mut [u8], place
         return;
     }
     marks[place] = mark;
-    let OptText::Given(name) = target_at(stream, pool, index, place) else {
+    let Target::Fields(body) = target_at(stream, pool, index, place) else {
         return;
     };
-    walk_type(stream, pool, index, marks, bytes_of(pool, name), mark);
+    walk_type(stream, pool, index, marks, body, mark);
 }
 
 // Visits the fields of a type.
-fn walk_type(stream: &[u8], pool: &[u8], index: &[u16], marks: &mut [u8], name: &[u8], mark: u8)
+fn walk_type(stream: &[u8], pool: &[u8], index: &[u16], marks: &mut [u8], body: Body, mark: u8)
     requires { ⌜ Ready (now stream) (now marks) mark ⌝ }
-    ensures { λ _. ⌜ Led (now (stream .entry)) (now (pool .entry)) (now (index .entry)) (now (marks .entry)) (now (marks .exit)) (TypeWalked (now (stream .entry)) (now (pool .entry)) mark (now (name .entry)) (now (marks .entry)) (now (marks .exit))) ⌝ }
+    ensures { λ _. ⌜ Led (now (stream .entry)) (now (pool .entry)) (now (index .entry)) (now (marks .entry)) (now (marks .exit)) (BodyWalked (now (stream .entry)) (now (pool .entry)) mark body (now (marks .entry)) (now (marks .exit))) ⌝ }
 {
-    let body = type_fields(stream, pool, index, name);
     let family = body.family;
     let mut cursor = body.from;
     loop {
@@ -158,7 +181,8 @@ fn mark_root(
         return;
     };
     let name = e.name;
-    walk_type(stream, pool, index, marks, bytes_of(pool, name), mark);
+    let body = type_fields(stream, pool, index, bytes_of(pool, name));
+    walk_type(stream, pool, index, marks, body, mark);
 }
 
 // Marks each field that a root leads to by the number of the first such root.

@@ -1,9 +1,9 @@
 use borrow.Author.Needs.{needs}
 use Prim.Native.Nat.{ℕ, _+_, _*_, _-_, _<_}
 use lib.ListN.{length, length-set}
-use Rattle.record.specs.Marks.{bodyAt, unseen, Led}
+use Rattle.record.specs.Marks.{unseen, Led}
 use Rattle.record.proofs.PlaceLaws.{places-nearer}
-use Rattle.record.proofs.MarkLaws.{field-laws, field-less, field-ready, field-length, Going, going-length, going-less, going-ready, place-inside, type-starts, type-ends, type-goes}
+use Rattle.record.proofs.MarkLaws.{field-laws, field-less, field-ready, field-length, BodyGoing, going-length, going-less, going-ready, place-inside, type-starts, type-ends, type-goes}
 use borrow.Fn.Kinds.{In}
 use borrow.Fn.PlainCycle.{Measures, is, falls, and}
 use Rattle.record.proofs.marks.walk_field.Reads as walk-field
@@ -14,15 +14,13 @@ use Rattle.record.proofs.marks.walk_type.Kinds as walk-type-kinds
 use Rattle.record.proofs.marks.+walk_field+walk_type.Lts-walk_type as walk-type-lts
 use Rattle.record.proofs.marks.next_place.Reads as next-place-reads
 use Rattle.record.proofs.marks.target_at.Reads as target-at-reads
-use Rattle.record.proofs.marks.type_fields.Reads as type-fields-reads
-use Rattle.record.proofs.text.bytes_of.Reads as bytes-of-reads
 use Rattle.record.proofs.marks.+walk_field+walk_type.{statement}
 use Rattle.record.proofs.marks.+walk_field+walk_type.Tie.{close}
 
 abbrev μ-walk-field : Measures 4 walk-field-kinds.ps ℕ
 μ-walk-field κs a = 2 * unseen (a .1 .1 .1 .0 .now)
 
-abbrev μ-walk-type : Measures 5 walk-type-kinds.ps ℕ
+abbrev μ-walk-type : Measures 4 walk-type-kinds.ps ℕ
 μ-walk-type κs a = 2 * unseen (a .1 .1 .1 .0 .now) + 1
 
 abbrev walk-field-at : ℕ → In 4 walk-field-kinds.ps
@@ -33,166 +31,120 @@ abbrev walk-field-below : ℕ → In 4 walk-field-kinds.ps
 walk-field-below t =
     and 4 walk-field-kinds.ps (falls 4 walk-field-kinds.ps _<_ μ-walk-field t) walk-field.Pre
 
-abbrev walk-type-at : ℕ → In 5 walk-type-kinds.ps
-walk-type-at t = and 5 walk-type-kinds.ps (is 5 walk-type-kinds.ps μ-walk-type t) walk-type.Pre
+abbrev walk-type-at : ℕ → In 4 walk-type-kinds.ps
+walk-type-at t = and 4 walk-type-kinds.ps (is 4 walk-type-kinds.ps μ-walk-type t) walk-type.Pre
 
-abbrev walk-type-below : ℕ → In 5 walk-type-kinds.ps
+abbrev walk-type-below : ℕ → In 4 walk-type-kinds.ps
 walk-type-below t =
-    and 5 walk-type-kinds.ps (falls 5 walk-type-kinds.ps _<_ μ-walk-type t) walk-type.Pre
+    and 4 walk-type-kinds.ps (falls 4 walk-type-kinds.ps _<_ μ-walk-type t) walk-type.Pre
 
--- src/marks.rt:122:8
+-- src/marks.rt:131:8
 walk-field-slice-read-if1 : (t : ℕ) → walk-field-lts.Need-slice-read-if1 (
   target-at-reads.Asked,
   target-at-reads.Learnt,
-  bytes-of-reads.Asked,
-  bytes-of-reads.Learnt,
   walk-type-below t,
   walk-type.Post,
 ) (walk-field-at t) walk-field.Post
 walk-field-slice-read-if1 t c = search needs
 
--- src/marks.rt:123:9
+-- src/marks.rt:132:9
 walk-field-returns : (t : ℕ) → walk-field-lts.Need-returns (
   target-at-reads.Asked,
   target-at-reads.Learnt,
-  bytes-of-reads.Asked,
-  bytes-of-reads.Learnt,
   walk-type-below t,
   walk-type.Post,
 ) (walk-field-at t) walk-field.Post
 walk-field-returns t c = search field-laws
 
--- src/marks.rt:125:5
+-- src/marks.rt:134:5
 walk-field-slice-write-marks : (t : ℕ) → walk-field-lts.Need-slice-write-marks (
   target-at-reads.Asked,
   target-at-reads.Learnt,
-  bytes-of-reads.Asked,
-  bytes-of-reads.Learnt,
   walk-type-below t,
   walk-type.Post,
 ) (walk-field-at t) walk-field.Post
 walk-field-slice-write-marks t c = search needs
 
--- src/marks.rt:126:32
+-- src/marks.rt:135:32
 walk-field-target-at-requires : (t : ℕ) → walk-field-lts.Need-target-at-requires (
   target-at-reads.Asked,
   target-at-reads.Learnt,
-  bytes-of-reads.Asked,
-  bytes-of-reads.Learnt,
   walk-type-below t,
   walk-type.Post,
 ) (walk-field-at t) walk-field.Post
 walk-field-target-at-requires t c κs = search needs
 
--- src/marks.rt:126:24
-walk-field-enum-known-name : (t : ℕ) → walk-field-lts.Need-enum-known-name (
+-- src/marks.rt:135:24
+walk-field-enum-known-body : (t : ℕ) → walk-field-lts.Need-enum-known-body (
   target-at-reads.Asked,
   target-at-reads.Learnt,
-  bytes-of-reads.Asked,
-  bytes-of-reads.Learnt,
   walk-type-below t,
   walk-type.Post,
 ) (walk-field-at t) walk-field.Post
-walk-field-enum-known-name t c = search needs
+walk-field-enum-known-body t c = search needs
 
--- src/marks.rt:127:9
+-- src/marks.rt:136:9
 walk-field-enum-told : (t : ℕ) → walk-field-lts.Need-enum-told (
   target-at-reads.Asked,
   target-at-reads.Learnt,
-  bytes-of-reads.Asked,
-  bytes-of-reads.Learnt,
   walk-type-below t,
   walk-type.Post,
 ) (walk-field-at t) walk-field.Post
 walk-field-enum-told t c = search needs
 
--- src/marks.rt:127:9
+-- src/marks.rt:136:9
 walk-field-same-length : (t : ℕ) → walk-field-lts.Need-same-length (
   target-at-reads.Asked,
   target-at-reads.Learnt,
-  bytes-of-reads.Asked,
-  bytes-of-reads.Learnt,
   walk-type-below t,
   walk-type.Post,
 ) (walk-field-at t) walk-field.Post
 walk-field-same-length t c = simp length-set
 
--- src/marks.rt:127:9
+-- src/marks.rt:136:9
 walk-field-returns-2 : (t : ℕ) → walk-field-lts.Need-returns-2 (
   target-at-reads.Asked,
   target-at-reads.Learnt,
-  bytes-of-reads.Asked,
-  bytes-of-reads.Learnt,
   walk-type-below t,
   walk-type.Post,
 ) (walk-field-at t) walk-field.Post
 walk-field-returns-2 t c = search field-laws
 
--- src/marks.rt:129:36
-walk-field-bytes-of-requires : (t : ℕ) → walk-field-lts.Need-bytes-of-requires (
-  target-at-reads.Asked,
-  target-at-reads.Learnt,
-  bytes-of-reads.Asked,
-  bytes-of-reads.Learnt,
-  walk-type-below t,
-  walk-type.Post,
-) (walk-field-at t) walk-field.Post
-walk-field-bytes-of-requires t c κs = search needs
-
--- src/marks.rt:129:5
+-- src/marks.rt:138:5
 walk-field-walk-type-requires : (t : ℕ) → walk-field-lts.Need-walk-type-requires (
   target-at-reads.Asked,
   target-at-reads.Learnt,
-  bytes-of-reads.Asked,
-  bytes-of-reads.Learnt,
   walk-type-below t,
   walk-type.Post,
 ) (walk-field-at t) walk-field.Post
 walk-field-walk-type-requires t c κs = (search field-less, search field-ready)
 
--- src/marks.rt:118:1
+-- src/marks.rt:127:1
 walk-field-same-length-2 : (t : ℕ) → walk-field-lts.Need-same-length-2 (
   target-at-reads.Asked,
   target-at-reads.Learnt,
-  bytes-of-reads.Asked,
-  bytes-of-reads.Learnt,
   walk-type-below t,
   walk-type.Post,
 ) (walk-field-at t) walk-field.Post
 walk-field-same-length-2 t c = search field-length
 
--- src/marks.rt:118:1
+-- src/marks.rt:127:1
 walk-field-returns-3 : (t : ℕ) → walk-field-lts.Need-returns-3 (
   target-at-reads.Asked,
   target-at-reads.Learnt,
-  bytes-of-reads.Asked,
-  bytes-of-reads.Learnt,
   walk-type-below t,
   walk-type.Post,
 ) (walk-field-at t) walk-field.Post
 walk-field-returns-3 t c = search field-laws
 
 abbrev walk-type-Inv-loop : walk-type-lts.InvT-loop
-walk-type-Inv-loop stream pool index marks₀ name mark family cursor₀ marks cursor = Led stream pool index marks₀ marks (Going stream pool mark name marks₀ marks (bodyAt family stream pool (cursor .at)))
+walk-type-Inv-loop stream pool index marks₀ mark family cursor₀ marks cursor = Led stream pool index marks₀ marks (BodyGoing stream pool mark (record { from = cursor₀; family = family }) family marks₀ marks (cursor .at))
 
 abbrev walk-type-μ-loop : walk-type-lts.MeasureT-loop
-walk-type-μ-loop stream pool index marks₀ name mark family cursor₀ marks cursor = length stream - cursor .at
+walk-type-μ-loop stream pool index marks₀ mark family cursor₀ marks cursor = length stream - cursor .at
 
--- src/marks.rt:137:9
-walk-type-type-fields-requires : (t : ℕ) → walk-type-lts.Need-type-fields-requires (
-  type-fields-reads.Asked,
-  type-fields-reads.Learnt,
-  next-place-reads.Asked,
-  next-place-reads.Learnt,
-  walk-field-below t,
-  walk-field.Post,
-) (walk-type-at t) walk-type.Post walk-type-Inv-loop walk-type-μ-loop
-walk-type-type-fields-requires t c κs = search needs
-
--- src/marks.rt:140:5
+-- src/marks.rt:148:5
 walk-type-loop-holds : (t : ℕ) → walk-type-lts.Need-loop-holds (
-  type-fields-reads.Asked,
-  type-fields-reads.Learnt,
   next-place-reads.Asked,
   next-place-reads.Learnt,
   walk-field-below t,
@@ -200,10 +152,8 @@ walk-type-loop-holds : (t : ℕ) → walk-type-lts.Need-loop-holds (
 ) (walk-type-at t) walk-type.Post walk-type-Inv-loop walk-type-μ-loop
 walk-type-loop-holds t c = search type-starts
 
--- src/marks.rt:141:47
+-- src/marks.rt:149:47
 walk-type-next-place-requires : (t : ℕ) → walk-type-lts.Need-next-place-requires (
-  type-fields-reads.Asked,
-  type-fields-reads.Learnt,
   next-place-reads.Asked,
   next-place-reads.Learnt,
   walk-field-below t,
@@ -211,10 +161,8 @@ walk-type-next-place-requires : (t : ℕ) → walk-type-lts.Need-next-place-requ
 ) (walk-type-at t) walk-type.Post walk-type-Inv-loop walk-type-μ-loop
 walk-type-next-place-requires t c κs = search needs
 
--- src/marks.rt:141:31
+-- src/marks.rt:149:31
 walk-type-enum-known-place : (t : ℕ) → walk-type-lts.Need-enum-known-place (
-  type-fields-reads.Asked,
-  type-fields-reads.Learnt,
   next-place-reads.Asked,
   next-place-reads.Learnt,
   walk-field-below t,
@@ -222,10 +170,8 @@ walk-type-enum-known-place : (t : ℕ) → walk-type-lts.Need-enum-known-place (
 ) (walk-type-at t) walk-type.Post walk-type-Inv-loop walk-type-μ-loop
 walk-type-enum-known-place t c = search needs
 
--- src/marks.rt:142:13
+-- src/marks.rt:150:13
 walk-type-enum-told : (t : ℕ) → walk-type-lts.Need-enum-told (
-  type-fields-reads.Asked,
-  type-fields-reads.Learnt,
   next-place-reads.Asked,
   next-place-reads.Learnt,
   walk-field-below t,
@@ -233,10 +179,8 @@ walk-type-enum-told : (t : ℕ) → walk-type-lts.Need-enum-told (
 ) (walk-type-at t) walk-type.Post walk-type-Inv-loop walk-type-μ-loop
 walk-type-enum-told t c = search needs
 
--- src/marks.rt:142:13
+-- src/marks.rt:150:13
 walk-type-same-length : (t : ℕ) → walk-type-lts.Need-same-length (
-  type-fields-reads.Asked,
-  type-fields-reads.Learnt,
   next-place-reads.Asked,
   next-place-reads.Learnt,
   walk-field-below t,
@@ -244,10 +188,8 @@ walk-type-same-length : (t : ℕ) → walk-type-lts.Need-same-length (
 ) (walk-type-at t) walk-type.Post walk-type-Inv-loop walk-type-μ-loop
 walk-type-same-length t c = search going-length
 
--- src/marks.rt:142:13
+-- src/marks.rt:150:13
 walk-type-returns : (t : ℕ) → walk-type-lts.Need-returns (
-  type-fields-reads.Asked,
-  type-fields-reads.Learnt,
   next-place-reads.Asked,
   next-place-reads.Learnt,
   walk-field-below t,
@@ -255,10 +197,8 @@ walk-type-returns : (t : ℕ) → walk-type-lts.Need-returns (
 ) (walk-type-at t) walk-type.Post walk-type-Inv-loop walk-type-μ-loop
 walk-type-returns t c = search type-ends
 
--- src/marks.rt:144:9
+-- src/marks.rt:152:9
 walk-type-walk-field-requires : (t : ℕ) → walk-type-lts.Need-walk-field-requires (
-  type-fields-reads.Asked,
-  type-fields-reads.Learnt,
   next-place-reads.Asked,
   next-place-reads.Learnt,
   walk-field-below t,
@@ -266,10 +206,8 @@ walk-type-walk-field-requires : (t : ℕ) → walk-type-lts.Need-walk-field-requ
 ) (walk-type-at t) walk-type.Post walk-type-Inv-loop walk-type-μ-loop
 walk-type-walk-field-requires t c κs = (search going-less, (search going-ready, search place-inside))
 
--- src/marks.rt:140:5
+-- src/marks.rt:148:5
 walk-type-loop-less : (t : ℕ) → walk-type-lts.Need-loop-less (
-  type-fields-reads.Asked,
-  type-fields-reads.Learnt,
   next-place-reads.Asked,
   next-place-reads.Learnt,
   walk-field-below t,
@@ -277,10 +215,8 @@ walk-type-loop-less : (t : ℕ) → walk-type-lts.Need-loop-less (
 ) (walk-type-at t) walk-type.Post walk-type-Inv-loop walk-type-μ-loop
 walk-type-loop-less t c = search places-nearer
 
--- src/marks.rt:140:5
+-- src/marks.rt:148:5
 walk-type-loop-again : (t : ℕ) → walk-type-lts.Need-loop-again (
-  type-fields-reads.Asked,
-  type-fields-reads.Learnt,
   next-place-reads.Asked,
   next-place-reads.Learnt,
   walk-field-below t,
@@ -292,8 +228,6 @@ pub +walk-field+walk-type-spec : {M : Type 1} → statement M
 +walk-field+walk-type-spec = close μ-walk-field μ-walk-type (λ t. walk-field-lts.spec (
   target-at-reads.Asked,
   target-at-reads.Learnt,
-  bytes-of-reads.Asked,
-  bytes-of-reads.Learnt,
   walk-type-below t,
   walk-type.Post,
 )
@@ -303,27 +237,19 @@ pub +walk-field+walk-type-spec : {M : Type 1} → statement M
     (walk-field-returns t)
     (walk-field-slice-write-marks t)
     (walk-field-target-at-requires t)
-    (walk-field-enum-known-name t)
+    (walk-field-enum-known-body t)
     (walk-field-enum-told t)
     (walk-field-same-length t)
     (walk-field-returns-2 t)
-    (walk-field-bytes-of-requires t)
     (walk-field-walk-type-requires t)
     (walk-field-same-length-2 t)
     (walk-field-returns-3 t))
-    λ t. walk-type-lts.spec (
-      type-fields-reads.Asked,
-      type-fields-reads.Learnt,
-      next-place-reads.Asked,
-      next-place-reads.Learnt,
-      walk-field-below t,
-      walk-field.Post,
-    )
+    λ t. walk-type-lts.spec
+    (next-place-reads.Asked, next-place-reads.Learnt, walk-field-below t, walk-field.Post)
     (walk-type-at t)
     walk-type.Post
     walk-type-Inv-loop
     walk-type-μ-loop
-    (walk-type-type-fields-requires t)
     (walk-type-loop-holds t)
     (walk-type-next-place-requires t)
     (walk-type-enum-known-place t)
