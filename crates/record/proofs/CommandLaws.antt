@@ -9,6 +9,7 @@ use lib.Seq.{take-all}
 use borrow.Author.Tests.{ne-eqb, lt-ltb, le-ltb}
 use Rattle.record.specs.Le.{u16At, u32At, u8-past, u16-past}
 use Rattle.record.specs.declared.text.Text.{Text}
+use Rattle.record.specs.declared.operands.OptText.{OptText}
 use Rattle.record.specs.declared.operands.OptText.the-variants.{Absent, Given}
 use Rattle.record.specs.declared.operands.OptNumber.the-variants.{Missing, Number}
 use Rattle.record.specs.declared.command.Command.{Command}
@@ -30,17 +31,9 @@ module _ (s : List ℕ) (at : ℕ) where
   pub text-past : length s ≤ at → _≡_ {A = Text} (record { start = 0; len = 0 }) (textAt s at)
   text-past h = text-here 0 0 (sym (u16-past s at h)) (sym (u8-past s (at + 2) (omega arith)))
 
-  pub opt-absent : (t : Text) → t ≡ textAt s at → t .start ≡ 65535 → t .len ≡ 0 → Absent ≡ optTextAt s at
-  unfolding optTextAt optText
-  opt-absent t e p q = rw (← e, p, q)
-
-  pub opt-long : (t : Text) → t ≡ textAt s at → t .start ≡ 65535 → (t .len ≡ 0 → ⊥) → Given t ≡ optTextAt s at
-  unfolding optTextAt optText
-  opt-long t e p q = rw (← e, p, ne-eqb (t .len) 0 q)
-
-  pub opt-given : (t : Text) → t ≡ textAt s at → (t .start ≡ 65535 → ⊥) → Given t ≡ optTextAt s at
-  unfolding optTextAt optText
-  opt-given t e p = rw (← e, ne-eqb (t .start) 65535 p)
+  pub opt-read : (t : Text) (r : OptText) → t ≡ textAt s at → r ≡ optText t → r ≡ optTextAt s at
+  unfolding optTextAt
+  opt-read t r e f = rw (f, e)
 
   pub number-here : (b n : ℕ) → b ≡ getD s at 0 → (b ≡ 0 → ⊥) → n ≡ u32At s (at + 1) → Number n ≡ optNumberAt s at
   unfolding optNumberAt
@@ -54,7 +47,22 @@ module _ (s : List ℕ) (at : ℕ) where
   unfolding optNumberAt
   number-past h = rw (u8-past s at h)
 
-pub ruleset operand-laws = (text-here, text-whole, text-past, opt-absent, opt-long, opt-given, number-here, number-none, number-past)
+pub ruleset operand-laws = (text-here, text-whole, text-past, opt-read, number-here, number-none, number-past)
+
+module _ (t : Text) where
+  pub opt-absent : t .start ≡ 65535 → t .len ≡ 0 → Absent ≡ optText t
+  unfolding optText
+  opt-absent p q = rw (p, q)
+
+  pub opt-long : t .start ≡ 65535 → (t .len ≡ 0 → ⊥) → Given t ≡ optText t
+  unfolding optText
+  opt-long p q = rw (p, ne-eqb (t .len) 0 q)
+
+  pub opt-given : (t .start ≡ 65535 → ⊥) → Given t ≡ optText t
+  unfolding optText
+  opt-given p = rw (ne-eqb (t .start) 65535 p)
+
+pub ruleset opt-text-laws = (opt-absent, opt-long, opt-given)
 
 -- a number that is none of the commands'
 pub none-operands : (b : ℕ) → (b ≡ 1 → ⊥) → (b ≡ 2 → ⊥) → (b ≡ 3 → ⊥) → (b ≡ 4 → ⊥) → (b ≡ 5 → ⊥) → (b ≡ 6 → ⊥) → (b ≡ 7 → ⊥) → (b ≡ 8 → ⊥) → (b ≡ 9 → ⊥) → (b ≡ 10 → ⊥) → (b ≡ 11 → ⊥) → (b ≡ 12 → ⊥) → (b ≡ 13 → ⊥) → (b ≡ 14 → ⊥) → (b ≡ 15 → ⊥) → operands b ≡ none

@@ -10,7 +10,7 @@ use lib.Seq.{take-all}
 use lib.Dec.{eqb, ltb}
 use borrow.Author.Tests.{eq-eqb, ne-eqb, lt-ltb, le-ltb, le-leb, lt-leb}
 use Rattle.record.specs.Base.{Str}
-use Rattle.record.specs.Operands.{flagAt, optTextAt}
+use Rattle.record.specs.Operands.{textAt, flagAt, optText}
 use Rattle.record.specs.Commands.{operands, wide, widthWith, widthOf, commandOf}
 use Rattle.record.specs.Judge.{worseOf, ifAbsent, textFault, flagFault, operandFault, faultsFrom, faultsOf, follows, mayStand, rowOf, rowAt, parentAfter, ready, faulted, judgedWith, judgedAs, judgedAt}
 use Rattle.record.specs.declared.text.Text.{Text}
@@ -28,7 +28,7 @@ use Rattle.record.specs.declared.judge.Fault.the-variants.{Fine, Outside
 use Rattle.record.specs.declared.judge.Row.{Row}
 use Rattle.record.specs.declared.judge.Judged.{Judged}
 use Rattle.record.specs.declared.judge.Judged.the-variants.{Next, Done, Refused}
-use Rattle.record.proofs.CommandLaws.{none-operands, none-width}
+use Rattle.record.proofs.CommandLaws.{opt-read, none-operands, none-width}
 
 -- an absent text, by the operand's letter
 module _ (side : Side) (x : Str) (o : ℕ) where
@@ -80,6 +80,20 @@ flag-high b h = rw (le-ltb b 2 h)
 
 pub ruleset flag-laws = (flag-low, flag-high)
 
+-- the bytes of an operand are there
+module _ (o i n : ℕ) (h : i + wide o ≤ n) where
+  pub flag-there : o ≡ 70 → i < n
+  unfolding wide
+  flag-there e = let w : wide o ≡ 1 = rw e in omega arith
+
+  pub number-there : o ≡ 78 → i < n
+  unfolding wide
+  number-there e = let w : wide o ≡ 5 = rw e in omega arith
+
+  pub text-there : (o ≡ 70 → ⊥) → (o ≡ 78 → ⊥) → (o ≡ 87 → ⊥) → (o ≡ 86 → ⊥) → i + 3 ≤ n
+  unfolding wide
+  text-there a b c d = let w : wide o ≡ 3 = rw (ne-eqb o 70 a, ne-eqb o 87 c, ne-eqb o 86 d, ne-eqb o 78 b) in omega arith
+
 -- an operand, by its letter
 module _ (side : Side) (n : ℕ) (x : Str) (i o : ℕ) where
   pub operand-flag : (b : ℕ) (r : Fault) → o ≡ 70 → b ≡ getD x i 0 → r ≡ flagFault b → r ≡ operandFault side n x i o
@@ -98,9 +112,9 @@ module _ (side : Side) (n : ℕ) (x : Str) (i o : ℕ) where
   unfolding operandFault
   operand-eight e = rw e
 
-  pub operand-text : (a : Fault) (t : OptText) (r : Fault) → (o ≡ 70 → ⊥) → (o ≡ 78 → ⊥) → (o ≡ 87 → ⊥) → (o ≡ 86 → ⊥) → a ≡ ifAbsent side x o → t ≡ optTextAt x i → r ≡ textFault n a t → r ≡ operandFault side n x i o
+  pub operand-text : (a : Fault) (w : Text) (t : OptText) (r : Fault) → (o ≡ 70 → ⊥) → (o ≡ 78 → ⊥) → (o ≡ 87 → ⊥) → (o ≡ 86 → ⊥) → a ≡ ifAbsent side x o → w ≡ textAt x i → t ≡ optText w → r ≡ textFault n a t → r ≡ operandFault side n x i o
   unfolding operandFault
-  operand-text a t r f m w v e h g = rw (ne-eqb o 70 f, ne-eqb o 78 m, ne-eqb o 87 w, ne-eqb o 86 v, ← e, ← h) g
+  operand-text a w t r f m w4 v e k h g = rw (ne-eqb o 70 f, ne-eqb o 78 m, ne-eqb o 87 w4, ne-eqb o 86 v, ← e, ← opt-read x i w t k h) g
 
 pub ruleset operand-fault-laws = (operand-flag, operand-number, operand-four, operand-eight, operand-text)
 
@@ -133,6 +147,10 @@ module _ (side : Side) (n : ℕ) (x : Str) (i : ℕ) where
   unfolding faultsFrom operandFault
   operand-word r e = e ∙ sym (worse-fine (operandFault side n x i 84))
 
+-- so many bytes are there as the command of a number takes
+pub command-there : (k w b n : ℕ) → widthOf k ≡ w → b ≡ k → widthOf b ≤ n → w ≤ n
+command-there k w b n e h l = let q : widthOf b ≡ w = ap widthOf h ∙ e in omega arith
+
 pub faults-unknown : (side : Side) (n : ℕ) (x : Str) (b : ℕ) → (b ≡ 1 → ⊥) → (b ≡ 2 → ⊥) → (b ≡ 3 → ⊥) → (b ≡ 4 → ⊥) → (b ≡ 5 → ⊥) → (b ≡ 6 → ⊥) → (b ≡ 7 → ⊥) → (b ≡ 8 → ⊥) → (b ≡ 9 → ⊥) → (b ≡ 10 → ⊥) → (b ≡ 11 → ⊥) → (b ≡ 12 → ⊥) → (b ≡ 13 → ⊥) → (b ≡ 14 → ⊥) → (b ≡ 15 → ⊥) → Fine ≡ faultsOf side n x (operands b)
 unfolding faultsOf
 faults-unknown side n x b h1 h2 h3 h4 h5 h6 h7 h8 h9 h10 h11 h12 h13 h14 h15 = rw (none-operands b h1 h2 h3 h4 h5 h6 h7 h8 h9 h10 h11 h12 h13 h14 h15)
@@ -158,6 +176,10 @@ module _ (c : Cursor) (b : ℕ) where
   pub row-other : (t : Bool) (r : Row) → (b ≡ 1 → ⊥) → (b ≡ 2 → ⊥) → (b ≡ 3 → ⊥) → (b ≡ 4 → ⊥) → (b ≡ 5 → ⊥) → (b ≡ 6 → ⊥) → (b ≡ 7 → ⊥) → (b ≡ 8 → ⊥) → (b ≡ 9 → ⊥) → (b ≡ 10 → ⊥) → (b ≡ 11 → ⊥) → (b ≡ 12 → ⊥) → (b ≡ 13 → ⊥) → (b ≡ 14 → ⊥) → (b ≡ 15 → ⊥) → t ≡ not (eqb (c .last) 0) → r ≡ rowOf 0 t → r ≡ rowAt c b
   unfolding rowAt mayStand
   row-other t r h1 h2 h3 h4 h5 h6 h7 h8 h9 h10 h11 h12 h13 h14 h15 et er = rw (er, et, ← none-width b h1 h2 h3 h4 h5 h6 h7 h8 h9 h10 h11 h12 h13 h14 h15, ne-eqb b 1 h1, ne-eqb b 5 h5, ne-eqb b 7 h7, ne-eqb b 10 h10, ne-eqb b 11 h11, ne-eqb b 12 h12)
+
+pub row-width : (c : Cursor) (b : ℕ) (r : Row) → r ≡ rowAt c b → r .width ≡ widthOf b
+unfolding rowAt
+row-width c b r e = ap (λ (q : Row). q .width) e
 
 module _ (p : Parent) (b : ℕ) where
   pub after-struct : b ≡ 8 → InStruct ≡ parentAfter p b
@@ -239,8 +261,8 @@ module _ (side : Side) (s : Str) (n : ℕ) (c : Cursor) where
 
   module _ (h : c .at < length s) (q : Row) (e : q ≡ rowAt c (getD s (c .at) 0)) where
     width-is : q .width ≡ widthWith (operands (getD s (c .at) 0))
-    unfolding rowAt widthOf
-    width-is = ap (λ (r : Row). r .width) e
+    unfolding widthOf
+    width-is = row-width c (getD s (c .at) 0) q e
 
     pub judged-unknown : q .width ≡ 0 → Refused R.Unknown (c .at) ≡ judgedAt side s n c
     unfolding judgedAt

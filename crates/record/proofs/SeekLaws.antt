@@ -33,22 +33,28 @@ module _ (s : List ℕ) (at : ℕ) where
   pub after-end : length s ≤ at → 0 ≡ afterAt s at
   after-end h = stopped (step-end s at h)
 
-  module _ (h : at < length s) where
-    pub after-last : getD s at 0 ≡ 15 → 0 ≡ afterAt s at
-    after-last e = stopped (step-last s at h e)
+  module _ (h : at < length s) (y : ℕ) (i : y ≡ getD s at 0) where
+    pub after-last : y ≡ 15 → 0 ≡ afterAt s at
+    after-last e = stopped (step-last s at h (sym i ∙ e))
 
-    module _ (l : getD s at 0 ≡ 15 → ⊥) (w : ℕ) (e : w ≡ widthOf (getD s at 0)) where
+    module _ (l : y ≡ 15 → ⊥) (w : ℕ) (e : w ≡ widthOf y) where
+      other : getD s at 0 ≡ 15 → ⊥
+      other q = l (i ∙ q)
+
+      width-is : w ≡ widthOf (getD s at 0)
+      width-is = e ∙ ap widthOf i
+
       pub after-unknown : w ≡ 0 → 0 ≡ afterAt s at
-      after-unknown z = stopped (step-unknown s at h l w e z)
+      after-unknown z = stopped (step-unknown s at h other w width-is z)
 
       pub after-cut : (w ≡ 0 → ⊥) → length s - at < w → 0 ≡ afterAt s at
-      after-cut z k = stopped (step-cut s at h l w e z k)
+      after-cut z k = stopped (step-cut s at h other w width-is z k)
 
       pub after-next : (w ≡ 0 → ⊥) → w ≤ length s - at → at + w ≡ afterAt s at
       unfolding afterAt
-      after-next z k = rw (afterAt, ← step-next s at h l w e _ z k refl)
+      after-next z k = rw (afterAt, ← step-next s at h other w width-is _ z k refl)
 
-pub ruleset after-laws = (after-end, after-last, after-unknown, after-cut, after-next)
+pub ruleset after-laws = (after-last, after-unknown, after-cut, after-next)
 
 -- what the place after a command says of the step there
 pub record Stepped (s : List ℕ) (at n : ℕ) : Type 0 where
@@ -149,7 +155,10 @@ module _ (s : Str) (o : Between) (b a at n : ℕ) (p : Passing s o b a at) (e : 
             later = λ x m. p .later x (commands-later s at (t .command) (t .cursor) (t .step) x (subst (λ (k : ℕ). List·Memᴰ x (commandsAt s k)) (sym to) m));
           }
 
-pub ruleset seek-laws = (seek-end, seek-hit, seek-stop, seek-on)
+pub seek-past : (s : Str) (o : Between) (b a at : ℕ) → Passing s o b a at → length s ≤ at → SoughtFrom s o b a Nowhere
+seek-past s o b a at p h = seek-end s o b a at 0 p (after-end s at h) refl
+
+pub ruleset seek-laws = (seek-past, seek-end, seek-hit, seek-stop, seek-on)
 
 module _ (o : Between) (y : ℕ) where
   pub over-keys : o ≡ Keys → eqb y 12 ≡ overOf o y

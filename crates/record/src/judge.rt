@@ -3,10 +3,10 @@ use crate::command::Command;
 use crate::command::Cursor;
 use crate::command::Parent;
 use crate::command::command_of;
-use crate::le::byte_at;
 use crate::operands::OptText;
 use crate::operands::flag_at;
-use crate::operands::opt_text_at;
+use crate::operands::opt_text;
+use crate::operands::whole_text;
 use crate::refusal::Refusal;
 use crate::refusal::Side;
 ghost use mathlib.Core.Path.{_≡_};
@@ -15,7 +15,7 @@ ghost use lib.ListN.{length, drop};
 ghost use lib.Dec.{eqb};
 ghost use mathlib.Core.Bool.{not};
 ghost use Rattle.record.specs.Base.{bytes};
-ghost use Rattle.record.specs.Commands.{operands};
+ghost use Rattle.record.specs.Commands.{operands, wide, widthOf};
 ghost use Rattle.record.specs.Judge.{worseOf, ifAbsent, textFault, flagFault, operandFault, faultsFrom, faultsOf, parentAfter, follows, isOpen, inFamily, rowOf, rowAt, ready, faulted, judgedAt};
 
 // The least refusal among a command's operands, 4 before 5 before 6.
@@ -103,21 +103,23 @@ fn flag_fault(flag: u8) -> Fault
     if flag < 2 { Fault::Fine } else { Fault::Flag }
 }
 
-// The fault of the operand at a place of the command's bytes.
+// The fault of the operand at a place of the command's bytes, which are all there: its bytes are read without a test of the length.
 fn operand_fault(side: Side, n: usize, s: &[u8], at: usize, operand: u8) -> Fault
+    requires { ⌜ at + wide operand ≤ length (now s) ⌝ }
     ensures { λ r. ⌜ r ≡ operandFault side n (now (s .entry)) at operand ⌝ }
 {
     match operand {
-        b'F' => flag_fault(byte_at(s, at)),
-        b'N' => flag_fault(byte_at(s, at)),
+        b'F' => flag_fault(s[at]),
+        b'N' => flag_fault(s[at]),
         b'W' => Fault::Fine,
         b'V' => Fault::Fine,
-        _ => text_fault(n, if_absent(side, s, operand), opt_text_at(s, at)),
+        _ => text_fault(n, if_absent(side, s, operand), opt_text(whole_text(s, at))),
     }
 }
 
 // The fault of the operands of each command, one after the other: a loop over their letters would test every letter at every command.
 fn head_faults(side: Side, n: usize, s: &[u8]) -> Fault
+    requires { ⌜ 5 ≤ length (now s) ⌝ }
     ensures { λ r. ⌜ r ≡ faultsFrom side n (now (s .entry)) 1 (bytes "!F") ⌝ }
 {
     worse(
@@ -127,6 +129,7 @@ fn head_faults(side: Side, n: usize, s: &[u8]) -> Fault
 }
 
 fn constant_faults(side: Side, n: usize, s: &[u8]) -> Fault
+    requires { ⌜ 20 ≤ length (now s) ⌝ }
     ensures { λ r. ⌜ r ≡ faultsFrom side n (now (s .entry)) 1 (bytes "TFV?FO") ⌝ }
 {
     worse(
@@ -145,6 +148,7 @@ fn constant_faults(side: Side, n: usize, s: &[u8]) -> Fault
 }
 
 fn alias_faults(side: Side, n: usize, s: &[u8]) -> Fault
+    requires { ⌜ 7 ≤ length (now s) ⌝ }
     ensures { λ r. ⌜ r ≡ faultsFrom side n (now (s .entry)) 1 (bytes "TT") ⌝ }
 {
     worse(
@@ -154,6 +158,7 @@ fn alias_faults(side: Side, n: usize, s: &[u8]) -> Fault
 }
 
 fn enum_faults(side: Side, n: usize, s: &[u8]) -> Fault
+    requires { ⌜ 12 ≤ length (now s) ⌝ }
     ensures { λ r. ⌜ r ≡ faultsFrom side n (now (s .entry)) 1 (bytes "TWFO") ⌝ }
 {
     worse(
@@ -166,6 +171,7 @@ fn enum_faults(side: Side, n: usize, s: &[u8]) -> Fault
 }
 
 fn value_faults(side: Side, n: usize, s: &[u8]) -> Fault
+    requires { ⌜ 15 ≤ length (now s) ⌝ }
     ensures { λ r. ⌜ r ≡ faultsFrom side n (now (s .entry)) 1 (bytes "TVO") ⌝ }
 {
     worse(
@@ -175,6 +181,7 @@ fn value_faults(side: Side, n: usize, s: &[u8]) -> Fault
 }
 
 fn bitfield_faults(side: Side, n: usize, s: &[u8]) -> Fault
+    requires { ⌜ 11 ≤ length (now s) ⌝ }
     ensures { λ r. ⌜ r ≡ faultsFrom side n (now (s .entry)) 1 (bytes "TW!") ⌝ }
 {
     worse(
@@ -184,6 +191,7 @@ fn bitfield_faults(side: Side, n: usize, s: &[u8]) -> Fault
 }
 
 fn member_faults(side: Side, n: usize, s: &[u8]) -> Fault
+    requires { ⌜ 16 ≤ length (now s) ⌝ }
     ensures { λ r. ⌜ r ≡ faultsFrom side n (now (s .entry)) 1 (bytes "TWNO") ⌝ }
 {
     worse(
@@ -196,6 +204,7 @@ fn member_faults(side: Side, n: usize, s: &[u8]) -> Fault
 }
 
 fn struct_faults(side: Side, n: usize, s: &[u8]) -> Fault
+    requires { ⌜ 10 ≤ length (now s) ⌝ }
     ensures { λ r. ⌜ r ≡ faultsFrom side n (now (s .entry)) 1 (bytes "TOO") ⌝ }
 {
     worse(
@@ -208,6 +217,7 @@ fn struct_faults(side: Side, n: usize, s: &[u8]) -> Fault
 }
 
 fn family_faults(side: Side, n: usize, s: &[u8]) -> Fault
+    requires { ⌜ 17 ≤ length (now s) ⌝ }
     ensures { λ r. ⌜ r ≡ faultsFrom side n (now (s .entry)) 1 (bytes "TTTTOF") ⌝ }
 {
     worse(
@@ -230,6 +240,7 @@ fn family_faults(side: Side, n: usize, s: &[u8]) -> Fault
 
 // The four numbers of a field.
 fn number_faults(side: Side, n: usize, s: &[u8]) -> Fault
+    requires { ⌜ 33 ≤ length (now s) ⌝ }
     ensures { λ r. ⌜ r ≡ faultsFrom side n (now (s .entry)) 13 (bytes "NNNN") ⌝ }
 {
     worse(
@@ -245,6 +256,7 @@ fn number_faults(side: Side, n: usize, s: &[u8]) -> Fault
 }
 
 fn field_faults(side: Side, n: usize, s: &[u8]) -> Fault
+    requires { ⌜ 33 ≤ length (now s) ⌝ }
     ensures { λ r. ⌜ r ≡ faultsFrom side n (now (s .entry)) 1 (bytes "TTOONNNN") ⌝ }
 {
     worse(
@@ -263,6 +275,7 @@ fn field_faults(side: Side, n: usize, s: &[u8]) -> Fault
 }
 
 fn key_faults(side: Side, n: usize, s: &[u8]) -> Fault
+    requires { ⌜ 7 ≤ length (now s) ⌝ }
     ensures { λ r. ⌜ r ≡ faultsFrom side n (now (s .entry)) 1 (bytes "T!") ⌝ }
 {
     worse(
@@ -273,6 +286,7 @@ fn key_faults(side: Side, n: usize, s: &[u8]) -> Fault
 
 // The fault of the operands of a command by its number, from the bytes that begin with it.
 fn faults(side: Side, n: usize, s: &[u8], byte: u8) -> Fault
+    requires { ⌜ widthOf byte ≤ length (now s) ⌝ }
     ensures { λ r. ⌜ r ≡ faultsOf side n (now (s .entry)) (operands byte) ⌝ }
 {
     match byte {
@@ -412,7 +426,7 @@ impl Cursor {
 
     // A whole command that may stand here, by its operands: 4, 5 and 6.
     fn judge(self, side: Side, stream: &[u8], pool: &[u8], byte: u8, width: usize) -> Judged
-        requires { ⌜ self .at + width ≤ length (now stream) ⌝ }
+        requires { ⌜ (self .at + width ≤ length (now stream)) × (width ≡ widthOf byte) ⌝ }
         ensures { λ r. ⌜ r ≡ faulted (self .at) (ready (now (stream .entry)) self byte width) (faultsOf side (length (now (pool .entry))) (drop (self .at) (now (stream .entry))) (operands byte)) ⌝ }
     {
         let at = self.at;

@@ -1,9 +1,10 @@
 // The operands of a command, at a place of the bytes from the command on. A byte past the end counts as 0.
 use crate::le;
 use crate::text::Text;
-ghost use Prim.Native.Nat.{_+_, _*_};
+ghost use Prim.Native.Nat.{_+_, _*_, _≤_};
 ghost use mathlib.Core.Path.{_≡_};
-ghost use Rattle.record.specs.Operands.{textAt, optTextAt, optNumberAt, flagAt};
+ghost use lib.ListN.{length};
+ghost use Rattle.record.specs.Operands.{textAt, optText, optTextAt, optNumberAt, flagAt};
 
 pub enum OptText {
     Absent,
@@ -22,15 +23,23 @@ fn pair(low: u8, high: u8) -> u16
     low as u16 + 256 * (high as u16)
 }
 
+// A text whose three bytes are there.
+pub(crate) fn whole_text(s: &[u8], at: usize) -> Text
+    requires { ⌜ at + 3 ≤ length (now s) ⌝ }
+    ensures { λ r. ⌜ r ≡ textAt (now (s .entry)) at ⌝ }
+{
+    Text {
+        start: pair(s[at], s[at + 1]),
+        len: s[at + 2],
+    }
+}
+
 pub fn text_at(s: &[u8], at: usize) -> Text
     ensures { λ r. ⌜ r ≡ textAt (now (s .entry)) at ⌝ }
 {
     if at < s.len() {
         if 3 <= s.len() - at {
-            return Text {
-                start: pair(s[at], s[at + 1]),
-                len: s[at + 2],
-            };
+            return whole_text(s, at);
         }
         Text {
             start: le::u16_at(s, at),
@@ -41,16 +50,22 @@ pub fn text_at(s: &[u8], at: usize) -> Text
     }
 }
 
-pub fn opt_text_at(s: &[u8], at: usize) -> OptText
-    ensures { λ r. ⌜ r ≡ optTextAt (now (s .entry)) at ⌝ }
+// A text that may be absent, from what it reads as.
+pub(crate) fn opt_text(t: Text) -> OptText
+    ensures { λ r. ⌜ r ≡ optText t ⌝ }
 {
-    let t = text_at(s, at);
     if t.start == 65535 {
         if t.len == 0 {
             return OptText::Absent;
         }
     }
     OptText::Given(t)
+}
+
+pub fn opt_text_at(s: &[u8], at: usize) -> OptText
+    ensures { λ r. ⌜ r ≡ optTextAt (now (s .entry)) at ⌝ }
+{
+    opt_text(text_at(s, at))
 }
 
 pub fn flag_at(s: &[u8], at: usize) -> bool

@@ -11,22 +11,27 @@ use Rattle.record.proofs.judge.worse.Reads as worse-reads
 
 -- src/judge.rt:133:9
 operand-fault-requires : tie.Need-operand-fault-requires
+unfolding wide
 operand-fault-requires c κs = search needs
 
 -- src/judge.rt:135:13
 operand-fault-requires-2 : tie.Need-operand-fault-requires-2
+unfolding wide
 operand-fault-requires-2 c κs = search needs
 
 -- src/judge.rt:137:17
 operand-fault-requires-3 : tie.Need-operand-fault-requires-3
+unfolding wide
 operand-fault-requires-3 c κs = search needs
 
 -- src/judge.rt:139:21
 operand-fault-requires-4 : tie.Need-operand-fault-requires-4
+unfolding wide
 operand-fault-requires-4 c κs = search needs
 
 -- src/judge.rt:140:21
 operand-fault-requires-5 : tie.Need-operand-fault-requires-5
+unfolding wide
 operand-fault-requires-5 c κs = search needs
 
 -- src/judge.rt:138:17

@@ -11,14 +11,17 @@ use Rattle.record.proofs.judge.worse.Reads as worse-reads
 
 -- src/judge.rt:160:9
 operand-fault-requires : tie.Need-operand-fault-requires
+unfolding wide
 operand-fault-requires c κs = search needs
 
 -- src/judge.rt:162:13
 operand-fault-requires-2 : tie.Need-operand-fault-requires-2
+unfolding wide
 operand-fault-requires-2 c κs = search needs
 
 -- src/judge.rt:163:13
 operand-fault-requires-3 : tie.Need-operand-fault-requires-3
+unfolding wide
 operand-fault-requires-3 c κs = search needs
 
 -- src/judge.rt:161:9

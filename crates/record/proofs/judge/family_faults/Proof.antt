@@ -11,26 +11,32 @@ use Rattle.record.proofs.judge.worse.Reads as worse-reads
 
 -- src/judge.rt:214:9
 operand-fault-requires : tie.Need-operand-fault-requires
+unfolding wide
 operand-fault-requires c κs = search needs
 
 -- src/judge.rt:216:13
 operand-fault-requires-2 : tie.Need-operand-fault-requires-2
+unfolding wide
 operand-fault-requires-2 c κs = search needs
 
 -- src/judge.rt:218:17
 operand-fault-requires-3 : tie.Need-operand-fault-requires-3
+unfolding wide
 operand-fault-requires-3 c κs = search needs
 
 -- src/judge.rt:220:21
 operand-fault-requires-4 : tie.Need-operand-fault-requires-4
+unfolding wide
 operand-fault-requires-4 c κs = search needs
 
 -- src/judge.rt:222:25
 operand-fault-requires-5 : tie.Need-operand-fault-requires-5
+unfolding wide
 operand-fault-requires-5 c κs = search needs
 
 -- src/judge.rt:223:25
 operand-fault-requires-6 : tie.Need-operand-fault-requires-6
+unfolding wide
 operand-fault-requires-6 c κs = search needs
 
 -- src/judge.rt:221:21

@@ -1,8 +1,9 @@
+use mathlib.Core.Path.{refl}
+use native.Mathlib.Omega.{arith}
 use Rattle.record.specs.Base.{bytes}
-use Rattle.record.specs.Commands.{operands}
+use Rattle.record.specs.Commands.{operands, wide, widths, widthWith, widthOf}
 use Rattle.record.specs.Judge.{faultsFrom, faultsOf}
-use Rattle.record.proofs.JudgeLaws.{operand-alone, operand-word, faults-unknown}
-use borrow.Author.Needs.{needs}
+use Rattle.record.proofs.JudgeLaws.{command-there, operand-alone, operand-word, faults-unknown}
 use Rattle.record.proofs.judge.faults.Statement.{statement}
 use Rattle.record.proofs.judge.faults.Tie as tie
 use Rattle.record.proofs.judge.faults.Reads as reads
@@ -22,59 +23,73 @@ use Rattle.record.proofs.judge.value_faults.Reads as value-faults-reads
 
 -- src/judge.rt:279:14
 head-faults-requires : tie.Need-head-faults-requires
-head-faults-requires c κs = search needs
+unfolding operands bytes wide widths widthWith widthOf
+head-faults-requires c κs = command-there 1 5 _ _ refl (c .match .keys1) (c .before .before .pre)
 
 -- src/judge.rt:280:14
 constant-faults-requires : tie.Need-constant-faults-requires
-constant-faults-requires c κs = search needs
+unfolding operands bytes wide widths widthWith widthOf
+constant-faults-requires c κs = command-there 2 20 _ _ refl (c .match .keys2) (c .before .before .pre)
 
 -- src/judge.rt:281:14
 alias-faults-requires : tie.Need-alias-faults-requires
-alias-faults-requires c κs = search needs
+unfolding operands bytes wide widths widthWith widthOf
+alias-faults-requires c κs = command-there 3 7 _ _ refl (c .match .keys3) (c .before .before .pre)
 
 -- src/judge.rt:282:14
 enum-faults-requires : tie.Need-enum-faults-requires
-enum-faults-requires c κs = search needs
+unfolding operands bytes wide widths widthWith widthOf
+enum-faults-requires c κs = command-there 4 12 _ _ refl (c .match .keys4) (c .before .before .pre)
 
 -- src/judge.rt:283:14
 value-faults-requires : tie.Need-value-faults-requires
-value-faults-requires c κs = search needs
+unfolding operands bytes wide widths widthWith widthOf
+value-faults-requires c κs = command-there 5 15 _ _ refl (c .match .keys5) (c .before .before .pre)
 
 -- src/judge.rt:284:14
 bitfield-faults-requires : tie.Need-bitfield-faults-requires
-bitfield-faults-requires c κs = search needs
+unfolding operands bytes wide widths widthWith widthOf
+bitfield-faults-requires c κs = command-there 6 11 _ _ refl (c .match .keys6) (c .before .before .pre)
 
 -- src/judge.rt:285:14
 member-faults-requires : tie.Need-member-faults-requires
-member-faults-requires c κs = search needs
+unfolding operands bytes wide widths widthWith widthOf
+member-faults-requires c κs = command-there 7 16 _ _ refl (c .match .keys7) (c .before .before .pre)
 
 -- src/judge.rt:286:14
 struct-faults-requires : tie.Need-struct-faults-requires
-struct-faults-requires c κs = search needs
+unfolding operands bytes wide widths widthWith widthOf
+struct-faults-requires c κs = command-there 8 10 _ _ refl (c .match .keys8) (c .before .before .pre)
 
 -- src/judge.rt:287:14
 family-faults-requires : tie.Need-family-faults-requires
-family-faults-requires c κs = search needs
+unfolding operands bytes wide widths widthWith widthOf
+family-faults-requires c κs = command-there 9 17 _ _ refl (c .match .keys9) (c .before .before .pre)
 
 -- src/judge.rt:288:15
 operand-fault-requires : tie.Need-operand-fault-requires
-operand-fault-requires c κs = search needs
+unfolding operands bytes wide widths widthWith widthOf
+operand-fault-requires c κs = command-there 10 4 _ _ refl (c .match .keys10) (c .before .before .pre)
 
 -- src/judge.rt:289:15
 field-faults-requires : tie.Need-field-faults-requires
-field-faults-requires c κs = search needs
+unfolding operands bytes wide widths widthWith widthOf
+field-faults-requires c κs = command-there 11 33 _ _ refl (c .match .keys11) (c .before .before .pre)
 
 -- src/judge.rt:290:15
 key-faults-requires : tie.Need-key-faults-requires
-key-faults-requires c κs = search needs
+unfolding operands bytes wide widths widthWith widthOf
+key-faults-requires c κs = command-there 12 7 _ _ refl (c .match .keys12) (c .before .before .pre)
 
 -- src/judge.rt:291:15
 key-faults-requires-2 : tie.Need-key-faults-requires-2
-key-faults-requires-2 c κs = search needs
+unfolding operands bytes wide widths widthWith widthOf
+key-faults-requires-2 c κs = command-there 13 7 _ _ refl (c .match .keys13) (c .before .before .pre)
 
 -- src/judge.rt:292:15
 operand-fault-requires-2 : tie.Need-operand-fault-requires-2
-operand-fault-requires-2 c κs = search needs
+unfolding operands bytes wide widths widthWith widthOf
+operand-fault-requires-2 c κs = let l = command-there 14 8 _ _ refl (c .match .keys14) (c .before .before .pre) in omega arith
 
 -- src/judge.rt:275:1
 returns : tie.Need-returns

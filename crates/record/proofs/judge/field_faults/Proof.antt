@@ -12,18 +12,22 @@ use Rattle.record.proofs.judge.worse.Reads as worse-reads
 
 -- src/judge.rt:251:9
 operand-fault-requires : tie.Need-operand-fault-requires
+unfolding wide
 operand-fault-requires c κs = search needs
 
 -- src/judge.rt:253:13
 operand-fault-requires-2 : tie.Need-operand-fault-requires-2
+unfolding wide
 operand-fault-requires-2 c κs = search needs
 
 -- src/judge.rt:255:17
 operand-fault-requires-3 : tie.Need-operand-fault-requires-3
+unfolding wide
 operand-fault-requires-3 c κs = search needs
 
 -- src/judge.rt:257:21
 operand-fault-requires-4 : tie.Need-operand-fault-requires-4
+unfolding wide
 operand-fault-requires-4 c κs = search needs
 
 -- src/judge.rt:258:21

@@ -11,18 +11,22 @@ use Rattle.record.proofs.judge.worse.Reads as worse-reads
 
 -- src/judge.rt:236:9
 operand-fault-requires : tie.Need-operand-fault-requires
+unfolding wide
 operand-fault-requires c κs = search needs
 
 -- src/judge.rt:238:13
 operand-fault-requires-2 : tie.Need-operand-fault-requires-2
+unfolding wide
 operand-fault-requires-2 c κs = search needs
 
 -- src/judge.rt:240:17
 operand-fault-requires-3 : tie.Need-operand-fault-requires-3
+unfolding wide
 operand-fault-requires-3 c κs = search needs
 
 -- src/judge.rt:241:17
 operand-fault-requires-4 : tie.Need-operand-fault-requires-4
+unfolding wide
 operand-fault-requires-4 c κs = search needs
 
 -- src/judge.rt:239:13

@@ -1,4 +1,4 @@
-use Rattle.record.proofs.JudgeLaws.{operand-fault-laws}
+use Rattle.record.proofs.JudgeLaws.{flag-there, number-there, text-there, operand-fault-laws}
 use borrow.Author.Needs.{needs}
 use Rattle.record.proofs.judge.operand_fault.Statement.{statement}
 use Rattle.record.proofs.judge.operand_fault.Tie as tie
@@ -7,54 +7,58 @@ use Rattle.record.proofs.judge.operand_fault.Lts as lts
 use Rattle.record.proofs.judge.flag_fault.Reads as flag-fault-reads
 use Rattle.record.proofs.judge.if_absent.Reads as if-absent-reads
 use Rattle.record.proofs.judge.text_fault.Reads as text-fault-reads
-use Rattle.record.proofs.le.byte_at.Reads as byte-at-reads
-use Rattle.record.proofs.operands.opt_text_at.Reads as opt-text-at-reads
+use Rattle.record.proofs.operands.opt_text.Reads as opt-text-reads
+use Rattle.record.proofs.operands.whole_text.Reads as whole-text-reads
 
--- src/judge.rt:101:28
-byte-at-requires : tie.Need-byte-at-requires
-byte-at-requires c κs = search needs
+-- src/judge.rt:112:28
+shared-slice-read-flag-fault : tie.Need-shared-slice-read-flag-fault
+shared-slice-read-flag-fault c = search flag-there
 
--- src/judge.rt:101:17
+-- src/judge.rt:112:17
 flag-fault-requires : tie.Need-flag-fault-requires
 flag-fault-requires c κs = search needs
 
--- src/judge.rt:102:28
-byte-at-requires-2 : tie.Need-byte-at-requires-2
-byte-at-requires-2 c κs = search needs
+-- src/judge.rt:113:28
+shared-slice-read-flag-fault-2 : tie.Need-shared-slice-read-flag-fault-2
+shared-slice-read-flag-fault-2 c = search number-there
 
--- src/judge.rt:102:17
+-- src/judge.rt:113:17
 flag-fault-requires-2 : tie.Need-flag-fault-requires-2
 flag-fault-requires-2 c κs = search needs
 
--- src/judge.rt:105:28
+-- src/judge.rt:118:13
 if-absent-requires : tie.Need-if-absent-requires
 if-absent-requires c κs = search needs
 
--- src/judge.rt:105:57
-opt-text-at-requires : tie.Need-opt-text-at-requires
-opt-text-at-requires c κs = search needs
+-- src/judge.rt:119:22
+whole-text-requires : tie.Need-whole-text-requires
+whole-text-requires c κs = search text-there
 
--- src/judge.rt:105:14
+-- src/judge.rt:119:13
+opt-text-requires : tie.Need-opt-text-requires
+opt-text-requires c κs = search needs
+
+-- src/judge.rt:116:14
 text-fault-requires : tie.Need-text-fault-requires
 text-fault-requires c κs = search needs
 
--- src/judge.rt:97:1
+-- src/judge.rt:107:1
 returns : tie.Need-returns
 returns c = search operand-fault-laws
 
--- src/judge.rt:97:1
+-- src/judge.rt:107:1
 returns-2 : tie.Need-returns-2
 returns-2 c = search operand-fault-laws
 
--- src/judge.rt:97:1
+-- src/judge.rt:107:1
 returns-3 : tie.Need-returns-3
 returns-3 c = search operand-fault-laws
 
--- src/judge.rt:97:1
+-- src/judge.rt:107:1
 returns-4 : tie.Need-returns-4
 returns-4 c = search operand-fault-laws
 
--- src/judge.rt:97:1
+-- src/judge.rt:107:1
 returns-5 : tie.Need-returns-5
 returns-5 c = search operand-fault-laws
 
@@ -62,12 +66,13 @@ pub operand-fault-spec : {M : Type 1} → statement M
 operand-fault-spec =
     tie.close
     (tie.spec
-    byte-at-requires
+    shared-slice-read-flag-fault
     flag-fault-requires
-    byte-at-requires-2
+    shared-slice-read-flag-fault-2
     flag-fault-requires-2
     if-absent-requires
-    opt-text-at-requires
+    whole-text-requires
+    opt-text-requires
     text-fault-requires
     returns
     returns-2

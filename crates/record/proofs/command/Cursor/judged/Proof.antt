@@ -1,4 +1,4 @@
-use Rattle.record.proofs.JudgeLaws.{judged-laws}
+use Rattle.record.proofs.JudgeLaws.{row-width, judged-laws}
 use borrow.Author.Needs.{needs}
 use Rattle.record.proofs.command.Cursor.judged.Statement.{statement}
 use Rattle.record.proofs.command.Cursor.judged.Tie as tie
@@ -33,7 +33,7 @@ returns-3 c = search judged-laws
 
 -- src/judge.rt:445:13
 judge-requires : tie.Need-judge-requires
-judge-requires c κs = search needs
+judge-requires c κs = search (row-width, needs)
 
 -- src/judge.rt:445:13
 returns-4 : tie.Need-returns-4
