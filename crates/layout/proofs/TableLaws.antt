@@ -7,7 +7,7 @@ use mathlib.Core.Path.{_≡_, refl, sym, ap, subst, _∙_}
 use native.Mathlib.Omega.{arith}
 use lib.Dec.{ltb}
 use lib.ListN.{length, take, drop, getD, length-take}
-use lib.Seq.{take-at, take-append-le, length-take-le}
+use lib.Seq.{take-at, take-all, take-append-le, length-take-le}
 use borrow.Author.Tests.{ltb-true, ltb-false}
 use Rattle.record.specs.Base.{Str, eqs, before, find}
 use Rattle.record.specs.Stretch.{textOf}
@@ -24,11 +24,11 @@ use Rattle.layout.specs.Layout.{TypeLayout, variantName, types, typeIn}
 use Rattle.record.specs.Fill.{fronted}
 use Rattle.layout.specs.Handles.{typeName, handlesOf, layoutOf}
 use Rattle.layout.specs.Names.{joined, frontOf, colonsOf, backOf, nameOf}
-use Rattle.layout.specs.Sort.{arranged, lasts}
+use Rattle.layout.specs.Sort.{arranged, lasts, ascends}
 use Rattle.layout.specs.Table.{TypesTable, FoundType}
 use Rattle.layout.proofs.Origin.{sorted-mem}
 use Rattle.layout.proofs.Order.{before-trans, before-total, not-self, Sorted, sorted-sorted}
-use Rattle.layout.proofs.Runs.{lasts-are, map-sorted}
+use Rattle.layout.proofs.Runs.{lasts-are, lasts-ascending, map-sorted}
 use Rattle.layout.proofs.Flattened.{handles-laid, handles-typed}
 use Rattle.layout.proofs.NameLaws.{parts-type}
 
@@ -88,6 +88,10 @@ cut-few t n r m h k = let e = length-take n t in omega arith
 
 pub kept-sorted : (key : ℕ → Str) (a b x : List ℕ) (r : ℕ) → b ≡ arranged key a → take r x ≡ lasts key b → take r x ≡ lasts key (arranged key a)
 kept-sorted key a b x r e f = f ∙ ap (lasts key) e
+
+-- where the names go up already all are kept
+pub kept-ascending : (key : ℕ → Str) (l : List ℕ) (b : Bool) (n : ℕ) → b ≡ ascends key l → b ≡ true → n ≡ length l → take n l ≡ lasts key (arranged key l)
+kept-ascending key l b n e t i = take-all n l (omega arith) ∙ sym (lasts-ascending key l (sym e ∙ t))
 
 -- a search ----------------------------------------------------------------------------------------------------------------
 
