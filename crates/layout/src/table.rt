@@ -5,6 +5,7 @@ use crate::names::TypeName;
 use crate::names::back;
 use crate::names::colons;
 use crate::names::front;
+use crate::names::type_has;
 use crate::names::type_over;
 use crate::names::type_under;
 use crate::sort::ascending;
@@ -184,7 +185,14 @@ pub fn find_same(
 {
     let f = front(past, old, handle);
     let b = back(past, old, handle);
-    find_parts(stream, pool, types, f, colons(handle), b, near)
+    let k = colons(handle);
+    // It is nearly always there, and to see that takes one comparison of names, where the search takes three.
+    if near < types.len() {
+        if type_has(stream, pool, types[near], f, k, b) {
+            return TypeFound::At(near);
+        }
+    }
+    find_parts(stream, pool, types, f, k, b, near)
 }
 
 // The type of a name whose texts are in a pool.
