@@ -7,7 +7,7 @@ use mathlib.Core.Path.{_≡_, refl, sym, ap, _∙_}
 use native.Mathlib.Omega.{arith}
 use lib.ListN.{length, getD, drop, set, length-set, List·getD-eq-default}
 use lib.Seq.{set-out, getD-set-same, getD-set-other}
-use Rattle.record.specs.Base.{bytes}
+use Rattle.record.specs.Base.{Str, bytes}
 use Rattle.record.specs.Commands.{operands, wide, widths, widthWith, widthOf, fieldAt, stepAt, commandsAt}
 use Rattle.record.specs.Lists.{fieldOf}
 use Rattle.record.specs.Shapes.{shapeSize, capped}
@@ -17,6 +17,7 @@ use Rattle.record.specs.declared.command.Cursor.{Cursor}
 use Rattle.record.specs.declared.command.Command.{Command}
 use Rattle.record.specs.declared.command.Step.the-variants.{Next}
 use Rattle.record.specs.Seek.{placesOf, placesLeft, Standing, SoughtFrom}
+use Rattle.record.specs.declared.seek.Between.{Between}
 use Rattle.record.specs.declared.seek.Between.the-variants.{Anything}
 use Rattle.record.specs.declared.seek.Sought.{Sought}
 use Rattle.record.specs.declared.seek.Sought.the-variants.{Nowhere, At}
@@ -33,6 +34,11 @@ none-put t i x h = sym (set-out t i x h)
 
 pub none-read : (t : List ℕ) (i : ℕ) → length t ≤ i → 0 ≡ getD t i 0
 none-read t i h = sym (List·getD-eq-default t 0 {n = i} h)
+
+-- a field takes 33 bytes
+pub field-wide : (s : Str) (o : Between) (from : ℕ) (g : Sought) (i : SoughtFrom s o 11 from g) (a k : ℕ) → g ≡ At a k → k ≡ a + 33
+unfolding widthOf widthWith operands widths wide bytes
+field-wide s o from g i a k m = sought-stands s o 11 from g i a k m .after
 
 -- the table while it is filled ---------------------------------------------------------------------------------------------
 
@@ -60,8 +66,7 @@ module _ (r : Rec) (w o t : List ℕ) (from : ℕ) (z : Sizing r w o t from) (g 
     stands = sought-stands (r .stream) Anything 11 from g i a k m
 
     after : k ≡ a + 33
-    unfolding widthOf widthWith operands widths wide bytes
-    after = stands .after
+    after = field-wide (r .stream) Anything from g i a k m
 
     size-is : (x : ℕ) → x ≡ capped (shapeSize (schemaOf r) (fieldOf (r .pool) (fieldAt y) none)) → x ≡ fieldSize r a
     unfolding fieldSize

@@ -4,6 +4,8 @@ use mathlib.Core.List.{List, [], _∷_, _++_, map, append-nil, append-assoc, Lis
 use mathlib.Core.Option.{none}
 use mathlib.Core.Path.{_≡_, refl, sym, ap, ap₂, subst, _∙_}
 use native.Mathlib.Omega.{arith}
+use native.Mathlib.Numerals.{add-one}
+use native.Mathlib.Nat.{le-trans, add-le-add-iff-right, suc-mul, mul-le-mul, mul-le-mul-right}
 use lib.ListN.{length, getD, drop, length-append, drop-of-length-le}
 use lib.Seq.{drop-cons}
 use Rattle.record.specs.Base.{Str, bytes, decimal}
@@ -24,7 +26,6 @@ use Rattle.record.specs.declared.command.Cursor.{Cursor}
 use Rattle.record.specs.declared.seek.Between.the-variants.{Keys}
 use Rattle.record.specs.declared.seek.Sought.{Sought}
 use Rattle.record.specs.declared.seek.Sought.the-variants.{Nowhere, At}
-use Rattle.record.proofs.SeekLaws.{sought-nearer}
 use Rattle.record.proofs.WriterLaws.{puts-none, puts-past, puts-then, puts-as, puts-near, puts-small}
 use Rattle.layout.specs.declared.names.TypeName.{TypeName}
 use Rattle.layout.specs.declared.spots.Spot.{Spot}
@@ -40,10 +41,10 @@ use Rattle.layout.specs.Names.{nameOf, stretchesOf}
 use Rattle.layout.specs.Table.{Typed}
 use Rattle.layout.specs.FieldSizes.{SizesFrom, SizesTable}
 use Rattle.layout.specs.Spots.{spotOf, placeAt, cursorAt, bodyPlace, fieldsAhead, aheadLeft, spotsLeft, placesFrom, Sound, SpotsFrom, TypeSpots}
-use Rattle.layout.specs.Lines.{LinesFrom}
+use Rattle.layout.specs.Lines.{LinesFrom, linesMost}
 use Rattle.layout.specs.Tables.{Tables}
 use Rattle.layout.proofs.NameLaws.{stretches-read}
-use Rattle.layout.proofs.SpotLaws.{no-spot, place-passed, place-sound, spots-over-now, spots-now, spots-sound, spots-nearer, spots-few}
+use Rattle.layout.proofs.SpotLaws.{no-spot, place-passed, place-sound, field-nearer, spots-over-now, spots-now, spots-sound, spots-nearer, spots-few}
 
 -- one line ----------------------------------------------------------------------------------------------------------------
 
@@ -119,7 +120,7 @@ module _ (s p : Str) (z : List ℕ) (n : Str) where
     unfolding linesOf
     field-lines-next a j y v e out' end' m g u q x b =
         let near = l .near in
-        let closer = sought-nearer s Keys 11 k r i a j m in
+        let closer = field-nearer s k r i a j m in
         let line : Puts out end (lineOf n (placeAt p (drop a s) offset v)) out' end' = puts-as x (ap (λ (o : Str). lineOf n (placeAt p o offset v)) g) in
         record {
           sound = λ w d. place-sound s p w z k offset r i a j m v e u q (l .sound w d);
@@ -165,7 +166,7 @@ module _ (s p : Str) (z : List ℕ) (n : ℕ) where
 pub record Lining (r : Rec) (z : List ℕ) (t : TypeLayout) (out₀ : Str) (at : ℕ) (out : Str) (c : SpotCursor) (end : ℕ) : Type 0 where
   pub sound : Sound r z c
   pub rest : {after : Str} {q : ℕ} → Puts out end (linesOf (t .name) (placesFrom r c)) after q → Puts out₀ at (linesOf (t .name) (t .fields)) after q
-  pub near : end + 2048 * spotsLeft (r .stream) c ≤ at + 2048 * (length (r .stream) + 2)
+  pub near : end + 2048 * spotsLeft (r .stream) c ≤ at + linesMost (r .stream)
   pub long : length out ≡ length out₀
   pub small : end ≤ largest
 
@@ -182,7 +183,7 @@ module _ (s p : Str) (w : List Scalar) (z : List ℕ) (h : ℕ) where
       record { sound = k .sound a p w z b e; rest = λ x. puts-as x (ap (linesOf (T .name)) (k .list a p w)); near = omega arith; long = refl; small = o }
 
   module _ {out₀ out : Str} {at end : ℕ} {c : SpotCursor} (l : Lining R z T out₀ at out c end) where
-    pub lining-end : (step : SpotStep) → SpotsFrom R z c step → step ≡ NoSpot → length out ≤ largest → Puts out₀ at (linesOf (T .name) (T .fields)) out end × (end ≤ at + 2048 * (length s + 2))
+    pub lining-end : (step : SpotStep) → SpotsFrom R z c step → step ≡ NoSpot → length out ≤ largest → Puts out₀ at (linesOf (T .name) (T .fields)) out end × (end ≤ at + linesMost s)
     unfolding linesOf
     lining-end step n i f =
         let e : linesOf (T .name) (placesFrom R c) ≡ [] = ap (linesOf (T .name)) (spots-over-now s p w z c step n (l .sound) i) in
@@ -205,9 +206,9 @@ module _ (s p : Str) (w : List Scalar) (z : List ℕ) (h : ℕ) where
           in
           l .rest (puts-as (f .lines w d) (ap₂ linesOf v (sym same)))
 
-      pub body-near : q ≤ at + 2048 * (length s + 2)
+      pub body-near : q ≤ at + linesMost s
       body-near =
-          let left : spotsLeft s c ≡ length s - k .at = ap (aheadLeft s) m in
+          let left : spotsLeft s c ≡ (length s - k .at) / 33 = ap (aheadLeft s) m in
           let near = l .near in
           let close = f .near in
           omega arith
@@ -228,36 +229,47 @@ module _ (s p : Str) (w : List Scalar) (z : List ℕ) (h : ℕ) where
 -- how far the lines of all types have come
 pub record Listing (r : Rec) (t : List ℕ) (out₀ out : Str) (i end : ℕ) : Type 0 where
   pub rest : {after : Str} {q : ℕ} → Puts out end (linesOfAll (map (layoutOf r) (drop i t))) after q → Puts out₀ 0 (linesOfAll (map (layoutOf r) t)) after q
-  pub near : end ≤ i * 67112960
+  pub near : end ≤ i * linesMost (r .stream)
   pub inside : i ≤ length t
   pub long : length out ≡ length out₀
 
 pub drop-next : (t : List ℕ) (i : ℕ) → i < length t → drop i t ≡ getD t i 0 ∷ drop (i + 1) t
 drop-next t i h = let e : suc i ≡ i + 1 = omega arith in drop-cons t i 0 h ∙ ap (λ (n : ℕ). getD t i 0 ∷ drop n t) e
 
+one-further : (i w a b : ℕ) → a ≤ i * w → b ≤ a + w → b ≤ (i + 1) * w
+one-further i w a b h k = rw (add-one, suc-mul) (le-trans k (add-le-add-iff-right w .1 h))
+
 module _ (r : Rec) (t z : List ℕ) (o : Tables r t z) where
+  -- the lines of all types are of a length that the machine can count
+  pub most-fits : (n : ℕ) → n ≤ length t → n * linesMost (r .stream) ≤ 1099511627776
+  most-fits n h =
+      let s = o .short in
+      let f = o .few in
+      let a : n ≤ 8192 = omega arith in
+      let b : linesMost (r .stream) ≤ 2035712 = omega arith in
+      le-trans (mul-le-mul a b) (omega arith)
+
   pub listing-start : (out : Str) → Listing r t out out 0 0
   listing-start out = record { rest = λ x. x; near = omega arith; inside = omega arith; long = refl }
 
   module _ {out₀ out : Str} {i end : ℕ} (l : Listing r t out₀ out i end) where
     pub listing-next : {out' : Str} {end' : ℕ} → i < length t → Puts out end (linesOf (layoutOf r (getD t i 0) .name) (layoutOf r (getD t i 0) .fields)) out' end'
-        → end' ≤ end + 2048 * (length (r .stream) + 2) → Listing r t out₀ out' (i + 1) end'
+        → end' ≤ end + linesMost (r .stream) → Listing r t out₀ out' (i + 1) end'
     unfolding linesOfAll
     listing-next {out'} {end'} h g k =
         let y : linesOfAll (map (layoutOf r) (drop i t)) ≡ linesOfAll (map (layoutOf r) (getD t i 0 ∷ drop (i + 1) t)) = ap (λ (x : List ℕ). linesOfAll (map (layoutOf r) x)) (drop-next t i h) in
-        let m = l .near in
-        let s = o .short in
-        record { rest = λ x. l .rest (puts-as (puts-then g x) (sym y)); near = omega arith; inside = omega arith; long = g .long ∙ l .long }
+        record { rest = λ x. l .rest (puts-as (puts-then g x) (sym y)); near = one-further i (linesMost (r .stream)) end end' (l .near) k; inside = omega arith; long = g .long ∙ l .long }
 
-    pub listing-end : length t ≤ i → length out ≤ largest → Puts out₀ 0 (listOf (schemaOf r)) out end × (end ≤ 1099511627776)
+    pub listing-end : length t ≤ i → length out ≤ largest → Puts out₀ 0 (listOf (schemaOf r)) out end × (end ≤ length t * linesMost (r .stream)) × (end ≤ 1099511627776)
     unfolding linesOfAll listOf
     listing-end h f =
         let e : linesOfAll (map (layoutOf r) (drop i t)) ≡ [] = ap (λ (x : List ℕ). linesOfAll (map (layoutOf r) x)) (drop-of-length-le t {i = i} h) in
-        let m = l .near in
         let n = l .inside in
-        let w = o .few in
-        let k : end ≤ 1099511627776 = omega arith in
-        (puts-as (l .rest (puts-as (puts-none out end (omega arith) f) (sym e))) (ap linesOfAll (o .types .layouts (r .scalars))), k)
+        let k : end ≤ 1099511627776 = le-trans (l .near) (most-fits i n) in (
+          puts-as (l .rest (puts-as (puts-none out end (omega arith) f) (sym e))) (ap linesOfAll (o .types .layouts (r .scalars))),
+          le-trans (l .near) (mul-le-mul-right (linesMost (r .stream)) n),
+          k,
+        )
 
 -- what the lines of one type ask
 pub type-premise : (r : Rec) (t z : List ℕ) (i : ℕ) → Tables r t z → i < length t → Typed (r .stream) (getD t i 0) × SizesTable r z × Exact r

@@ -32,6 +32,17 @@ none-put : (xs : Str) → length xs ≡ 0 → xs ≡ []
 none-put [] e = refl
 none-put (x ∷ xs) e = absurd (omega arith)
 
+-- the text at the front of a buffer that has room for it
+fits-written : (out after text : Str) (len r : ℕ) → len ≡ length text → len ≤ length out → Puts out 0 text after r
+    → Answered out after (textOr (length out) 0 text) (record { number = 0; side = 0; place = 0; len = len })
+unfolding textOr
+fits-written out after text len r e h w =
+    rw (le-leb (length text) (length out) (omega arith)) (record { number = refl; side = refl; place = refl; len = e; buffer = puts-front w (omega arith) })
+
+pub text-put : (out after text : Str) (len most : ℕ) → Puts out 0 text after len → len ≤ most → len ≤ 1099511627776 → most ≤ length out
+    → Answered out after (textOr (length out) 0 text) (record { number = 0; side = 0; place = 0; len = len })
+text-put out after text len most w a b h = let e = puts-exact w (omega arith) in fits-written out after text len len (omega arith) (omega arith) w
+
 module _ (out mid text : Str) (len : ℕ) (m : Puts (take 0 out) 0 text mid len) (k : len ≤ 1099511627776) where
   as-before : mid ++ drop 0 out ≡ out
   as-before = ap (λ (x : Str). x ++ out) (none-put mid (m .long))
@@ -48,12 +59,9 @@ module _ (out mid text : Str) (len : ℕ) (m : Puts (take 0 out) 0 text mid len)
 
   pub text-written : (after : Str) (r : ℕ) → len ≤ length (mid ++ drop 0 out) → Puts (mid ++ drop 0 out) 0 text after r
       → Answered out after (textOr (length out) 0 text) (record { number = 0; side = 0; place = 0; len = len })
-  unfolding textOr
   text-written after r h w =
-      let e = measured in
       let l = ap length as-before in
-      let v : Puts out 0 text after r = subst (λ (x : Str). Puts x 0 text after r) as-before w in
-      rw (le-leb (length text) (length out) (omega arith)) (record { number = refl; side = refl; place = refl; len = e; buffer = puts-front v (omega arith) })
+      fits-written out after text len r measured (omega arith) (subst (λ (x : Str). Puts x 0 text after r) as-before w)
 
 pub refused-is : (side : Side) (x : Refusal) (at n m : ℕ) → n ≡ refusalNumber x → m ≡ sideNumber side
     → (out : Str) → Answered out out (refusalOf side x at) (record { number = n; side = m; place = at; len = 0 })

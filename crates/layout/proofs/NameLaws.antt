@@ -7,19 +7,19 @@ use native.Mathlib.Omega.{arith}
 use lib.ListN.{length, take, drop, getD, length-append, List·getD-append}
 use lib.Seq.{getD-append-add, length-take-le}
 use lib.Dec.{eqb, ltb}
-use borrow.Author.Tests.{eq-eqb, ne-eqb, le-ltb}
+use borrow.Author.Tests.{eq-eqb, ne-eqb, eqb-true, le-ltb}
 use Rattle.record.specs.Base.{Str, eqs, before}
 use Rattle.record.specs.Stretch.{textOf}
 use Rattle.record.specs.Operands.{textAt}
 use Rattle.record.specs.Write.{Puts}
 use Rattle.record.specs.declared.text.Text.{Text}
 use Rattle.record.specs.declared.operands.OptText.the-variants.{Absent, Given}
-use Rattle.record.proofs.Basics.{eqs→eq}
+use Rattle.record.proofs.Basics.{both, eqs→eq}
 use Rattle.record.proofs.WriterLaws.{puts-then}
 use Rattle.record.specs.Words.{Skipped}
 use Rattle.layout.specs.Layout.{variantName}
 use Rattle.layout.specs.Handles.{nameAt, familyPart, placePart, typeName}
-use Rattle.layout.specs.Names.{joined, frontOf, colonsOf, backOf, Parts, nameOf, nameTextAt, stretchesOf}
+use Rattle.layout.specs.Names.{joined, frontOf, colonsOf, backOf, hasParts, Parts, nameOf, nameTextAt, stretchesOf}
 use Rattle.layout.specs.declared.names.TypeName.{TypeName}
 use Rattle.record.proofs.WordLaws.{before-next, before-below, before-above, before-longer, before-shorter, before-end, before-skip}
 
@@ -217,6 +217,30 @@ module _ (s p : Str) (h : ℕ) where
 
     pub over-is : (x : Str) (r : Bool) → r ≡ before x (joined f k b) → r ≡ before x (typeName s p h)
     over-is x r e = e ∙ ap (before x) parts-type
+
+  -- its parts compared one by one
+  module _ (f b : Str) (k n : ℕ) (u : n ≡ colonsOf h) where
+    pub has-colons : (n ≡ k → ⊥) → false ≡ hasParts s p h f k b
+    unfolding hasParts
+    has-colons z = rw (ne-eqb (colonsOf h) k (λ q. z (u ∙ q)))
+
+    module _ (e : n ≡ k) (x : Str) (c : Bool) (v : x ≡ backOf s p h) (w : c ≡ eqs x b) where
+      pub has-back : c ≡ false → false ≡ hasParts s p h f k b
+      unfolding hasParts
+      has-back z = rw (eq-eqb (colonsOf h) k (sym u ∙ e), ← v, ← w, z)
+
+      pub has-all : (y : Str) (r : Bool) → c ≡ true → y ≡ frontOf s p h → r ≡ eqs y f → r ≡ hasParts s p h f k b
+      unfolding hasParts
+      has-all y r z a g = g ∙ rw (eq-eqb (colonsOf h) k (sym u ∙ e), ← v, ← w, z, ← a)
+
+  pub named-so : (f b : Str) (k : ℕ) → hasParts s p h f k b ≡ true → typeName s p h ≡ joined f k b
+  unfolding hasParts
+  named-so f b k e =
+      let x = both (eqb (colonsOf h) k) (eqs (backOf s p h) b && eqs (frontOf s p h) f) e in
+      let y = both (eqs (backOf s p h) b) (eqs (frontOf s p h) f) (x .1) in
+      sym (parts-type f b k (sym (eqs→eq (frontOf s p h) f (y .1))) (sym (eqb-true (colonsOf h) k (x .0))) (sym (eqs→eq (backOf s p h) b (y .0))))
+
+pub ruleset has-laws = (has-colons, has-back, has-all)
 
 pub ruleset part-laws = (front-plain, front-family, colons-none, colons-two, back-none, back-own)
 

@@ -7,9 +7,9 @@ use mathlib.Core.Logic.{_⊎_, inl, inr}
 use Prim.Native.Nat.{ℕ}
 use native.Mathlib.Omega.{arith}
 use Rattle.record.specs.Base.{Str, eqs, before, find, lastOr, findLast}
-use Rattle.record.proofs.Basics.{eqs→eq, eqs-refl, find-some}
+use Rattle.record.proofs.Basics.{both, eqs→eq, eqs-refl, find-some}
 use Rattle.layout.specs.Sorted.{insert, insertAll, sorted}
-use Rattle.layout.specs.Sort.{put, arranged, endsRun, lasts}
+use Rattle.layout.specs.Sort.{put, arranged, endsRun, lasts, ascends}
 use Rattle.layout.proofs.Order.{before-trans, before-irrefl, before-total, before-co, Sorted, not-after, not-self, sorted-sorted, sorted-last}
 
 -- two lists in strict order with the same look-ups are one ----------------------------------------------------------------
@@ -204,6 +204,26 @@ module _ (key : ℕ → Str) where
   lasts-are l =
       one-list key (lasts key (arranged key l)) (sorted key l) (lasts-sorted (arranged key l) (arranged-order l)) (sorted-sorted key l)
       (λ n. found-last n (arranged key l) (arranged-order l) ∙ arranged-last n none l ∙ sym (sorted-last key n l))
+
+-- a list in strict order --------------------------------------------------------------------------------------------------
+
+module _ (key : ℕ → Str) where
+  arranged-as-is : (l : List ℕ) → ascends key l ≡ true → arranged key l ≡ l
+  unfolding ascends arranged put endsRun
+  arranged-as-is [] e = refl
+  arranged-as-is (x ∷ []) e = refl
+  arranged-as-is (x ∷ y ∷ l) e =
+      let h = both (before (key x) (key y)) (ascends key (y ∷ l)) e in
+      rw (arranged-as-is (y ∷ l) (h .1), not-after (key x) (key y) (h .0))
+
+  lasts-as-is : (l : List ℕ) → ascends key l ≡ true → lasts key l ≡ l
+  unfolding ascends lasts
+  lasts-as-is [] e = refl
+  lasts-as-is (x ∷ l) e = let h = both (endsRun key (x ∷ l)) (ascends key l) e in rw (h .0, lasts-as-is l (h .1))
+
+  -- it is arranged, and of each name there is one
+  pub lasts-ascending : (l : List ℕ) → ascends key l ≡ true → lasts key (arranged key l) ≡ l
+  lasts-ascending l e = ap (lasts key) (arranged-as-is l e) ∙ lasts-as-is l e
 
 -- a map by the names of what a function gives ------------------------------------------------------------------------------
 

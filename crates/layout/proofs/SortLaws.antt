@@ -1,7 +1,7 @@
 -- A turn of each loop of the sort, and of the loop that keeps the last of each name. Assumes nothing.
 use Prim.Native.Nat.{ℕ, zero, suc, _+_, _-_, _≤_, _<_}
 use mathlib.Core.List.{List, [], _∷_, _++_, append-assoc, append-nil}
-use mathlib.Core.Bool.{Bool, true, false, false≢true}
+use mathlib.Core.Bool.{Bool, true, false, _&&_, false≢true}
 use mathlib.Core.Path.{_≡_, refl, sym, ap, subst, _∙_}
 use native.Mathlib.Omega.{arith}
 use native.Mathlib.Numerals.{add-one}
@@ -12,7 +12,7 @@ use lib.Dec.{ltb}
 use borrow.Author.Tests.{ltb-true, ltb-false}
 use borrow.Rule.Slice.PartMut.{putMid, midOf, same-len-mid}
 use Rattle.record.specs.Base.{Str, before}
-use Rattle.layout.specs.Sort.{arranged, merge, mergeWith, secondNext, chunks, halves, Bounded, endsRun, lasts}
+use Rattle.layout.specs.Sort.{arranged, merge, mergeWith, secondNext, chunks, halves, Bounded, endsRun, lasts, ascends}
 use Rattle.layout.proofs.Merging.{length-merge}
 use Rattle.layout.proofs.Chunks.{chunks-step, chunks-nil, chunks-one, halves-nil, pass-is, arranged-whole}
 
@@ -277,3 +277,30 @@ module _ (key : ℕ → Str) (l out : List ℕ) (i n : ℕ) (k : Keeping key l o
   keep-end h = sym (append-nil (take n out)) ∙ subst (λ (r : List ℕ). take n out ++ r ≡ lasts key l) (ap (lasts key) (drop-of-length-le out h)) (k .so-far)
 
 pub ruleset keep-laws = (keep-take, keep-pass)
+
+-- each before the next ----------------------------------------------------------------------------------------------------
+
+ascends-past : (key : ℕ → Str) (l : List ℕ) (i : ℕ) → length l ≤ i → ascends key (drop i l) ≡ true
+unfolding ascends
+ascends-past key l i h = rw (drop-of-length-le l {i = i} h)
+
+module _ (key : ℕ → Str) (l : List ℕ) (i : ℕ) where
+  ascends-here : i < length l → ascends key (drop i l) ≡ (endsRun key (drop i l) && ascends key (drop (i + 1) l))
+  unfolding ascends
+  ascends-here h = rw (add-one, drop-cons l i 0 h)
+
+  pub ascends-end : length l ≤ i + 1 → ascends key (drop i l) ≡ true
+  ascends-end h = go (ltb i (length l)) refl
+    where
+      go : (b : Bool) → ltb i (length l) ≡ b → ascends key (drop i l) ≡ true
+      go true e = let g = ltb-true i (length l) e in ascends-here g ∙ rw (← run-end key l i g h, ascends-past key l (i + 1) h)
+      go false e = ascends-past key l i (ltb-false i (length l) e)
+
+  module _ (b : Bool) (h : i + 1 < length l) (e : b ≡ before (key (getD l i 0)) (key (getD l (i + 1) 0))) where
+    pub ascends-on : b ≡ true → ascends key (drop i l) ≡ ascends key (drop (i + 1) l)
+    ascends-on t = ascends-here (omega arith) ∙ ap (λ (c : Bool). c && ascends key (drop (i + 1) l)) (sym (run-next key l i b h e) ∙ t)
+
+    pub ascends-stop : b ≡ false → ascends key (drop i l) ≡ false
+    ascends-stop t = ascends-here (omega arith) ∙ ap (λ (c : Bool). c && ascends key (drop (i + 1) l)) (sym (run-next key l i b h e) ∙ t)
+
+pub ruleset ascends-laws = (ascends-end, ascends-on, ascends-stop)

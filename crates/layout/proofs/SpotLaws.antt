@@ -43,8 +43,8 @@ use Rattle.record.specs.declared.lists.FieldStep.the-variants.{NoField, AField}
 use Rattle.record.proofs.command.Command.{the-type}
 use Rattle.record.proofs.Stream.{step-found}
 use Rattle.record.proofs.ListLaws.{byteOf, other, byte-is, operands-are, find-miss}
-use Rattle.record.proofs.SeekLaws.{stepped as stepped-there, ended-there, sought-nearer}
-use Rattle.record.proofs.StepLaws.{fields-none, fields-found, fields-over-now, fields-now, fields-nearer, fields-stand}
+use Rattle.record.proofs.SeekLaws.{stepped as stepped-there, ended-there, sought-stands}
+use Rattle.record.proofs.StepLaws.{fields-none, fields-found, fields-over-now, fields-now, fields-stand}
 use Rattle.record.proofs.SizeLaws.{cap-low, keyless}
 use Rattle.record.proofs.DescribeLaws.{described-keyless}
 use Rattle.layout.specs.declared.spots.Spot.{Spot}
@@ -60,7 +60,7 @@ use Rattle.layout.specs.Spots.{spotOf, placeAt, cursorAt, bodyPlace, fie
 use Rattle.layout.proofs.Along.{place-stands}
 use Rattle.layout.proofs.Flattened.{own-fields, family-fields}
 use Rattle.layout.proofs.Openings.{typed-place, typed-opened}
-use Rattle.layout.proofs.FieldSizeLaws.{sizes-later}
+use Rattle.layout.proofs.FieldSizeLaws.{sizes-later, field-wide}
 
 -- one field more ----------------------------------------------------------------------------------------------------------
 
@@ -147,6 +147,15 @@ module _ (s p : Str) (w : List Scalar) (t : List ℕ) (f : D.Family.Family) (k :
   unfolding prefix
   spot-len b z e h j u = stepped R t (Middle f k) (Body k) offset len refl z e (λ d. j ∙ h ∙ sym len-size) u (λ q. q) _ (len-place z) (omega arith)
 
+-- after a field the bound is less
+pub field-nearer : (s : Str) (at : ℕ) (r : Sought) (i : SoughtFrom s Keys 11 at r) (a k : ℕ) → r ≡ At a k → (length s - k) / 33 < (length s - at) / 33
+field-nearer s at r i a k m =
+    let g = sought-stands s Keys 11 at r i a k m in
+    let w = field-wide s Keys at r i a k m in
+    let x = g .ahead in
+    let y = g .within in
+    omega arith
+
 -- a field of the record ----------------------------------------------------------------------------------------------------
 
 module _ (s p : Str) (w : List Scalar) (t : List ℕ) (k : Cursor) (offset : ℕ) (r : FieldStep) (h : FieldsFrom s (k .at) r) where
@@ -190,13 +199,12 @@ module _ (s p : Str) (w : List Scalar) (t : List ℕ) (k : Cursor) (offset : ℕ
         subst (λ (i : ℕ). SizesFrom (rec s p w) t i) e (sizes-later (rec s p w) t (k .at) (j .at - 33) (g .command) (g .after) z (y .in-stream) (g .step))
 
     spot-field : (z e : ℕ) (d : Description) (b : Bool) → z ≡ getD t (j .at / 33) 0 → describedAs p d ≡ shapeType (fieldOf p f none) → b ≡ isPadding (kindOf (textOf p (f .kind)))
-        → e ≡ capped (offset + z)
+        → e ≡ capped (offset + z) → aheadLeft s (Body j) < aheadLeft s (Body k)
         → SpotsFrom (rec s p w) t (cursorAt (Body k) offset) (ASpot (record { name = f .name; offset = offset; size = z; described = d; padding = b }) (cursorAt (Body j) e))
     unfolding placeOf
-    spot-field z e d b u v g i =
+    spot-field z e d b u v g i near =
         let more : fieldsAt s p (k .at) ≡ whole ∷ fieldsAt s p (j .at) = fields-now s (k .at) r h p f j m in
         let read : describedAs p d ≡ shapeType whole = v ∙ sym (described-keyless p f (fieldKeyAt s p (j .at))) in
-        let near = fields-nearer s (k .at) r h f j m in
         stepped (rec s p w) t (Body k) (Body j) offset whole more z e (λ y. size-exact (rec s p w) t (Body k) (Body j) offset whole more y z (u ∙ table-size (y .sizes))) i table-kept
         (record { name = f .name; offset = offset; size = z; described = d; padding = b })
         (λ y a. record { name = textOf p (f .name); offset = offset; size = y a; described = read a; padding = g a }) (omega arith)
@@ -228,7 +236,8 @@ module _ (s p : Str) (w : List Scalar) (t : List ℕ) (k : Cursor) (offset : ℕ
       (λ (f : Text). SpotsFrom (rec s p w) t (cursorAt (Body k) offset) (ASpot (record { name = f; offset = offset; size = z; described = v .described; padding = v .padding }) (cursorAt (Body c) e)))
       (sym n)
       (spot-field s p w t k offset (AField (fieldAt y) c) (fields-found s (k .at) r i a j m y (fieldAt y) c d refl l) (fieldAt y) c refl z e (v .described) (v .padding)
-      (u ∙ ap (λ (f : Cursor). getD t (f .at / 33) 0) (sym l)) (g .text) (g .padded) q)
+      (u ∙ ap (λ (f : Cursor). getD t (f .at / 33) 0) (sym l)) (g .text) (g .padded) q
+      (subst (λ (f : Cursor). aheadLeft s (Body f) < aheadLeft s (Body k)) (sym l) (field-nearer s (k .at) r i a j m)))
 
 -- a field of which only the place is known
 module _ (s p : Str) (w : List Scalar) (t : List ℕ) (at offset : ℕ) (r : Sought) (i : SoughtFrom s Keys 11 at r) (a k : ℕ) (m : r ≡ At a k) (z e : ℕ) (u : z ≡ getD t (k / 33) 0)
@@ -289,7 +298,7 @@ module _ (s p : Str) (t : List ℕ) (n : Str) (c : SpotCursor) where
           → OthersPassed s p t n c (cursorAt (Body (place k)) e)
       unfolding nameAt
       others-on x b z e g h q u v =
-          let near = sought-nearer s Keys 11 at r i a k m in
+          let near = field-nearer s at r i a k m in
           let l = o .left in
           record {
             same = λ w d.
@@ -381,10 +390,10 @@ module _ (s p : Str) (w : List Scalar) (t : List ℕ) (c : SpotCursor) (o : Spot
     spots-nearer = let h : suc (spotsLeft s k) ≤ spotsLeft s c = subst (λ (y : SpotStep). stepLeft s y ≤ spotsLeft s c) m (f .left) in omega arith
 
 -- how many fields there can be
-pub spots-few : (s : Str) (c : SpotCursor) → spotsLeft s c ≤ length s + 2
+pub spots-few : (s : Str) (c : SpotCursor) → spotsLeft s c ≤ length s / 33 + 2
 spots-few s c = go (c .ahead)
   where
-    go : (a : Ahead) → aheadLeft s a ≤ length s + 2
+    go : (a : Ahead) → aheadLeft s a ≤ length s / 33 + 2
     go (Front f k) = omega arith
     go (Middle f k) = omega arith
     go (Body k) = omega arith

@@ -7,7 +7,7 @@ use mathlib.Core.Path.{_≡_, refl, sym, ap, subst, _∙_}
 use native.Mathlib.Omega.{arith}
 use lib.Dec.{ltb}
 use lib.ListN.{length, take, drop, getD, length-take}
-use lib.Seq.{take-at, take-append-le, length-take-le}
+use lib.Seq.{take-at, take-all, take-append-le, length-take-le}
 use borrow.Author.Tests.{ltb-true, ltb-false}
 use Rattle.record.specs.Base.{Str, eqs, before, find}
 use Rattle.record.specs.Stretch.{textOf}
@@ -15,7 +15,7 @@ use Rattle.record.specs.Scalars.{Scalar}
 use Rattle.record.specs.Reading.{Rec, rec, schemaOf}
 use Rattle.record.specs.declared.text.Text.{Text}
 use Rattle.record.specs.declared.operands.OptText.the-variants.{Absent, Given}
-use Rattle.record.proofs.Basics.{eqs→eq}
+use Rattle.record.proofs.Basics.{eqs→eq, eqs-refl}
 use Rattle.layout.specs.declared.names.TypeName.{TypeName}
 use Rattle.layout.specs.declared.table.TypeFound.{TypeFound}
 use Rattle.layout.specs.declared.table.TypeFound.the-variants.{NoType, At}
@@ -23,14 +23,14 @@ use Rattle.layout.specs.Sorted.{sorted}
 use Rattle.layout.specs.Layout.{TypeLayout, variantName, types, typeIn}
 use Rattle.record.specs.Fill.{fronted}
 use Rattle.layout.specs.Handles.{typeName, handlesOf, layoutOf}
-use Rattle.layout.specs.Names.{joined, frontOf, colonsOf, backOf, nameOf}
-use Rattle.layout.specs.Sort.{arranged, lasts}
+use Rattle.layout.specs.Names.{joined, frontOf, colonsOf, backOf, hasParts, nameOf}
+use Rattle.layout.specs.Sort.{arranged, lasts, ascends}
 use Rattle.layout.specs.Table.{TypesTable, FoundType}
 use Rattle.layout.proofs.Origin.{sorted-mem}
 use Rattle.layout.proofs.Order.{before-trans, before-total, not-self, Sorted, sorted-sorted}
-use Rattle.layout.proofs.Runs.{lasts-are, map-sorted}
+use Rattle.layout.proofs.Runs.{lasts-are, lasts-ascending, map-sorted}
 use Rattle.layout.proofs.Flattened.{handles-laid, handles-typed}
-use Rattle.layout.proofs.NameLaws.{parts-type}
+use Rattle.layout.proofs.NameLaws.{parts-type, named-so}
 
 -- the table ---------------------------------------------------------------------------------------------------------------
 
@@ -88,6 +88,10 @@ cut-few t n r m h k = let e = length-take n t in omega arith
 
 pub kept-sorted : (key : ℕ → Str) (a b x : List ℕ) (r : ℕ) → b ≡ arranged key a → take r x ≡ lasts key b → take r x ≡ lasts key (arranged key a)
 kept-sorted key a b x r e f = f ∙ ap (lasts key) e
+
+-- where the names go up already all are kept
+pub kept-ascending : (key : ℕ → Str) (l : List ℕ) (b : Bool) (n : ℕ) → b ≡ ascends key l → b ≡ true → n ≡ length l → take n l ≡ lasts key (arranged key l)
+kept-ascending key l b n e t i = take-all n l (omega arith) ∙ sym (lasts-ascending key l (sym e ∙ t))
 
 -- a search ----------------------------------------------------------------------------------------------------------------
 
@@ -195,6 +199,23 @@ module _ (s p : Str) (t : List ℕ) (n : Str) (lo hi : ℕ) (k : Seeking s p t n
       }
 
 pub ruleset seek-laws = (seek-past, seek-other, seek-found)
+
+-- a name that stands at an index stands before it nowhere
+module _ (s p : Str) (t : List ℕ) (f b : Str) (k i : ℕ) where
+  abbrev sought : Str
+  sought = joined f k b
+
+  pub found-here : (c : Bool) → i < length t → c ≡ hasParts s p (getD t i 0) f k b → c ≡ true → FoundType s p t sought (At i)
+  found-here c h e z =
+      let n : typeName s p (getD t i 0) ≡ sought = named-so s p (getD t i 0) f b k (sym e ∙ z) in
+      record {
+        layout = λ y w.
+            ap (typeIn sought) (sym (y .layouts w))
+            ∙ one-found s p w sought t i h
+            (λ j l. apart-before (typeName s p (getD t j 0)) sought (subst (λ (m : Str). before (typeName s p (getD t j 0)) m ≡ true) n (y .upward j i l h)))
+            (ap (λ (m : Str). eqs m sought) n ∙ eqs-refl sought);
+        inside = omega arith;
+      }
 
 -- names in parts ----------------------------------------------------------------------------------------------------------
 

@@ -2,11 +2,11 @@
 -- in Layout. Assumes nothing.
 use mathlib.Core.List.{[], _∷_, _++_}
 use mathlib.Core.Option.{Option, none, some}
-use mathlib.Core.Bool.{cond}
+use mathlib.Core.Bool.{Bool, cond, _&&_}
 use Prim.Native.Nat.{ℕ, _+_, _-_, _≤_}
 use lib.Dec.{eqb}
 use lib.ListN.{length, take, drop}
-use Rattle.record.specs.Base.{Str}
+use Rattle.record.specs.Base.{Str, eqs}
 use Rattle.record.specs.Stretch.{textOf}
 use Rattle.record.specs.Operands.{textAt}
 use Rattle.record.specs.Lists.{optOf}
@@ -28,6 +28,10 @@ colonsOf h = cond (eqb (familyPart h) 0) 0 2
 
 unfoldable pub backOf : Str → Str → ℕ → Str
 backOf s p h = cond (eqb (familyPart h) 0) [] (nameAt s p (placePart h))
+
+-- these are its parts, one by one; a name with other parts may read the same
+unfoldable pub hasParts : Str → Str → ℕ → Str → ℕ → Str → Bool
+hasParts s p h f k b = eqb (colonsOf h) k && (eqs (backOf s p h) b && eqs (frontOf s p h) f)
 
 -- parts of a name whose length is a number of the machine
 pub record Parts (f : Str) (k : ℕ) (b : Str) : Type 0 where

@@ -3,7 +3,7 @@
 use Prim.Native.Nat.{ℕ, zero, suc, _+_, _<_, _≤_}
 use mathlib.Core.Path.{_≡_}
 use mathlib.Core.List.{List, [], _∷_, _++_}
-use mathlib.Core.Bool.{Bool, true, false, cond}
+use mathlib.Core.Bool.{Bool, true, false, cond, _&&_}
 use lib.ListN.{length, take, drop}
 use Rattle.record.specs.Base.{Str, before}
 
@@ -61,3 +61,8 @@ endsRun key (x ∷ y ∷ l) = before (key x) (key y)
 unfoldable pub lasts : (ℕ → Str) → List ℕ → List ℕ
 lasts key [] = []
 lasts key (x ∷ l) = cond (endsRun key (x ∷ l)) (x ∷ lasts key l) (lasts key l)
+
+-- each goes before the next
+unfoldable pub ascends : (ℕ → Str) → List ℕ → Bool
+ascends key [] = true
+ascends key (x ∷ l) = endsRun key (x ∷ l) && ascends key l

@@ -3,7 +3,7 @@
 use mathlib.Core.Path.{_≡_}
 use mathlib.Core.List.{List, [], _∷_, _++_, List·Memᴰ}
 use mathlib.Core.Option.{none}
-use Prim.Native.Nat.{ℕ, suc, _+_, _-_, _≤_}
+use Prim.Native.Nat.{ℕ, suc, _+_, _-_, _/_, _≤_}
 use lib.ListN.{length, drop}
 use Rattle.record.specs.Base.{Str, eqs, find}
 use Rattle.record.specs.Stretch.{textOf}
@@ -68,11 +68,11 @@ fieldsAhead s p (Body k) = fieldsAt s p (k .at)
 unfoldable pub placesFrom : Rec → SpotCursor → List Place
 placesFrom r c = places (schemaOf r) (c .offset) (fieldsAhead (r .stream) (r .pool) (c .ahead))
 
--- a bound of how many they are
+-- a bound of how many they are: a field takes 33 bytes of the stream
 abbrev pub aheadLeft : Str → Ahead → ℕ
-aheadLeft s (Front f k) = length s - k .at + 2
-aheadLeft s (Middle f k) = length s - k .at + 1
-aheadLeft s (Body k) = length s - k .at
+aheadLeft s (Front f k) = (length s - k .at) / 33 + 2
+aheadLeft s (Middle f k) = (length s - k .at) / 33 + 1
+aheadLeft s (Body k) = (length s - k .at) / 33
 
 abbrev pub spotsLeft : Str → SpotCursor → ℕ
 spotsLeft s c = aheadLeft s (c .ahead)

@@ -36,7 +36,7 @@ ghost use Rattle.layout.specs.Handles.{layoutOf};
 ghost use Rattle.layout.specs.Names.{nameOf};
 ghost use Rattle.layout.specs.Table.{Typed};
 ghost use Rattle.layout.specs.FieldSizes.{SizesTable};
-ghost use Rattle.layout.specs.Lines.{LinesFrom};
+ghost use Rattle.layout.specs.Lines.{LinesFrom, linesMost};
 ghost use Rattle.layout.specs.Spots.{spotOf, placeAt, cursorAt};
 ghost use Rattle.layout.specs.Tables.{Tables};
 
@@ -148,7 +148,7 @@ fn put_type(
     handle: u32,
 ) -> usize
     requires { ⌜ Typed (now stream) handle × SizesTable (rec (now stream) (now pool) (scalarsOf (now rows))) (now sizes) × Exact (rec (now stream) (now pool) (scalarsOf (now rows))) ⌝ }
-    ensures { λ r. ⌜ Puts (now (out .entry)) at (linesOf (layoutOf (rec (now (stream .entry)) (now (pool .entry)) (scalarsOf (now (rows .entry)))) handle .name) (layoutOf (rec (now (stream .entry)) (now (pool .entry)) (scalarsOf (now (rows .entry)))) handle .fields)) (now (out .exit)) r × (r ≤ at + 2048 * (length (now (stream .entry)) + 2)) ⌝ }
+    ensures { λ r. ⌜ Puts (now (out .entry)) at (linesOf (layoutOf (rec (now (stream .entry)) (now (pool .entry)) (scalarsOf (now (rows .entry)))) handle .name) (layoutOf (rec (now (stream .entry)) (now (pool .entry)) (scalarsOf (now (rows .entry)))) handle .fields)) (now (out .exit)) r × (r ≤ at + linesMost (now (stream .entry))) ⌝ }
 {
     let owner = type_name(stream, handle);
     let mut cursor = first_spot(stream, handle);
@@ -176,7 +176,7 @@ pub(crate) fn put_types(
     sizes: &[u64],
 ) -> usize
     requires { ⌜ Tables (rec (now stream) (now pool) (scalarsOf (now rows))) (now types) (now sizes) ⌝ }
-    ensures { λ r. ⌜ Puts (now (out .entry)) 0 (listOf (schemaOf (rec (now (stream .entry)) (now (pool .entry)) (scalarsOf (now (rows .entry)))))) (now (out .exit)) r × (r ≤ 1099511627776) ⌝ }
+    ensures { λ r. ⌜ Puts (now (out .entry)) 0 (listOf (schemaOf (rec (now (stream .entry)) (now (pool .entry)) (scalarsOf (now (rows .entry)))))) (now (out .exit)) r × (r ≤ length (now (types .entry)) * linesMost (now (stream .entry))) × (r ≤ 1099511627776) ⌝ }
 {
     let mut end: usize = 0;
     let mut i = 0;

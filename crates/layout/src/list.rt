@@ -16,9 +16,65 @@ ghost use Rattle.record.specs.Reading.{rec, schemaOf};
 ghost use Rattle.record.specs.Read.{Exact};
 ghost use Rattle.layout.specs.Room.{Room, SizesRoom};
 ghost use Rattle.layout.specs.Listing.{listOf};
+ghost use Rattle.layout.specs.Tables.{Tables};
 ghost use Rattle.layout.specs.Answer.{textOr, list, Answered};
 
-// The list of a record that can be read, over lent tables: measured first, then put at the front of the buffer.
+// The list of a record by its tables: measured first, so that a buffer without room stays as it was, then put at its front.
+fn list_measured(
+    rows: &[u8],
+    stream: &[u8],
+    pool: &[u8],
+    types: &[u32],
+    sizes: &[u64],
+    out: &mut [u8],
+) -> Answer
+    requires { ⌜ Tables (rec (now stream) (now pool) (scalarsOf (now rows))) (now types) (now sizes) ⌝ }
+    ensures { λ r. ⌜ Answered (now (out .entry)) (now (out .exit)) (textOr (length (now (out .entry))) 0 (listOf (schemaOf (rec (now (stream .entry)) (now (pool .entry)) (scalarsOf (now (rows .entry))))))) r ⌝ }
+{
+    let len = put_types(&mut out[..0], rows, stream, pool, types, sizes);
+    if out.len() < len {
+        return Answer {
+            number: 10,
+            side: 0,
+            place: 0,
+            len,
+        };
+    }
+    put_types(out, rows, stream, pool, types, sizes);
+    Answer {
+        number: 0,
+        side: 0,
+        place: 0,
+        len,
+    }
+}
+
+// The same. A buffer that has room for the longest lines of so many types needs no measure.
+fn list_tables(
+    rows: &[u8],
+    stream: &[u8],
+    pool: &[u8],
+    types: &[u32],
+    sizes: &[u64],
+    out: &mut [u8],
+) -> Answer
+    requires { ⌜ Tables (rec (now stream) (now pool) (scalarsOf (now rows))) (now types) (now sizes) ⌝ }
+    ensures { λ r. ⌜ Answered (now (out .entry)) (now (out .exit)) (textOr (length (now (out .entry))) 0 (listOf (schemaOf (rec (now (stream .entry)) (now (pool .entry)) (scalarsOf (now (rows .entry))))))) r ⌝ }
+{
+    let most = 2048 * (stream.len() / 33 + 2);
+    if types.len() * most <= out.len() {
+        let len = put_types(out, rows, stream, pool, types, sizes);
+        return Answer {
+            number: 0,
+            side: 0,
+            place: 0,
+            len,
+        };
+    }
+    list_measured(rows, stream, pool, types, sizes, out)
+}
+
+// The list of a record that can be read, over lent tables.
 fn list_lent(
     rows: &[u8],
     stream: &[u8],
@@ -34,22 +90,7 @@ fn list_lent(
 {
     fill_index(stream, pool, index);
     let n = fill_tables(rows, stream, pool, index, types, scratch, sizes);
-    let len = put_types(&mut out[..0], rows, stream, pool, &types[..n], sizes);
-    if out.len() < len {
-        return Answer {
-            number: 10,
-            side: 0,
-            place: 0,
-            len,
-        };
-    }
-    put_types(out, rows, stream, pool, &types[..n], sizes);
-    Answer {
-        number: 0,
-        side: 0,
-        place: 0,
-        len,
-    }
+    list_tables(rows, stream, pool, &types[..n], sizes, out)
 }
 
 // The same with tables for the longest stream that number 8 lets pass.

@@ -16,7 +16,7 @@ ghost use lib.ListN.{length, getD};
 ghost use Rattle.record.specs.Base.{before};
 ghost use Rattle.record.specs.Write.{Puts};
 ghost use Rattle.layout.specs.Handles.{nameAt, familyPart, placePart, typeName};
-ghost use Rattle.layout.specs.Names.{joined, frontOf, colonsOf, backOf, Parts, nameOf, nameTextAt, stretchesOf};
+ghost use Rattle.layout.specs.Names.{joined, frontOf, colonsOf, backOf, hasParts, Parts, nameOf, nameTextAt, stretchesOf};
 
 // The place of a type's command.
 pub fn place_part(handle: u32) -> usize
@@ -199,6 +199,26 @@ pub(crate) fn type_over(
     let f = front(stream, pool, handle);
     let b = back(stream, pool, handle);
     parts_before(g, l, d, f, colons(handle), b)
+}
+
+// Whether a type's name has just these parts. What follows the colons comes first, since the variants of a family differ there.
+pub(crate) fn type_has(
+    stream: &[u8],
+    pool: &[u8],
+    handle: u32,
+    g: &[u8],
+    l: usize,
+    d: &[u8],
+) -> bool
+    ensures { λ r. ⌜ r ≡ hasParts (now (stream .entry)) (now (pool .entry)) handle (now (g .entry)) l (now (d .entry)) ⌝ }
+{
+    if colons(handle) != l {
+        return false;
+    }
+    if same(back(stream, pool, handle), d) {
+        return same(front(stream, pool, handle), g);
+    }
+    false
 }
 
 // Whether one type's name goes before another's; in one family, and of two that are no variants, the own names decide.

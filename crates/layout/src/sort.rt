@@ -1,11 +1,12 @@
 // Handles in the byte order of their types' names: a stable merge sort, and of two of one name the later.
 use crate::fronts::fronted_before;
+use crate::names::type_before;
 ghost use Prim.Native.Nat.{_+_, _≤_, _<_};
 ghost use mathlib.Core.Path.{_≡_};
 ghost use lib.ListN.{length, take, drop};
 ghost use Rattle.layout.specs.Handles.{typeName};
 ghost use Rattle.layout.specs.Fronts.{Fronts};
-ghost use Rattle.layout.specs.Sort.{arranged, secondNext, merge, chunks, halves, Bounded, endsRun, lasts};
+ghost use Rattle.layout.specs.Sort.{arranged, secondNext, merge, chunks, halves, Bounded, endsRun, lasts, ascends};
 
 // Whether the next of two lists is the second's: where the first is at its end, or the second's name goes before.
 fn second_next(
@@ -136,4 +137,19 @@ pub(crate) fn keep_last(stream: &[u8], pool: &[u8], fronts: &[u64], handles: &mu
         }
     }
     n
+}
+
+// Whether each handle's name goes before the next one's.
+pub(crate) fn ascending(stream: &[u8], pool: &[u8], handles: &[u32]) -> bool
+    ensures { λ r. ⌜ r ≡ ascends (typeName (now (stream .entry)) (now (pool .entry))) (now (handles .entry)) ⌝ }
+{
+    let mut i = 0;
+    while i + 1 < handles.len() {
+        if type_before(stream, pool, handles[i], handles[i + 1]) {
+            i += 1;
+        } else {
+            return false;
+        }
+    }
+    true
 }

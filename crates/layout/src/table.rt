@@ -5,8 +5,10 @@ use crate::names::TypeName;
 use crate::names::back;
 use crate::names::colons;
 use crate::names::front;
+use crate::names::type_has;
 use crate::names::type_over;
 use crate::names::type_under;
+use crate::sort::ascending;
 use crate::sort::keep_last;
 use crate::sort::sort_handles;
 use record::operands::OptText;
@@ -70,11 +72,15 @@ fn arrange_many(stream: &[u8], pool: &[u8], handles: &mut [u32], scratch: &mut [
     arrange_lent(stream, pool, &mut fronts, handles, scratch)
 }
 
-// The same for types, of which there may be thousands; for a few a table costs more than it saves.
+// The same for types, of which there may be thousands; for a few a table costs more than it saves. Types in order of their names need no sort, and
+// the first two out of order end the test for that.
 fn arrange_types(stream: &[u8], pool: &[u8], types: &mut [u32], scratch: &mut [u32]) -> usize
     requires { ⌜ (length (now scratch) ≡ length (now types)) × (length (now types) ≤ 65536) ⌝ }
     ensures { λ r. ⌜ (take r (now (types .exit)) ≡ lasts (typeName (now (stream .entry)) (now (pool .entry))) (arranged (typeName (now (stream .entry)) (now (pool .entry))) (now (types .entry)))) × (r ≤ length (now (types .entry))) ⌝ }
 {
+    if ascending(stream, pool, types) {
+        return types.len();
+    }
     if 64 <= types.len() {
         return arrange_many(stream, pool, types, scratch);
     }
@@ -179,7 +185,14 @@ pub fn find_same(
 {
     let f = front(past, old, handle);
     let b = back(past, old, handle);
-    find_parts(stream, pool, types, f, colons(handle), b, near)
+    let k = colons(handle);
+    // It is nearly always there, and to see that takes one comparison of names, where the search takes three.
+    if near < types.len() {
+        if type_has(stream, pool, types[near], f, k, b) {
+            return TypeFound::At(near);
+        }
+    }
+    find_parts(stream, pool, types, f, k, b, near)
 }
 
 // The type of a name whose texts are in a pool.
