@@ -19,10 +19,10 @@ use Rattle.record.specs.Kind.{kindOf}
 use Rattle.record.specs.Lists.{optOf, fieldOf, structOf}
 use Rattle.record.specs.Steps.{structsAt, fieldsAt, structFound}
 use Rattle.record.specs.Owner.{Types, referenced, referencedAs, hasSlot, structInSlot, withName, rootsIn, ownershipOrder, roots, ownerOf, Leads, here, along, First, now, later}
-use Rattle.record.specs.References.{typesAt, HasSlot, structCommandsAt, commandFound, InSlot}
+use Rattle.record.specs.References.{typesAt, HasSlot}
 use Rattle.record.specs.Marks.{referenceAt, targetAt}
 use Rattle.record.specs.Leads.{LeadsTo}
-use Rattle.record.specs.Versioned.{InSlots}
+use Rattle.record.specs.Versioned.{structCommandsAt, commandFound, InSlot, InSlots}
 use Rattle.record.specs.Index.{IndexRoom, Indexed}
 use Rattle.record.specs.Ownership.{Within, Resolved, OwnerMarks, Known, OwnersMarked, EightClear, OwnerBy, MarkedName, NamedBy, Claims, OwnerIn, withStretch, stretchesIn, ownedBy, stretchOf, ownerAt, Answered, OwnerFound}
 use Rattle.record.specs.declared.text.Text.{Text}
