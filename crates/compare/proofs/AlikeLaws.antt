@@ -1,17 +1,15 @@
 -- Fields that are alike are the same, and what is passed over does not count. p is the first pool and q the second. Assumes nothing.
-use Prim.Native.Nat.{ℕ, _+_, _-_, _*_, _/_, _≤_, _<_}
+use Prim.Native.Nat.{ℕ, _+_, _-_, _/_, _≤_, _<_}
 use mathlib.Core.Path.{_≡_, refl, sym, ap, ap₂, subst, _∙_}
 use mathlib.Core.List.{List, _∷_}
 use mathlib.Core.Option.{none}
-use mathlib.Core.Bool.{Bool, true, false, _&&_, cond, Bool·beq}
+use mathlib.Core.Bool.{Bool, true, false, _&&_, Bool·beq}
 use native.Mathlib.Omega.{arith}
-use lib.Dec.{eqb}
 use borrow.Author.Tests.{eq-eqb}
 use lib.ListN.{length, getD, take, drop}
 use lib.Seq.{getD-take, getD-drop}
 use Rattle.record.specs.Base.{Str, bytes, eqs}
-use Rattle.record.specs.Le.{u16At, u32At}
-use Rattle.record.specs.Operands.{textAt, optText, optTextAt, optNumberAt}
+use Rattle.record.specs.Operands.{textAt, optText, optTextAt}
 use Rattle.record.specs.Stretch.{textOf}
 use Rattle.record.specs.Scalars.{Scalar}
 use Rattle.record.specs.Schema.{Field}
@@ -25,11 +23,11 @@ use Rattle.record.specs.declared.command as C
 use Rattle.record.specs.declared.command.Cursor.{Cursor}
 use Rattle.record.specs.declared.text.Text.{Text}
 use Rattle.record.specs.declared.operands.OptText.{OptText}
-use Rattle.record.specs.declared.operands.OptNumber.the-variants.{Missing, Number}
 use Rattle.record.specs.declared.seek.Between.the-variants.{Keys}
 use Rattle.record.specs.declared.seek.Sought.{Sought}
 use Rattle.record.specs.declared.seek.Sought.the-variants.{At}
 use Rattle.record.proofs.Basics.{eqs-refl}
+use Rattle.record.proofs.CommandLaws.{text-same, number-same}
 use Rattle.record.proofs.SeekLaws.{sought-stands, sought-nearer}
 use Rattle.layout.specs.Handles.{nameAt}
 use Rattle.layout.specs.Spots.{placeAt, cursorAt, placesFrom, Sound}
@@ -44,26 +42,6 @@ use Rattle.compare.specs.declared.alike.AlikeStep.{AlikeStep}
 use Rattle.compare.specs.declared.alike.AlikeStep.the-variants.{Alike}
 
 -- parts ---------------------------------------------------------------------------------------------------------------------
-
--- a number and a text go by their bytes
-module _ (a b : Str) (at : ℕ) where
-  number-same : ((i : ℕ) → at ≤ i → i ≤ at + 4 → getD a i 0 ≡ getD b i 0) → optNumberAt a at ≡ optNumberAt b at
-  unfolding optNumberAt u32At u16At
-  number-same f =
-      let g : getD a at 0 ≡ getD b at 0 = f at (omega arith) (omega arith) in
-      let h : getD a (at + 1) 0 ≡ getD b (at + 1) 0 = f (at + 1) (omega arith) (omega arith) in
-      let i : getD a (at + 1 + 1) 0 ≡ getD b (at + 1 + 1) 0 = f (at + 1 + 1) (omega arith) (omega arith) in
-      let j : getD a (at + 1 + 2) 0 ≡ getD b (at + 1 + 2) 0 = f (at + 1 + 2) (omega arith) (omega arith) in
-      let k : getD a (at + 1 + 2 + 1) 0 ≡ getD b (at + 1 + 2 + 1) 0 = f (at + 1 + 2 + 1) (omega arith) (omega arith) in
-      λ x. cond (eqb (g x) 0) Missing (Number (h x + 256 * i x + 65536 * (j x + 256 * k x)))
-
-  text-same : ((i : ℕ) → at ≤ i → i ≤ at + 2 → getD a i 0 ≡ getD b i 0) → textAt a at ≡ textAt b at
-  unfolding textAt u16At
-  text-same f =
-      let g : getD a at 0 ≡ getD b at 0 = f at (omega arith) (omega arith) in
-      let h : getD a (at + 1) 0 ≡ getD b (at + 1) 0 = f (at + 1) (omega arith) (omega arith) in
-      let i : getD a (at + 2) 0 ≡ getD b (at + 2) 0 = f (at + 2) (omega arith) (omega arith) in
-      λ x. record { start = g x + 256 * h x; len = i x }
 
 -- bytes that are the same from place 13 on
 byte-after : (s t : Str) → drop 13 s ≡ drop 13 t → (i : ℕ) → 13 ≤ i → getD s i 0 ≡ getD t i 0

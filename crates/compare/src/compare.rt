@@ -13,6 +13,9 @@ use crate::required::required_text;
 use crate::standalone::check_standalone;
 use crate::unreleased::check_unreleased;
 use layout::tables::fill_tables;
+use record::cut::upto;
+use record::ends::Ends;
+use record::ends::ends_of;
 use record::index::fill_index;
 use record::operands::OptText;
 use record::text::Text;
@@ -26,6 +29,7 @@ ghost use Rattle.record.specs.Scalars.{scalarsOf};
 ghost use Rattle.record.specs.Steps.{constantsAt, enumsAt, bitfieldsAt, structsAt, familiesAt, unstoredAt, versionsAt};
 ghost use Rattle.record.specs.Keys.{pluginKeys};
 ghost use Rattle.record.specs.Index.{IndexRoom, Indexed};
+ghost use Rattle.record.specs.Ends.{EndsOf};
 ghost use Rattle.record.specs.References.{typesAt};
 ghost use Rattle.record.specs.Reading.{rec, schemaOf};
 ghost use Rattle.record.specs.Read.{Exact};
@@ -66,13 +70,24 @@ fn check_numbers(
     verdict
 }
 
-// Bit fields, then their releases.
-fn check_bits(stream: &[u8], pool: &[u8], past: &[u8], old: &[u8], current: Text) -> Verdict
+// Bit fields, then their releases, of which the streams are passed only as far as they go.
+fn check_bits(
+    stream: &[u8],
+    pool: &[u8],
+    ends: Ends,
+    past: &[u8],
+    old: &[u8],
+    old_ends: Ends,
+    current: Text,
+) -> Verdict
+    requires { ⌜ EndsOf (now stream) ends × EndsOf (now past) «old_ends» ⌝ }
     ensures { λ r. ⌜ meaning (now (pool .entry)) (now (old .entry)) r ≡ (checkBitfields (bitfieldsAt (now (stream .entry)) (now (pool .entry)) 0) (bitfieldsAt (now (past .entry)) (now (old .entry)) 0) then checkBitfieldReleases (textOf (now (pool .entry)) current) (bitfieldsAt (now (stream .entry)) (now (pool .entry)) 0) (bitfieldsAt (now (past .entry)) (now (old .entry)) 0)) ⌝ }
 {
-    let verdict = check_bitfields(stream, pool, past, old);
+    let is = upto(stream, ends.bitfields);
+    let was = upto(past, old_ends.bitfields);
+    let verdict = check_bitfields(is, pool, was, old);
     if let Verdict::Passed = verdict {
-        return check_bitfield_releases(stream, pool, past, old, current);
+        return check_bitfield_releases(is, pool, was, old, current);
     }
     verdict
 }
@@ -93,6 +108,8 @@ fn check_declared(
     requires { ⌜ (length (now past) ≤ 32768) × Room (now past) (now table) × Room (now past) (now scratch) × Indexed (now stream) (now pool) (now index) × Indexed (now past) (now old) (now «old_index») ⌝ }
     ensures { λ r. ⌜ meaning (now (pool .entry)) (now (old .entry)) r ≡ (checkFirstReleases (textOf (now (pool .entry)) current) (optOf (now (old .entry)) copy) (constantsAt (now (stream .entry)) (now (pool .entry)) 0) (constantsAt (now (past .entry)) (now (old .entry)) 0) (enumsAt (now (stream .entry)) (now (pool .entry)) 0) (enumsAt (now (past .entry)) (now (old .entry)) 0) (pluginKeys (structsAt (now (stream .entry)) (now (pool .entry)) 0) (unstoredAt (now (stream .entry)) (now (pool .entry)) 0)) (pluginKeys (structsAt (now (past .entry)) (now (old .entry)) 0) (unstoredAt (now (past .entry)) (now (old .entry)) 0)) then (checkConstants (structsAt (now (stream .entry)) (now (pool .entry)) 0) (constantsAt (now (stream .entry)) (now (pool .entry)) 0) (constantsAt (now (past .entry)) (now (old .entry)) 0) then checkEnums (enumsAt (now (stream .entry)) (now (pool .entry)) 0) (enumsAt (now (past .entry)) (now (old .entry)) 0)) then (checkBitfields (bitfieldsAt (now (stream .entry)) (now (pool .entry)) 0) (bitfieldsAt (now (past .entry)) (now (old .entry)) 0) then checkBitfieldReleases (textOf (now (pool .entry)) current) (bitfieldsAt (now (stream .entry)) (now (pool .entry)) 0) (bitfieldsAt (now (past .entry)) (now (old .entry)) 0))) ⌝ }
 {
+    let ends = ends_of(stream);
+    let old_ends = ends_of(past);
     let first = check_first_releases(stream, pool, past, old, old_index, current, copy);
     let Verdict::Passed = first else {
         return first;
@@ -101,7 +118,7 @@ fn check_declared(
     let Verdict::Passed = second else {
         return second;
     };
-    check_bits(stream, pool, past, old, current)
+    check_bits(stream, pool, ends, past, old, old_ends, current)
 }
 
 // Fields, then standalone families.

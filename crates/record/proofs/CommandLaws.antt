@@ -2,10 +2,12 @@
 use Prim.Native.Nat.{ℕ, _+_, _*_, _-_, _≤_, _<_}
 use mathlib.Core.List.{List, []}
 use mathlib.Core.Option.{none}
-use mathlib.Core.Path.{_≡_, sym}
+use mathlib.Core.Bool.{cond}
+use mathlib.Core.Path.{_≡_, sym, ap}
 use native.Mathlib.Omega.{arith}
 use lib.ListN.{length, take, drop, getD, length-drop}
 use lib.Seq.{take-all}
+use lib.Dec.{eqb}
 use borrow.Author.Tests.{ne-eqb, lt-ltb, le-ltb}
 use Rattle.record.specs.Le.{u16At, u32At, u8-past, u16-past}
 use Rattle.record.specs.declared.text.Text.{Text}
@@ -63,6 +65,36 @@ module _ (t : Text) where
   opt-given p = rw (ne-eqb (t .start) 65535 p)
 
 pub ruleset opt-text-laws = (opt-absent, opt-long, opt-given)
+
+-- an operand goes by its bytes
+module _ (a b : List ℕ) (at : ℕ) where
+  pub text-same : ((i : ℕ) → at ≤ i → i ≤ at + 2 → getD a i 0 ≡ getD b i 0) → textAt a at ≡ textAt b at
+  unfolding textAt u16At
+  text-same f =
+      let g : getD a at 0 ≡ getD b at 0 = f at (omega arith) (omega arith) in
+      let h : getD a (at + 1) 0 ≡ getD b (at + 1) 0 = f (at + 1) (omega arith) (omega arith) in
+      let i : getD a (at + 2) 0 ≡ getD b (at + 2) 0 = f (at + 2) (omega arith) (omega arith) in
+      λ x. record { start = g x + 256 * h x; len = i x }
+
+  pub opt-same : ((i : ℕ) → at ≤ i → i ≤ at + 2 → getD a i 0 ≡ getD b i 0) → optTextAt a at ≡ optTextAt b at
+  unfolding optTextAt
+  opt-same f = ap optText (text-same f)
+
+  pub u32-same : ((i : ℕ) → at ≤ i → i ≤ at + 3 → getD a i 0 ≡ getD b i 0) → u32At a at ≡ u32At b at
+  unfolding u32At u16At
+  u32-same f =
+      let g : getD a at 0 ≡ getD b at 0 = f at (omega arith) (omega arith) in
+      let h : getD a (at + 1) 0 ≡ getD b (at + 1) 0 = f (at + 1) (omega arith) (omega arith) in
+      let i : getD a (at + 2) 0 ≡ getD b (at + 2) 0 = f (at + 2) (omega arith) (omega arith) in
+      let j : getD a (at + 2 + 1) 0 ≡ getD b (at + 2 + 1) 0 = f (at + 2 + 1) (omega arith) (omega arith) in
+      λ x. g x + 256 * h x + 65536 * (i x + 256 * j x)
+
+pub number-same : (a b : List ℕ) (at : ℕ) → ((i : ℕ) → at ≤ i → i ≤ at + 4 → getD a i 0 ≡ getD b i 0) → optNumberAt a at ≡ optNumberAt b at
+unfolding optNumberAt
+number-same a b at f =
+    let g : getD a at 0 ≡ getD b at 0 = f at (omega arith) (omega arith) in
+    let h : u32At a (at + 1) ≡ u32At b (at + 1) = u32-same a b (at + 1) (λ i k l. f i (omega arith) (omega arith)) in
+    λ x. cond (eqb (g x) 0) Missing (Number (h x))
 
 -- a number that is none of the commands'
 pub none-operands : (b : ℕ) → (b ≡ 1 → ⊥) → (b ≡ 2 → ⊥) → (b ≡ 3 → ⊥) → (b ≡ 4 → ⊥) → (b ≡ 5 → ⊥) → (b ≡ 6 → ⊥) → (b ≡ 7 → ⊥) → (b ≡ 8 → ⊥) → (b ≡ 9 → ⊥) → (b ≡ 10 → ⊥) → (b ≡ 11 → ⊥) → (b ≡ 12 → ⊥) → (b ≡ 13 → ⊥) → (b ≡ 14 → ⊥) → (b ≡ 15 → ⊥) → operands b ≡ none

@@ -19,10 +19,10 @@ use Rattle.record.specs.Kind.{kindOf}
 use Rattle.record.specs.Lists.{optOf, fieldOf, structOf}
 use Rattle.record.specs.Steps.{structsAt, fieldsAt, structFound}
 use Rattle.record.specs.Owner.{Types, referenced, referencedAs, hasSlot, structInSlot, withName, rootsIn, ownershipOrder, roots, ownerOf, Leads, here, along, First, now, later}
-use Rattle.record.specs.References.{typesAt, HasSlot, structCommandsAt, commandFound, InSlot}
+use Rattle.record.specs.References.{typesAt, HasSlot}
 use Rattle.record.specs.Marks.{referenceAt, targetAt}
 use Rattle.record.specs.Leads.{LeadsTo}
-use Rattle.record.specs.Versioned.{InSlots}
+use Rattle.record.specs.Versioned.{structCommandsAt, commandFound, InSlot, InSlots}
 use Rattle.record.specs.Index.{IndexRoom, Indexed}
 use Rattle.record.specs.Ownership.{Within, Resolved, OwnerMarks, Known, OwnersMarked, EightClear, OwnerBy, MarkedName, NamedBy, Claims, OwnerIn, withStretch, stretchesIn, ownedBy, stretchOf, ownerAt, Answered, OwnerFound}
 use Rattle.record.specs.declared.text.Text.{Text}
@@ -477,13 +477,15 @@ module _ (s p n : Str) where
 
 -- the call ---------------------------------------------------------------------------------------------------------------
 
-module _ (s p n : Str) where
-  pub found-beyond : 32768 < length s → OwnerFound 32768 s p n Nobody
-  found-beyond h = record { within = λ l. absurd (omega arith); beyond = λ l. refl }
+module _ (s p n : Str) (r : Owner) where
+  pub answered-lent : (before room after x : List ℕ) (roots : Versioned) → length s ≤ 32768 → length s ≤ length before → IndexRoom s room → (length s ≤ 32768 → IndexRoom s room → Indexed s p x) → OwnersMarked s p roots x before after
+      → InSlots s p roots → (Known s p after x → InSlots s p roots → LeadsTo s p after n Unknown → Answered s p n r) → Answered s p n r
+  answered-lent before room after x roots h e i fill f slots a =
+      let index = fill h i in
+      a (record { marks = f .within e slots index; index = index }) slots (leads-unknown s p after n)
 
-  pub found-within : (r : Owner) (before room after x : List ℕ) (roots : Versioned) → 32768 ≤ length before → 4938 ≤ length room → length s ≤ 32768 → (length s ≤ 32768 → IndexRoom s room → Indexed s p x) → OwnersMarked s p roots x before after
-      → InSlots s p roots → (Known s p after x → InSlots s p roots → LeadsTo s p after n Unknown → Answered s p n r) → OwnerFound 32768 s p n r
-  found-within r before room after x roots e i h fill f slots a = record {
-    within = λ l. let index = fill h (omega arith) in a (record { marks = f .within (omega arith) slots index; index = index }) slots (leads-unknown s p after n);
-    beyond = λ l. absurd (omega arith);
-  }
+  pub found-within : length s ≤ 32768 → Answered s p n r → OwnerFound 32768 s p n r
+  found-within h a = record { within = λ l. a; beyond = λ l. absurd (omega arith) }
+
+pub found-beyond : (s p n : Str) → 32768 < length s → OwnerFound 32768 s p n Nobody
+found-beyond s p n h = record { within = λ l. absurd (omega arith); beyond = λ l. refl }

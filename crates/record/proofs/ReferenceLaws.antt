@@ -10,31 +10,23 @@ use denote.Enum.Declared.{tagOf}
 use lib.ListN.{drop, getD}
 use Rattle.record.specs.Base.{Str, eqs, isText, isSome}
 use Rattle.record.specs.Stretch.{textOf}
-use Rattle.record.specs.Schema.{Field, Key, Struct}
+use Rattle.record.specs.Schema.{Field, Key}
 use Rattle.record.specs.Kind.{kindOf}
 use Rattle.record.specs.Operands.{textAt, optTextAt}
-use Rattle.record.specs.Commands.{place, structAt, fieldAt}
-use Rattle.record.specs.Lists.{optOf, fieldOf, structOf}
-use Rattle.record.specs.Seek.{SoughtFrom}
+use Rattle.record.specs.Commands.{fieldAt}
+use Rattle.record.specs.Lists.{optOf, fieldOf}
 use Rattle.record.specs.Index.{Indexed, Declared}
-use Rattle.record.specs.Steps.{structsAt, fieldsAt}
-use Rattle.record.specs.Owner.{referenced, referencedAs, structInSlot, slotted, hasSlot}
-use Rattle.record.specs.References.{typesAt, Refers, HasSlot, structCommandsAt, commandInSlot, InSlot}
+use Rattle.record.specs.Owner.{referenced, referencedAs, slotted, hasSlot}
+use Rattle.record.specs.References.{typesAt, Refers, HasSlot}
 use Rattle.record.specs.declared.operands.OptText.{OptText}
 use Rattle.record.specs.declared.operands.OptText.the-variants.{Absent, Given}
 use Rattle.record.specs.declared.text.Text.{Text}
 use Rattle.record.specs.declared.kind.Kind.{Kind}
 use Rattle.record.specs.declared.kind.Kind.the-variants as K
 use Rattle.record.specs.declared.command as D
-use Rattle.record.specs.declared.command.Cursor.{Cursor}
-use Rattle.record.specs.declared.seek.Between.the-variants.{Anything}
 use Rattle.record.specs.declared.seek.Sought.{Sought}
 use Rattle.record.specs.declared.seek.Sought.the-variants.{Nowhere, At}
-use Rattle.record.specs.declared.lists.StructStep.the-variants.{NoStruct, AStruct}
 use Rattle.record.proofs.kind.Kind.{the-type as kinds}
-use Rattle.record.proofs.ListLaws.{find-none, find-hit, find-miss}
-use Rattle.record.proofs.SeekLaws.{listed-none, listed-some}
-use Rattle.record.proofs.StepLaws.{structs-none, structs-found}
 
 -- referenced_type --------------------------------------------------------------------------------------------------------
 
@@ -161,45 +153,3 @@ module _ (p n : Str) (o : OptText) where
   text-same t w b m h e = rw m (e ∙ ap (λ (x : Str). eqs x n) h)
 
 pub ruleset is-text-laws = (text-absent, text-same)
-
--- struct_in_slot ---------------------------------------------------------------------------------------------------------
-
--- neither the structures nor their commands before a place have the slot text
-pub record Before (s p slot : Str) (at : ℕ) : Type 0 where
-  pub structs : structInSlot slot (structsAt s p 0) ≡ structInSlot slot (structsAt s p at)
-  pub commands : commandInSlot p slot (structCommandsAt s 0) ≡ commandInSlot p slot (structCommandsAt s at)
-
-pub before-start : (s p slot : Str) → Before s p slot 0
-before-start s p slot = record { structs = refl; commands = refl }
-
-module _ (s : Str) (at : ℕ) (r : Sought) (i : SoughtFrom s Anything 8 at r) (p slot : Str) (b : Before s p slot at) where
-  pub slot-end : r ≡ Nowhere → InSlot s p slot NoStruct
-  unfolding structInSlot commandInSlot structCommandsAt
-  slot-end m = record {
-    struct = b .structs ∙ find-none _ (structsAt s p at) (structs-none s at r i m .list p);
-    command = b .commands ∙ find-none _ (structCommandsAt s at) (listed-none s Anything 8 _ at r i m);
-  }
-
-  module _ (a k : ℕ) (m : r ≡ At a k) (y : Str) (e : D.Struct.Struct) (d : y ≡ drop a s) (f : e ≡ structAt y) (t : Bool) (is : t ≡ isText (optOf p (e .«generation_slot»)) slot) where
-    struct-now : (c : Cursor) → c ≡ place k → structsAt s p at ≡ structOf p e (fieldsAt s p (c .at)) ∷ structsAt s p (c .at)
-    struct-now c g = structs-found s at r i a k m y e c d f g .list p
-
-    command-now : structCommandsAt s at ≡ e ∷ structCommandsAt s k
-    unfolding structCommandsAt
-    command-now = listed-some s Anything 8 _ at r i a k m ∙ ap (λ (x : D.Struct.Struct). x ∷ structCommandsAt s k) (sym (f ∙ ap structAt d))
-
-    pub slot-hit : (c : Cursor) → c ≡ place k → t ≡ true → InSlot s p slot (AStruct e c)
-    unfolding structInSlot commandInSlot
-    slot-hit c g z = record {
-      struct = b .structs ∙ find-hit _ (structsAt s p at) _ _ (struct-now c g) (sym is ∙ z);
-      command = b .commands ∙ find-hit _ (structCommandsAt s at) _ _ command-now (sym is ∙ z);
-    }
-
-    pub slot-miss : t ≡ false → Before s p slot k
-    unfolding structInSlot commandInSlot
-    slot-miss z = record {
-      structs = b .structs ∙ find-miss _ (structsAt s p at) _ _ (struct-now (place k) refl) (sym is ∙ z);
-      commands = b .commands ∙ find-miss _ (structCommandsAt s at) _ _ command-now (sym is ∙ z);
-    }
-
-pub ruleset in-slot-laws = (slot-end, slot-hit, slot-miss)

@@ -14,10 +14,10 @@ use Rattle.record.specs.Lists.{structOf}
 use Rattle.record.specs.Steps.{structsAt, fieldsAt, structFound}
 use Rattle.record.specs.Owner.{structInSlot, Leads, here, along}
 use Rattle.record.specs.Index.{Indexed}
-use Rattle.record.specs.References.{typesAt, InSlot}
+use Rattle.record.specs.References.{typesAt}
 use Rattle.record.specs.Marks.{targetAt, IsBody, Clear, Full, Fresh, Led, Walked, TypeWalked, BodyWalked}
 use Rattle.record.specs.Ownership.{Through, Claimed, RootWalked, Within, Resolved, OwnerMarks, OwnersMarked}
-use Rattle.record.specs.Versioned.{InSlots}
+use Rattle.record.specs.Versioned.{InSlot, InSlots}
 use Rattle.record.specs.declared.versioned.Versioned.{Versioned}
 use Rattle.record.specs.declared.command as D
 use Rattle.record.specs.declared.command.Cursor.{Cursor}

@@ -12,7 +12,8 @@ use Rattle.record.specs.Schema.{Struct}
 use Rattle.record.specs.Steps.{structsAt}
 use Rattle.record.specs.Index.{Indexed}
 use Rattle.record.specs.Owner.{structInSlot, ownershipOrder, ownerOf, Edge, Leads}
-use Rattle.record.specs.References.{typesAt, structCommandsAt, commandInSlot, InSlot}
+use Rattle.record.specs.References.{typesAt}
+use Rattle.record.specs.Versioned.{structCommandsAt, commandInSlot, InSlot}
 use Rattle.record.specs.Marks.{targetAt, referenceAt, Full, Walked}
 use Rattle.record.specs.Leads.{LeadsTo}
 use Rattle.record.specs.Versioned.{InSlots}

@@ -20,6 +20,7 @@ ghost use mathlib.Core.Path.{_≡_};
 ghost use Prim.Native.Nat.{_≤_, _<_};
 ghost use lib.ListN.{length};
 ghost use Rattle.record.specs.Base.{isText};
+ghost use Rattle.record.specs.Index.{IndexRoom};
 ghost use Rattle.record.specs.Marks.{referenceAt};
 ghost use Rattle.record.specs.Leads.{LeadTable, LeadsTo};
 ghost use Rattle.record.specs.Versioned.{InSlots};
@@ -190,23 +191,44 @@ pub fn owner_among(
 
 // The owner of one name, on marks and an index that are lent for its walk.
 fn owner_lent(stream: &[u8], pool: &[u8], marks: &mut [u8], index: &mut [u16], name: &[u8]) -> Owner
-    requires { ⌜ (32768 ≤ length (now marks)) × (4938 ≤ length (now index)) ⌝ }
-    ensures { λ r. ⌜ OwnerFound 32768 (now (stream .entry)) (now (pool .entry)) (now (name .entry)) r ⌝ }
+    requires { ⌜ (length (now stream) ≤ 32768) × (length (now stream) ≤ length (now marks)) × IndexRoom (now stream) (now index) ⌝ }
+    ensures { λ r. ⌜ Answered (now (stream .entry)) (now (pool .entry)) (now (name .entry)) r ⌝ }
 {
-    if 32768 < stream.len() {
-        return Owner::Nobody;
-    }
     fill_index(stream, pool, index);
     let roots = versioned_structs(stream, pool);
     mark_owners(stream, pool, roots, index, marks);
     owner_by(stream, pool, roots, marks, index, Lead::Unknown, name)
 }
 
-// The owner of a name. A stream of more than 32,768 bytes is no record, and nothing in it is owned.
-pub fn owner_of(stream: &[u8], pool: &[u8], name: &[u8]) -> Owner
-    ensures { λ r. ⌜ OwnerFound 32768 (now (stream .entry)) (now (pool .entry)) (now (name .entry)) r ⌝ }
+// The same with tables for the longest stream.
+fn owner_long(stream: &[u8], pool: &[u8], name: &[u8]) -> Owner
+    requires { ⌜ length (now stream) ≤ 32768 ⌝ }
+    ensures { λ r. ⌜ Answered (now (stream .entry)) (now (pool .entry)) (now (name .entry)) r ⌝ }
 {
     let mut marks = [0u8; 32768];
     let mut index = [0u16; 4938];
     owner_lent(stream, pool, &mut marks, &mut index, name)
+}
+
+// The same for a short stream, since clearing the tables for a long one takes longer than its answer.
+fn owner_short(stream: &[u8], pool: &[u8], name: &[u8]) -> Owner
+    requires { ⌜ length (now stream) ≤ 2048 ⌝ }
+    ensures { λ r. ⌜ Answered (now (stream .entry)) (now (pool .entry)) (now (name .entry)) r ⌝ }
+{
+    let mut marks = [0u8; 2048];
+    let mut index = [0u16; 549];
+    owner_lent(stream, pool, &mut marks, &mut index, name)
+}
+
+// The owner of a name. A stream of more than 32,768 bytes is no record, and nothing in it is owned.
+pub fn owner_of(stream: &[u8], pool: &[u8], name: &[u8]) -> Owner
+    ensures { λ r. ⌜ OwnerFound 32768 (now (stream .entry)) (now (pool .entry)) (now (name .entry)) r ⌝ }
+{
+    if stream.len() <= 2048 {
+        return owner_short(stream, pool, name);
+    }
+    if 32768 < stream.len() {
+        return Owner::Nobody;
+    }
+    owner_long(stream, pool, name)
 }

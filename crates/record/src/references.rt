@@ -1,24 +1,19 @@
-// What a field refers to, and the slots of structures: referenced_type, slot_of and struct_in_slot of the Rust.
-use crate::command::Cursor;
-use crate::command::struct_at;
+// What a field refers to, and the slots of structures: referenced_type and slot_of of the Rust.
 use crate::cut;
 use crate::index::find_declared;
 use crate::kind::Kind;
 use crate::kind::kind_of;
-use crate::lists::StructStep;
 use crate::operands::OptText;
 use crate::operands::opt_text_at;
 use crate::operands::text_at;
-use crate::seek::Between;
 use crate::seek::Sought;
-use crate::seek::seek;
 use crate::text::bytes_of;
 use crate::text::same;
 ghost use mathlib.Core.Path.{_≡_};
 ghost use Rattle.record.specs.Base.{isText};
 ghost use Rattle.record.specs.Commands.{fieldAt};
 ghost use Rattle.record.specs.Lists.{optOf};
-ghost use Rattle.record.specs.References.{Refers, HasSlot, InSlot};
+ghost use Rattle.record.specs.References.{Refers, HasSlot};
 
 // The name that a field refers to, by its kind, from the bytes that begin with its command: only what the kind asks for is read.
 pub fn referenced_type(pool: &[u8], s: &[u8]) -> OptText
@@ -54,22 +49,4 @@ pub fn is_text(pool: &[u8], given: OptText, text: &[u8]) -> bool
         return false;
     };
     same(bytes_of(pool, t), text)
-}
-
-// The first structure with this slot text.
-pub fn struct_in_slot(stream: &[u8], pool: &[u8], slot: &[u8]) -> StructStep
-    ensures { λ r. ⌜ InSlot (now (stream .entry)) (now (pool .entry)) (now (slot .entry)) r ⌝ }
-{
-    let mut at = 0;
-    loop {
-        let Sought::At(place, after) = seek(stream, at, 8, Between::Anything) else {
-            return StructStep::NoStruct;
-        };
-        let e = struct_at(cut::from(stream, place));
-        let given = e.generation_slot;
-        if is_text(pool, given, slot) {
-            return StructStep::AStruct(e, Cursor::place(after));
-        }
-        at = after;
-    }
 }

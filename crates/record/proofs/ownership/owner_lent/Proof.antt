@@ -1,4 +1,4 @@
-use Rattle.record.proofs.OwnerLaws.{found-beyond, found-within}
+use Rattle.record.proofs.OwnerLaws.{answered-lent}
 use borrow.Author.Needs.{needs}
 use Rattle.record.proofs.ownership.owner_lent.Statement.{statement}
 use Rattle.record.proofs.ownership.owner_lent.Tie as tie
@@ -9,17 +9,15 @@ use Rattle.record.proofs.marks.mark_owners.Reads as mark-owners-reads
 use Rattle.record.proofs.ownership.owner_by.Reads as owner-by-reads
 use Rattle.record.proofs.versioned.versioned_structs.Reads as versioned-structs-reads
 
--- src/ownership.rt:196:9
-returns : tie.Need-returns
-returns c = search found-beyond
-
--- src/ownership.rt:198:5
+-- src/ownership.rt:197:5
 fill-index-requires : tie.Need-fill-index-requires
 fill-index-requires c κs = search needs
 
+-- src/ownership.rt:198:9
 versioned-structs-requires : tie.Need-versioned-structs-requires
 versioned-structs-requires c κs = search needs
 
+-- src/ownership.rt:199:5
 mark-owners-requires : tie.Need-mark-owners-requires
 mark-owners-requires c κs = search needs
 
@@ -27,27 +25,26 @@ mark-owners-requires c κs = search needs
 owner-by-requires : tie.Need-owner-by-requires
 owner-by-requires c κs = search needs
 
--- src/ownership.rt:191:1
+-- src/ownership.rt:193:1
 same-length : tie.Need-same-length
 same-length c = search needs
 
--- src/ownership.rt:191:1
+-- src/ownership.rt:193:1
 same-length-2 : tie.Need-same-length-2
 same-length-2 c = search needs
 
--- src/ownership.rt:191:1
-returns-2 : tie.Need-returns-2
-returns-2 c = search found-within
+-- src/ownership.rt:193:1
+returns : tie.Need-returns
+returns c = search answered-lent
 
 pub owner-lent-spec : {M : Type 1} → statement M
 owner-lent-spec =
     tie.close
     (tie.spec
-    returns
     fill-index-requires
     versioned-structs-requires
     mark-owners-requires
     owner-by-requires
     same-length
     same-length-2
-    returns-2)
+    returns)

@@ -1,48 +1,101 @@
-use Rattle.record.specs.Base.{bytes}
+use Prim.Native.Nat.{_-_}
+use lib.ListN.{length}
+use Rattle.record.proofs.SeekLaws.{sought-nearer}
+use Rattle.record.proofs.VersionedLaws.{AllFilled, versioned-laws}
 use borrow.Author.Needs.{needs}
 use Rattle.record.proofs.versioned.versioned_structs.Statement.{statement}
 use Rattle.record.proofs.versioned.versioned_structs.Tie as tie
 use Rattle.record.proofs.versioned.versioned_structs.Reads as reads
 use Rattle.record.proofs.versioned.versioned_structs.Lts as lts
-use Rattle.record.proofs.references.struct_in_slot.Reads as struct-in-slot-reads
+use Rattle.record.proofs.command.struct_at.Reads as struct-at-reads
+use Rattle.record.proofs.cut.from.Reads as from-reads
+use Rattle.record.proofs.operands.opt_text_at.Reads as opt-text-at-reads
+use Rattle.record.proofs.seek.seek.Reads as seek-reads
+use Rattle.record.proofs.versioned.filled_by.Reads as filled-by-reads
 
--- src/versioned.rt:18:44
-slice-aggregate-struct-in-slot : tie.Need-slice-aggregate-struct-in-slot
-slice-aggregate-struct-in-slot c = search needs
+abbrev Inv-loop : tie.InvT-loop
+Inv-loop stream pool filled₀ at₀ filled at = AllFilled stream pool at filled
 
--- src/versioned.rt:18:15
-struct-in-slot-requires : tie.Need-struct-in-slot-requires
-struct-in-slot-requires c κs = search needs
+abbrev μ-loop : tie.MeasureT-loop
+μ-loop stream pool filled₀ at₀ filled at = length stream - at
 
--- src/versioned.rt:19:48
-slice-aggregate-struct-in-slot-2 : tie.Need-slice-aggregate-struct-in-slot-2
-slice-aggregate-struct-in-slot-2 c = search needs
+-- src/versioned.rt:61:5
+loop-holds : tie.Need-loop-holds Inv-loop μ-loop
+loop-holds c = search versioned-laws
 
--- src/versioned.rt:19:19
-struct-in-slot-requires-2 : tie.Need-struct-in-slot-requires-2
-struct-in-slot-requires-2 c κs = search needs
+-- src/versioned.rt:62:40
+seek-requires : tie.Need-seek-requires Inv-loop μ-loop
+seek-requires c κs = search needs
 
--- src/versioned.rt:20:47
-slice-aggregate-struct-in-slot-3 : tie.Need-slice-aggregate-struct-in-slot-3
-slice-aggregate-struct-in-slot-3 c = search needs
+-- src/versioned.rt:62:24
+enum-known-place : tie.Need-enum-known-place Inv-loop μ-loop
+enum-known-place c = search needs
 
--- src/versioned.rt:20:18
-struct-in-slot-requires-3 : tie.Need-struct-in-slot-requires-3
-struct-in-slot-requires-3 c κs = search needs
+-- src/versioned.rt:63:13
+enum-told : tie.Need-enum-told Inv-loop μ-loop
+enum-told c = search needs
 
--- src/versioned.rt:14:1
-returns : tie.Need-returns
-unfolding bytes
-returns c = search needs
+-- src/versioned.rt:63:13
+returns : tie.Need-returns Inv-loop μ-loop
+returns c = search versioned-laws
+
+-- src/versioned.rt:66:13
+from-requires : tie.Need-from-requires Inv-loop μ-loop
+from-requires c κs = search needs
+
+-- src/versioned.rt:67:36
+opt-text-at-requires : tie.Need-opt-text-at-requires Inv-loop μ-loop
+opt-text-at-requires c κs = search needs
+
+-- src/versioned.rt:68:46
+enum-told-2 : tie.Need-enum-told-2 Inv-loop μ-loop
+enum-told-2 c = search needs
+
+-- src/versioned.rt:68:46
+struct-at-requires : tie.Need-struct-at-requires Inv-loop μ-loop
+struct-at-requires c κs = search needs
+
+-- src/versioned.rt:68:13
+filled-by-requires : tie.Need-filled-by-requires Inv-loop μ-loop
+filled-by-requires c κs = search needs
+
+-- src/versioned.rt:61:5
+loop-less : tie.Need-loop-less Inv-loop μ-loop
+loop-less c = search sought-nearer
+
+-- src/versioned.rt:61:5
+loop-again : tie.Need-loop-again Inv-loop μ-loop
+loop-again c = search versioned-laws
+
+enum-told-3 : tie.Need-enum-told-3 Inv-loop μ-loop
+enum-told-3 c = search needs
+
+-- src/versioned.rt:61:5
+loop-less-2 : tie.Need-loop-less-2 Inv-loop μ-loop
+loop-less-2 c = search sought-nearer
+
+-- src/versioned.rt:61:5
+loop-again-2 : tie.Need-loop-again-2 Inv-loop μ-loop
+loop-again-2 c = search versioned-laws
 
 pub versioned-structs-spec : {M : Type 1} → statement M
 versioned-structs-spec =
     tie.close
     (tie.spec
-    slice-aggregate-struct-in-slot
-    struct-in-slot-requires
-    slice-aggregate-struct-in-slot-2
-    struct-in-slot-requires-2
-    slice-aggregate-struct-in-slot-3
-    struct-in-slot-requires-3
-    returns)
+    Inv-loop
+    μ-loop
+    loop-holds
+    seek-requires
+    enum-known-place
+    enum-told
+    returns
+    from-requires
+    opt-text-at-requires
+    enum-told-2
+    struct-at-requires
+    filled-by-requires
+    loop-less
+    loop-again
+    enum-told-3
+    loop-less-2
+    loop-again-2)

@@ -1,0 +1,221 @@
+-- Where the lists of a record end, along the walk that finds it; and each list of a stream that is cut off there. Assumes nothing.
+use mathlib.Core.Path.{_≡_, refl, sym, ap, ap₂, subst, _∙_}
+use mathlib.Core.List.{List, [], _∷_, List·Memᴰ, List·Memᴰ·head, List·Memᴰ·not-nil}
+use mathlib.Core.Bool.{Bool, true, false, cond, _||_}
+use Prim.Native.Nat.{ℕ, _+_, _-_, _≤_, _<_}
+use native.Mathlib.Omega.{arith}
+use borrow.Author.Tests.{ne-eqb, eqb-true, eqb-false}
+use lib.Dec.{eqb}
+use lib.ListN.{length, take, drop, getD}
+use lib.Seq.{getD-take, getD-drop, length-take-le}
+use Rattle.record.specs.Base.{Str, bytes}
+use Rattle.record.specs.Commands.{widthOf, widthWith, operands, widths, wide, commandOf, stepAt, place, commandsAt, bitfieldAt, memberAt}
+use Rattle.record.specs.Lists.{listed, nothing, anything, memberOf, bitfieldOf, members, bitfields}
+use Rattle.record.specs.Steps.{bitfieldsAt}
+use Rattle.record.specs.Seek.{afterAt, overOf, placesOf}
+use Rattle.record.specs.Ends.{Reached, there, onward, Before, EndsOf, noted}
+use Rattle.record.specs.declared.command.Cursor.{Cursor}
+use Rattle.record.specs.declared.command.Command.{Command}
+use Rattle.record.specs.declared.command.Step.the-variants.{Next}
+use Rattle.record.specs.declared.seek.Between.the-variants.{Anything}
+use Rattle.record.specs.declared.ends.Ends.{Ends}
+use Rattle.record.proofs.CommandLaws.{step-end, step-next, text-same, opt-same, u32-same, number-same}
+use Rattle.record.proofs.Stream.{step-found, along}
+use Rattle.record.proofs.ListLaws.{byteOf, byte-is, listed-stop, listed-here, listed-over, listed-end}
+use Rattle.record.proofs.SeekLaws.{Stepped, stepped, ended-there}
+
+-- the walk ---------------------------------------------------------------------------------------------------------------
+
+reached-next : (s : Str) (m : ℕ) (c : Command) (k : Cursor) → stepAt s m ≡ Next c k → {at : ℕ} → Reached s m at → Reached s (k .at) at
+reached-next s m c k e (there p) = onward (ap (stepAt s) p ∙ e) (there refl)
+reached-next s m c k e (onward f r) = onward f (reached-next s m c k e r)
+
+-- the same of a place up to which the commands are seen
+pub record BeforeTo (s : Str) (a b e at : ℕ) : Type 0 where
+  reached : Reached s e 0
+  first : placesOf s Anything a e ≡ placesOf s Anything a at
+  second : placesOf s Anything b e ≡ placesOf s Anything b at
+
+pub record EndsTo (s : Str) (r : Ends) (at : ℕ) : Type 0 where
+  pub reached : Reached s at 0
+  pub bitfields : BeforeTo s 6 7 (r .bitfields) at
+
+nowhere : (s : Str) (a b : ℕ) → BeforeTo s a b 0 0
+nowhere s a b = record { reached = there refl; first = refl; second = refl }
+
+pub ends-start : (s : Str) → EndsTo s (record { bitfields = 0 }) 0
+ends-start s = record { reached = there refl; bitfields = nowhere s 6 7 }
+
+module _ (s : Str) (at n : ℕ) (e : n ≡ afterAt s at) where
+  module _ (z : n ≡ 0) where
+    none-left : (b : ℕ) → placesOf s Anything b at ≡ []
+    unfolding placesOf
+    none-left b = listed-stop s (overOf Anything) b (λ at rest. at) at (ended-there s at n e z)
+
+    all-before : (a b k : ℕ) → BeforeTo s a b k at → Before s a b k
+    all-before a b k h = record { reached = h .reached; first = h .first ∙ none-left a; second = h .second ∙ none-left b }
+
+    pub ends-end : (r : Ends) → EndsTo s r at → EndsOf s r
+    ends-end r h = record { bitfields = all-before 6 7 (r .bitfields) (h .bitfields) }
+
+  module _ (z : n ≡ 0 → ⊥) (y : ℕ) (i : y ≡ getD s at 0) where
+    t : Stepped s at n
+    t = stepped s at n e z
+
+    reach : Reached s at 0 → Reached s n 0
+    reach r = subst (λ (k : ℕ). Reached s k 0) (t .to) (reached-next s at (t .command) (t .cursor) (t .step) r)
+
+    passed : (b : ℕ) → (y ≡ b → ⊥) → placesOf s Anything b at ≡ placesOf s Anything b n
+    unfolding placesOf
+    passed b w =
+        listed-over s (overOf Anything) b (λ at rest. at) at (t .command) (t .cursor) (t .step) (λ h. w (i ∙ t .number ∙ h)) refl ∙ ap (placesOf s Anything b) (t .to)
+
+    seen : (a b k : ℕ) → Reached s at 0 → BeforeTo s a b k at → BeforeTo s a b (cond (eqb y a || eqb y b) n k) n
+    seen a b k r h = go (eqb y a) (eqb y b) refl refl
+      where
+        go : (v w : Bool) → eqb y a ≡ v → eqb y b ≡ w → BeforeTo s a b (cond (v || w) n k) n
+        go true w p q = record { reached = reach r; first = refl; second = refl }
+        go false true p q = record { reached = reach r; first = refl; second = refl }
+        go false false p q = record { reached = h .reached; first = h .first ∙ passed a (eqb-false y a p); second = h .second ∙ passed b (eqb-false y b q) }
+
+    pub ends-on : (r q : Ends) → EndsTo s r at → q ≡ noted r y n → EndsTo s q n
+    unfolding noted
+    ends-on r q h j = rw j (record { reached = reach (h .reached); bitfields = seen 6 7 (r .bitfields) (h .reached) (h .bitfields) })
+
+pub ruleset ends-laws = (ends-start, ends-end, ends-on)
+
+-- noted ------------------------------------------------------------------------------------------------------------------
+
+module _ (r : Ends) (b k : ℕ) where
+  pub noted-bits : b ≡ 6 → _≡_ {A = Ends} (record { bitfields = k }) (noted r b k)
+  unfolding noted
+  noted-bits e = rw e
+
+  pub noted-member : b ≡ 7 → _≡_ {A = Ends} (record { bitfields = k }) (noted r b k)
+  unfolding noted
+  noted-member e = rw e
+
+  pub noted-other : (b ≡ 6 → ⊥) → (b ≡ 7 → ⊥) → r ≡ noted r b k
+  unfolding noted
+  noted-other g h = rw (ne-eqb b 6 g, ne-eqb b 7 h)
+
+pub ruleset noted-laws = (noted-bits, noted-member, noted-other)
+
+-- a list of a stream that is cut off -------------------------------------------------------------------------------------
+
+reached-ahead : (s : Str) (to : ℕ) {at : ℕ} → Reached s to at → at ≤ to
+reached-ahead s to (there p) = omega arith
+reached-ahead s to (onward {at} {c} {k} e r) = let f = step-found s at c k e in let a = f .on in let b = reached-ahead s to r in omega arith
+
+module _ {A : Type 0} (s : Str) (over : ℕ → Bool) (b : ℕ) (f : ℕ → List ℕ → A) where
+  -- where no command of a number stands, a list of that number has no element
+  none-listed : (at : ℕ) → placesOf s Anything b at ≡ [] → listed s over b f (commandsAt s at) ≡ []
+  unfolding placesOf
+  none-listed =
+      along s (λ (at : ℕ). placesOf s Anything b at ≡ [] → listed s over b f (commandsAt s at) ≡ []) (λ at e h. listed-stop s over b f at e)
+      (λ at c k e ih h. go at c k e ih h (eqb (byteOf c) b) (over (byteOf c)) refl refl)
+    where
+      go : (at : ℕ) (c : Command) (k : Cursor) → stepAt s at ≡ Next c k → (placesOf s Anything b (k .at) ≡ [] → listed s over b f (commandsAt s (k .at)) ≡ []) → placesOf s Anything b at ≡ []
+          → (t o : Bool) → eqb (byteOf c) b ≡ t → over (byteOf c) ≡ o → listed s over b f (commandsAt s at) ≡ []
+      go at c k e ih h true o p q = absurd (List·Memᴰ·not-nil (subst (λ (l : List ℕ). List·Memᴰ at l) (sym (listed-here s (overOf Anything) b (λ at rest. at) at c k e (eqb-true (byteOf c) b p)) ∙ h) (List·Memᴰ·head refl)))
+      go at c k e ih h false true p q =
+          let w = eqb-false (byteOf c) b p in
+          listed-over s over b f at c k e w q ∙ ih (sym (listed-over s (overOf Anything) b (λ at rest. at) at c k e w refl) ∙ h)
+      go at c k e ih h false false p q = listed-end s over b f at c k e (eqb-false (byteOf c) b p) q
+
+reached-within : (s : Str) (to : ℕ) {at : ℕ} → Reached s to at → at ≤ length s → to ≤ length s
+reached-within s to (there p) h = omega arith
+reached-within s to (onward {at} {c} {k} e r) h = reached-within s to r (step-found s at c k e .within)
+
+module _ (s : Str) (to : ℕ) (l : to ≤ length s) where
+  long : length (take to s) ≡ to
+  long = length-take-le to s l
+
+  -- what a command before the cut is, once the stream is cut
+  record Uncut (at : ℕ) (c : Command) (k : Cursor) : Type 0 where
+    command : Command
+    step : stepAt (take to s) at ≡ Next command (place (k .at))
+    number : byteOf command ≡ byteOf c
+
+  uncut : (at : ℕ) (c : Command) (k : Cursor) → stepAt s at ≡ Next c k → k .at ≤ to → Uncut at c k
+  uncut at c k e h =
+      let f = step-found s at c k e in
+      let on = f .on in
+      let n : length (take to s) ≡ to = long in
+      let same : getD (take to s) at 0 ≡ getD s at 0 = getD-take to s at 0 (omega arith) in
+      let w : k .at ≡ at + widthOf (getD s at 0) = f .wide in
+      let d : Command = commandOf (getD (take to s) at 0) (take (length (take to s) - at) (drop at (take to s))) in
+      let step : stepAt (take to s) at ≡ Next d (place (k .at)) =
+      sym (step-next (take to s) at (omega arith) (λ x. f .going (sym same ∙ x)) (widthOf (getD s at 0)) (ap widthOf (sym same)) d (f .known) (omega arith) refl)
+      ∙ ap (λ (j : ℕ). Next d (place j)) (sym w) in
+      record { command = d; step = step; number = sym (byte-is (take to s) at d (place (k .at)) step) ∙ same ∙ byte-is s at c k e }
+
+-- a list of which all commands stand before the cut stays as it is, if each of its elements does
+module _ {A : Type 0} (s : Str) (to : ℕ) (l : to ≤ length s) (over : ℕ → Bool) (b : ℕ) (f g : ℕ → List ℕ → A) (none : placesOf s Anything b to ≡ [])
+    (same : (at : ℕ) (c : Command) (k : Cursor) → stepAt s at ≡ Next c k → getD s at 0 ≡ b → Reached s to (k .at) → f at (commandsAt s (k .at)) ≡ g at (commandsAt (take to s) (k .at))) where
+  pub listed-front : {at : ℕ} → Reached s to at → listed s over b f (commandsAt s at) ≡ listed (take to s) over b g (commandsAt (take to s) at)
+  listed-front (there {at} p) =
+      none-listed s over b f at (subst (λ (x : ℕ). placesOf s Anything b x ≡ []) (sym p) none)
+      ∙ sym (listed-stop (take to s) over b g at (sym (step-end (take to s) at (let n = long s to l in omega arith))))
+  listed-front (onward {at} {c} {k} e r) = go (listed-front r) (uncut s to l at c k e (reached-ahead s to r)) (eqb (byteOf c) b) (over (byteOf c)) refl refl
+    where
+      go : listed s over b f (commandsAt s (k .at)) ≡ listed (take to s) over b g (commandsAt (take to s) (k .at)) → Uncut s to l at c k
+          → (t o : Bool) → eqb (byteOf c) b ≡ t → over (byteOf c) ≡ o → listed s over b f (commandsAt s at) ≡ listed (take to s) over b g (commandsAt (take to s) at)
+      go ih u true o p q =
+          let h = eqb-true (byteOf c) b p in
+          listed-here s over b f at c k e h ∙ ap₂ (λ (x : A) (m : List A). x ∷ m) (same at c k e (byte-is s at c k e ∙ h) r) ih
+          ∙ sym (listed-here (take to s) over b g at (u .command) (place (k .at)) (u .step) (u .number ∙ h))
+      go ih u false true p q =
+          let h = eqb-false (byteOf c) b p in
+          listed-over s over b f at c k e h q ∙ ih
+          ∙ sym (listed-over (take to s) over b g at (u .command) (place (k .at)) (u .step) (λ x. h (sym (u .number) ∙ x)) (ap over (u .number) ∙ q))
+      go ih u false false p q =
+          let h = eqb-false (byteOf c) b p in
+          listed-end s over b f at c k e h q
+          ∙ sym (listed-end (take to s) over b g at (u .command) (place (k .at)) (u .step) (λ x. h (sym (u .number) ∙ x)) (ap over (u .number) ∙ q))
+
+-- the bytes of a command before the cut
+byte-front : (s : Str) (to at c : ℕ) → at + c ≤ to → (i : ℕ) → i < c → getD (drop at s) i 0 ≡ getD (drop at (take to s)) i 0
+byte-front s to at c h i l = getD-drop at s i 0 ∙ sym (getD-take to s (at + i) 0 (omega arith)) ∙ sym (getD-drop at (take to s) i 0)
+
+module _ (s : Str) (to at : ℕ) (c : Command) (k : Cursor) (e : stepAt s at ≡ Next c k) (r : Reached s to (k .at)) where
+  bytes-front : (b : ℕ) → getD s at 0 ≡ b → (i : ℕ) → i < widthOf b → getD (drop at s) i 0 ≡ getD (drop at (take to s)) i 0
+  bytes-front b h =
+      byte-front s to at (widthOf b) (let a = reached-ahead s to r in let w : k .at ≡ at + widthOf b = step-found s at c k e .wide ∙ ap (λ (x : ℕ). at + widthOf x) h in omega arith)
+
+-- bit fields -------------------------------------------------------------------------------------------------------------
+
+bitfield-same : (x y : Str) → ((i : ℕ) → i < 11 → getD x i 0 ≡ getD y i 0) → bitfieldAt x ≡ bitfieldAt y
+bitfield-same x y f =
+    let n = text-same x y 1 (λ i k l. f i (omega arith)) in
+    let w = u32-same x y 4 (λ i k l. f i (omega arith)) in
+    let r = opt-same x y 8 (λ i k l. f i (omega arith)) in
+    λ j. record { name = n j; size = w j; «first_release» = r j }
+
+member-same : (x y : Str) → ((i : ℕ) → i < 16 → getD x i 0 ≡ getD y i 0) → memberAt x ≡ memberAt y
+member-same x y f =
+    let n = text-same x y 1 (λ i k l. f i (omega arith)) in
+    let b = u32-same x y 4 (λ i k l. f i (omega arith)) in
+    let w = number-same x y 8 (λ i k l. f i (omega arith)) in
+    let r = opt-same x y 13 (λ i k l. f i (omega arith)) in
+    λ j. record { name = n j; bit = b j; width = w j; «first_release» = r j }
+
+module _ (s p : Str) (to : ℕ) (h : Before s 6 7 to) where
+  short : to ≤ length s
+  short = reached-within s to (h .reached) (omega arith)
+
+  members-front : {at : ℕ} → Reached s to at → members s p (commandsAt s at) ≡ members (take to s) p (commandsAt (take to s) at)
+  unfolding members widthOf widthWith operands widths wide bytes
+  members-front =
+      listed-front s to short nothing 7 _ _ (h .second)
+      (λ at c k e i r. ap (memberOf p) (member-same (drop at s) (drop at (take to s)) (bytes-front s to at c k e r 7 i)))
+
+  bitfields-cut : bitfieldsAt s p 0 ≡ bitfieldsAt (take to s) p 0
+  unfolding bitfieldsAt bitfields widthOf widthWith operands widths wide bytes
+  bitfields-cut =
+      listed-front s to short anything 6 _ _ (h .first)
+      (λ at c k e i r. ap₂ (bitfieldOf p) (bitfield-same (drop at s) (drop at (take to s)) (bytes-front s to at c k e r 6 i)) (members-front r))
+      (h .reached)
+
+pub bitfields-front : (s p t : Str) (r : Ends) → EndsOf s r → t ≡ take (r .bitfields) s → bitfieldsAt t p 0 ≡ bitfieldsAt s p 0
+bitfields-front s p t r e h = ap (λ (x : Str). bitfieldsAt x p 0) h ∙ sym (bitfields-cut s p (r .bitfields) (e .bitfields))

@@ -1,0 +1,20 @@
+use Rattle.record.proofs.EndLaws.{noted-laws}
+use Rattle.record.proofs.ends.noted.Statement.{statement}
+use Rattle.record.proofs.ends.noted.Tie as tie
+use Rattle.record.proofs.ends.noted.Reads as reads
+use Rattle.record.proofs.ends.noted.Lts as lts
+
+-- src/ends.rt:19:9
+returns : tie.Need-returns
+returns c = search noted-laws
+
+-- src/ends.rt:23:9
+returns-2 : tie.Need-returns-2
+returns-2 c = search noted-laws
+
+-- src/ends.rt:13:1
+returns-3 : tie.Need-returns-3
+returns-3 c = search noted-laws
+
+pub noted-spec : {M : Type 1} → statement M
+noted-spec = tie.close (tie.spec returns returns-2 returns-3)
