@@ -4,17 +4,17 @@ use mathlib.Core.List.{List, [], _∷_, _++_}
 use mathlib.Core.Option.{Option, none, some}
 use mathlib.Core.Bool.{Bool, true, false, _||_, cond}
 use Prim.Native.Nat.{ℕ, _+_, _-_, _*_, _≤_, _<_}
-use native.Mathlib.Nat.{mul-le-mul}
+use native.Mathlib.Nat.{zero-add, sub-zero, zero-mul, mul-zero, mul-add, mul-le-mul, mul-le-mul-left, le-mul-of-pos-right}
 use native.Mathlib.Omega.{arith}
-use lib.ListN.{length, getD, drop}
+use lib.ListN.{length, getD, drop, length-drop}
 use lib.Dec.{eqb, leb}
-use borrow.Author.Tests.{eqb-true, le-leb, lt-leb, le-ltb, ne-eqb, leb-true, leb-false}
+use borrow.Author.Tests.{eqb-true, lt-leb, le-ltb, ne-eqb, leb-true, leb-false}
 use Rattle.record.specs.Base.{Str, bytes, eqs, any, find, first, orElse, mapOption}
 use Rattle.record.specs.Le.{u32At}
 use Rattle.record.specs.Scalars.{Scalar, scalarAt, scalarsAt, scalarsOf, scalarIn, sizeFound, primSize}
 use Rattle.record.specs.Schema.{Schema, Field, Family, Enum, Alias, BitField, Key}
 use Rattle.record.specs.Operands.{optNumberAt}
-use Rattle.record.specs.Commands.{enumAt, bitfieldAt, familyAt, fieldAt, commandsAt}
+use Rattle.record.specs.Commands.{operands, wide, widths, widthWith, widthOf, enumAt, bitfieldAt, familyAt, fieldAt, stepAt, commandsFrom, commandsAt}
 use Rattle.record.specs.Seek.{afterAt}
 use Rattle.record.specs.Lists.{optOf, numberOf, enumOf, bitfieldOf, fieldOf, familyOf, listed, values, enums, members, bitfields, keys, fields}
 use Rattle.record.specs.Steps.{enumIn, aliasIn, bitfieldIn}
@@ -22,12 +22,15 @@ use Rattle.record.specs.Kind.{kindOf}
 use Rattle.record.specs.Shapes.{enumSize, aliasSize, bitfieldSize, sized, scalarSize, sizeAs, shapeSize, placeOf, places, prefix, limit, capped}
 use Rattle.record.specs.Reading.{rec, schemaFrom, schemaOf, openedAt, opened, large, vast}
 use Rattle.record.specs.Vast.{openedFrom, discSize, lenSize, frontEnd, vastAt, firstVast}
-use Rattle.record.specs.Bound.{sumSizes, unitAt, fieldBound, boundAt, totalOf}
+use Rattle.record.specs.Bound.{sumSizes, unitAt, numbersOf, extraAt, totalOf, unitOf, boundOf}
 use Rattle.record.specs.declared.kind.Kind.{Kind}
 use Rattle.record.specs.declared.kind.Kind.the-variants as K
 use Rattle.record.specs.declared.command as D
+use Rattle.record.specs.declared.command.Cursor.{Cursor}
+use Rattle.record.specs.declared.command.Command.{Command}
+use Rattle.record.specs.declared.command.Step.the-variants.{Next}
 use Rattle.record.specs.declared.vast.Vast.the-variants.{NoneVast}
-use Rattle.record.proofs.Stream.{commands-stop, commands-next}
+use Rattle.record.proofs.Stream.{step-found, commands-stop, commands-next, along}
 use Rattle.record.proofs.ListLaws.{find-miss}
 use Rattle.record.proofs.ScalarLaws.{scalars-next, scalars-end}
 use Rattle.record.proofs.SeekLaws.{stepped, ended-there}
@@ -68,6 +71,31 @@ plus-left a b = go (leb a limit) refl
     go false q =
         let h = leb-false a limit q in
         ap (λ (x : ℕ). capped (x + b)) (sym (cap-high a h)) ∙ sym (cap-high (limit + 1 + b) (omega arith)) ∙ cap-high (a + b) (omega arith)
+
+cap-twice : (n : ℕ) → capped (capped n) ≡ capped n
+cap-twice n = go (leb n limit) refl
+  where
+    go : (t : Bool) → leb n limit ≡ t → capped (capped n) ≡ capped n
+    go true q = ap capped (sym (cap-low n (leb-true n limit q)))
+    go false q =
+        let h = leb-false n limit q in
+        ap capped (sym (cap-high n h)) ∙ sym (cap-high (limit + 1) (omega arith)) ∙ cap-high n h
+
+module _ (a b x : ℕ) (e : capped a ≡ capped b) where
+  sums-alike : (y : ℕ) → capped x ≡ capped y → capped (a + x) ≡ capped (b + y)
+  sums-alike y f =
+      sym (plus-left a x) ∙ ap (λ (k : ℕ). capped (k + x)) e ∙ plus-left b x
+      ∙ sym (plus-right b x) ∙ ap (λ (k : ℕ). capped (b + k)) f ∙ plus-right b y
+
+  products-alike : capped (a * x) ≡ capped (b * x)
+  products-alike = sym (product-capped a x) ∙ ap (λ (k : ℕ). capped (k * x)) e ∙ product-capped b x
+
+within-capped : (n : ℕ) → leb (capped n) limit ≡ leb n limit
+within-capped n = go (leb n limit) refl
+  where
+    go : (t : Bool) → leb n limit ≡ t → leb (capped n) limit ≡ leb n limit
+    go true q = ap (λ (k : ℕ). leb k limit) (sym (cap-low n (leb-true n limit q)))
+    go false q = ap (λ (k : ℕ). leb k limit) (sym (cap-high n (leb-false n limit q))) ∙ lt-leb (limit + 1) limit (omega arith) ∙ sym q
 
 -- the words of the table
 module _ (s : Str) where
@@ -112,105 +140,117 @@ module _ (s : Str) where
 -- the commands, one more at a time
 module _ (g : ℕ → ℕ) (s : Str) where
   pub record Totalling (total at : ℕ) : Type 0 where
-    pub so-far : total + totalOf g (commandsAt s at) ≡ totalOf g (commandsAt s 0)
-    pub low : total ≤ limit
+    pub so-far : capped (total + totalOf g (commandsAt s at)) ≡ capped (totalOf g (commandsAt s 0))
 
   pub totalling : Totalling 0 0
-  totalling = record { so-far = omega arith; low = omega arith }
+  totalling = record { so-far = ap capped (zero-add (totalOf g (commandsAt s 0))) }
 
   module _ (a at n : ℕ) (i : Totalling a at) (e : n ≡ afterAt s at) where
-    total-done : n ≡ 0 → a ≡ totalOf g (commandsAt s 0)
+    total-all : n ≡ 0 → capped a ≡ capped (totalOf g (commandsAt s 0))
     unfolding totalOf
-    total-done z =
-        let h : totalOf g (commandsAt s at) ≡ 0 = rw (commands-stop s at (ended-there s at n e z)) in
-        let f = i .so-far in
-        omega arith
-
-    pub total-all : n ≡ 0 → a ≡ capped (totalOf g (commandsAt s 0))
     total-all z =
-        let d = total-done z in
-        let l = i .low in
-        d ∙ cap-low (totalOf g (commandsAt s 0)) (omega arith)
+        let h : totalOf g (commandsAt s at) ≡ 0 = rw (commands-stop s at (ended-there s at n e z)) in
+        let f : a + totalOf g (commandsAt s at) ≡ a = omega arith in
+        ap capped (sym f) ∙ i .so-far
 
-    pub total-within : n ≡ 0 → true ≡ leb (totalOf g (commandsAt s 0)) limit
-    total-within z =
-        let d = total-done z in
-        let l = i .low in
-        sym (le-leb (totalOf g (commandsAt s 0)) limit (omega arith))
-
-    module _ (z : n ≡ 0 → ⊥) (x y : ℕ) (u : x ≡ capped (g at)) (v : y ≡ capped (a + x)) where
+    module _ (z : n ≡ 0 → ⊥) where
       total-here : totalOf g (commandsAt s at) ≡ g at + totalOf g (commandsAt s n)
       unfolding totalOf
       total-here = let t = stepped s at n e z in rw (commands-next s at (t .command) (t .cursor) (t .step), t .to)
 
-      sum-is : y ≡ capped (a + g at)
-      sum-is = v ∙ ap (λ (k : ℕ). capped (a + k)) u ∙ plus-right a (g at)
-
-      pub total-more : y ≤ limit → Totalling y n
-      total-more l =
-          let q = cap-exact (a + g at) y sum-is l in
-          let f = i .so-far in
+      pub total-more : (y : ℕ) → capped y ≡ capped (a + g at) → Totalling y n
+      total-more y v =
           let k = total-here in
-          record { so-far = omega arith; low = l }
+          let f : a + g at + totalOf g (commandsAt s n) ≡ a + totalOf g (commandsAt s at) = omega arith in
+          record { so-far = sums-alike y (a + g at) (totalOf g (commandsAt s n)) v (totalOf g (commandsAt s n)) refl ∙ ap capped f ∙ i .so-far }
 
-      total-past : limit < y → limit < totalOf g (commandsAt s 0)
-      total-past l =
-          let q = cap-past (a + g at) y sum-is l in
-          let f = i .so-far in
-          let k = total-here in
-          omega arith
-
-      pub total-over : limit < y → (limit + 1) ≡ capped (totalOf g (commandsAt s 0))
-      total-over l = cap-high (totalOf g (commandsAt s 0)) (total-past l)
-
-      pub total-beyond : limit < y → false ≡ leb (totalOf g (commandsAt s 0)) limit
-      total-beyond l = sym (lt-leb (totalOf g (commandsAt s 0)) limit (total-past l))
+-- both sums at the end of the walk
+pub within-is : (v : ℕ) (s : Str) (x y at n a u p q : ℕ) → Totalling (unitAt s) s x at → Totalling (extraAt v s) s y at → n ≡ afterAt s at → n ≡ 0
+    → a ≡ capped (4 + v) → u ≡ capped (a + x) → p ≡ capped (u * length s) → q ≡ capped (p + y) → leb q limit ≡ leb (boundOf v s) limit
+unfolding unitOf boundOf
+within-is v s x y at n a u p q i j e z a1 u1 p1 q1 =
+    let f = total-all (unitAt s) s x at n i e z in
+    let g = total-all (extraAt v s) s y at n j e z in
+    let b : capped a ≡ capped (4 + v) = ap capped a1 ∙ cap-twice (4 + v) in
+    let c : capped u ≡ capped (unitOf v s) = ap capped u1 ∙ cap-twice (a + x) ∙ sums-alike a (4 + v) x b (totalOf (unitAt s) (commandsAt s 0)) f in
+    let d : capped p ≡ capped (unitOf v s * length s) = ap capped p1 ∙ cap-twice (u * length s) ∙ products-alike u (unitOf v s) (length s) c in
+    let h : q ≡ capped (boundOf v s) = q1 ∙ sums-alike p (unitOf v s * length s) y d (totalOf (extraAt v s) (commandsAt s 0)) g in
+    ap (λ (k : ℕ). leb k limit) h ∙ within-capped (boundOf v s)
 
 -- what a command adds
-module _ (s : Str) (at b : ℕ) (e : b ≡ getD s at 0) where
-  pub unit-enum : (y : Str) (x w r : ℕ) → b ≡ 4 → y ≡ drop at s → x ≡ u32At y 4 → w ≡ x → r ≡ capped w → r ≡ capped (unitAt s at)
+added : (a r x y : ℕ) → r ≡ capped (a + x) → x ≡ y → capped r ≡ capped (a + y)
+added a r x y q e = ap capped q ∙ cap-twice (a + x) ∙ ap (λ (k : ℕ). capped (a + k)) e
+
+nothing-added : (a x : ℕ) → x ≡ 0 → capped a ≡ capped (a + x)
+nothing-added a x e = ap capped (let f : a ≡ a + x = omega arith in f)
+
+module _ (a : ℕ) (s : Str) (at b : ℕ) (e : b ≡ getD s at 0) where
+  pub unit-enum : (y : Str) (x w r : ℕ) → b ≡ 4 → y ≡ drop at s → x ≡ u32At y 4 → w ≡ x → r ≡ capped (a + w) → capped r ≡ capped (a + unitAt s at)
   unfolding unitAt
-  unit-enum y x w r h d f g q = q ∙ rw (g, f, d, sym e ∙ h)
+  unit-enum y x w r h d f g q = added a r w (unitAt s at) q (g ∙ f ∙ rw (d, sym e ∙ h))
 
-  pub unit-bits : (y : Str) (x w r : ℕ) → b ≡ 6 → y ≡ drop at s → x ≡ u32At y 4 → w ≡ x → r ≡ capped w → r ≡ capped (unitAt s at)
+  pub unit-bits : (y : Str) (x w r : ℕ) → b ≡ 6 → y ≡ drop at s → x ≡ u32At y 4 → w ≡ x → r ≡ capped (a + w) → capped r ≡ capped (a + unitAt s at)
   unfolding unitAt
-  unit-bits y x w r h d f g q = q ∙ rw (g, f, d, sym e ∙ h)
+  unit-bits y x w r h d f g q = added a r w (unitAt s at) q (g ∙ f ∙ rw (d, sym e ∙ h))
 
-  pub unit-none : (b ≡ 4 → ⊥) → (b ≡ 6 → ⊥) → 0 ≡ capped (unitAt s at)
+  pub unit-none : (b ≡ 4 → ⊥) → (b ≡ 6 → ⊥) → capped a ≡ capped (a + unitAt s at)
   unfolding unitAt
-  unit-none h k = rw (← e, ne-eqb b 4 h, ne-eqb b 6 k) (cap-low 0 (omega arith))
+  unit-none h k = nothing-added a (unitAt s at) (rw (← e, ne-eqb b 4 h, ne-eqb b 6 k))
 
-  module _ (u v : ℕ) where
-    pub bound-field : (y : Str) (r : ℕ) → b ≡ 11 → y ≡ drop at s → r ≡ capped (fieldBound u v (fieldAt y)) → r ≡ capped (boundAt u v s at)
-    unfolding boundAt
-    bound-field y r h d q = q ∙ rw (d, sym e ∙ h)
+  module _ (v : ℕ) where
+    pub extra-field : (y : Str) (r : ℕ) → b ≡ 11 → y ≡ drop at s → capped r ≡ capped (a + numbersOf v (fieldAt y)) → capped r ≡ capped (a + extraAt v s at)
+    unfolding extraAt
+    extra-field y r h d q = q ∙ rw (d, sym e ∙ h)
 
-    pub bound-front : (r : ℕ) → b ≡ 9 → r ≡ capped (u + u) → r ≡ capped (boundAt u v s at)
-    unfolding boundAt
-    bound-front r h q = q ∙ rw (sym e ∙ h)
-
-    pub bound-none : (b ≡ 11 → ⊥) → (b ≡ 9 → ⊥) → 0 ≡ capped (boundAt u v s at)
-    unfolding boundAt
-    bound-none h k = rw (← e, ne-eqb b 11 h, ne-eqb b 9 k) (cap-low 0 (omega arith))
+    pub extra-none : (b ≡ 11 → ⊥) → capped a ≡ capped (a + extraAt v s at)
+    unfolding extraAt
+    extra-none h = nothing-added a (extraAt v s at) (rw (← e, ne-eqb b 11 h))
 
 pub ruleset unit-laws = (unit-enum, unit-bits, unit-none)
 
-pub ruleset bound-laws = (bound-field, bound-front, bound-none)
+pub ruleset extra-laws = (extra-field, extra-none)
 
-joined : (u a b z : ℕ) → capped (u + capped (capped a + capped (capped b + z))) ≡ capped (u + (a + (b + z)))
-joined u a b z =
-    ap (λ (x : ℕ). capped (u + capped (capped a + x))) (plus-left b z)
-    ∙ ap (λ (x : ℕ). capped (u + x)) (plus-left a (capped (b + z)) ∙ plus-right a (b + z))
-    ∙ plus-right u (a + (b + z))
+-- the bytes of a field are there
+pub field-there : (s y : Str) (at b : ℕ) → b ≡ getD s at 0 → b ≡ 11 → y ≡ drop at s → at + widthOf (getD s at 0) ≤ length s → 33 ≤ length y
+unfolding operands bytes wide widths widthWith widthOf
+field-there s y at b e h d l =
+    let w : widthOf (getD s at 0) ≡ 33 = ap widthOf (sym e ∙ h) in
+    let n : length y ≡ length s - at = rw (d, length-drop) in
+    omega arith
 
-pub field-bound-is : (x : Str) (u v c d k z line first square below rest r : ℕ) → c ≡ orElse (numberOf (optNumberAt x 13)) 0 → line ≡ capped (v * c) → d ≡ orElse (numberOf (optNumberAt x 18)) 0
+-- a field's numbers
+numbers-joined : (a b z : ℕ) → capped (capped a + capped (capped b + z)) ≡ capped (a + (b + z))
+numbers-joined a b z = ap (λ (x : ℕ). capped (capped a + x)) (plus-left b z) ∙ plus-left a (capped (b + z)) ∙ plus-right a (b + z)
+
+pub numbers-are : (x : Str) (v c d k z line first square below r : ℕ) → c ≡ orElse (numberOf (optNumberAt x 13)) 0 → line ≡ capped (v * c) → d ≡ orElse (numberOf (optNumberAt x 18)) 0
     → first ≡ capped (v * d) → k ≡ orElse (numberOf (optNumberAt x 23)) 0 → square ≡ capped (first * k) → z ≡ orElse (numberOf (optNumberAt x 28)) 0 → below ≡ capped (square + z)
-    → rest ≡ capped (line + below) → r ≡ capped (u + rest) → r ≡ capped (fieldBound u v (fieldAt x))
-unfolding fieldBound
-field-bound-is x u v c d k z line first square below rest r c1 l1 d1 f1 k1 s1 z1 b1 r1 q =
+    → r ≡ capped (line + below) → r ≡ capped (numbersOf v (fieldAt x))
+unfolding numbersOf
+numbers-are x v c d k z line first square below r c1 l1 d1 f1 k1 s1 z1 b1 r1 =
     let mid : square ≡ capped (v * d * k) = s1 ∙ ap (λ (m : ℕ). capped (m * k)) f1 ∙ product-capped (v * d) k in
     rw (← c1, ← d1, ← k1, ← z1)
-    (q ∙ ap (λ (m : ℕ). capped (u + m)) (r1 ∙ ap₂ (λ (i j : ℕ). capped (i + j)) l1 (b1 ∙ ap (λ (m : ℕ). capped (m + z)) mid)) ∙ joined u (v * c) (v * d * k) z)
+    (r1 ∙ ap₂ (λ (i j : ℕ). capped (i + j)) l1 (b1 ∙ ap (λ (m : ℕ). capped (m + z)) mid) ∙ numbers-joined (v * c) (v * d * k) z)
+
+pub numbers-some : (a v : ℕ) (x : Str) (m r : ℕ) → m ≡ capped (numbersOf v (fieldAt x)) → r ≡ capped (a + m) → capped r ≡ capped (a + numbersOf v (fieldAt x))
+numbers-some a v x m r e q = added a r m (capped (numbersOf v (fieldAt x))) q e ∙ plus-right a (numbersOf v (fieldAt x))
+
+absent : (x : Str) (at : ℕ) → getD x at 0 ≡ 0 → orElse (numberOf (optNumberAt x at)) 0 ≡ 0
+unfolding optNumberAt orElse
+absent x at e = rw e
+
+none-of : (a b z : ℕ) → a ≡ 0 → b ≡ 0 → z ≡ 0 → a + (b + z) ≡ 0
+none-of a b z e f g = omega arith
+
+pub numbers-none : (a v : ℕ) (x : Str) → getD x 13 0 ≡ 0 → getD x 18 0 ≡ 0 → getD x 28 0 ≡ 0 → capped a ≡ capped (a + numbersOf v (fieldAt x))
+unfolding numbersOf
+numbers-none a v x e f g =
+    let k = orElse (numberOf (optNumberAt x 23)) 0 in
+    nothing-added a (numbersOf v (fieldAt x)) (none-of _ _ _ (no-times 13 e) (ap (λ (n : ℕ). n * k) (no-times 18 f) ∙ zero-mul k) (absent x 28 g))
+  where
+    no-times : (at : ℕ) → getD x at 0 ≡ 0 → v * orElse (numberOf (optNumberAt x at)) 0 ≡ 0
+    no-times at h = ap (λ (n : ℕ). v * n) (absent x at h) ∙ mul-zero v
+
+pub ruleset numbers-laws = (numbers-some, numbers-none)
 
 -- each size is within its part of the bound ----------------------------------------------------------------------------------
 
@@ -301,8 +341,8 @@ at-most : (a b c : ℕ) → a ≤ b → b ≤ c → a ≤ c
 at-most a b c h k = omega arith
 
 module _ (t : Schema) (u v : ℕ) (i : Units t u v) (p : Str) (f : D.Field.Field) (key : Option Key) where
-  size-below : (k : Kind) → sizeAs k t (fieldOf p f key) ≤ fieldBound u v f
-  unfolding sizeAs scalarSize fieldBound
+  size-below : (k : Kind) → sizeAs k t (fieldOf p f key) ≤ u + numbersOf v f
+  unfolding sizeAs scalarSize numbersOf
   size-below K.Scalar = part-one (scalarSize t (optOf p (f .«type_name»))) u (v * orElse (numberOf (f .count)) 0) (v * orElse (numberOf (f .rows)) 0 * orElse (numberOf (f .cols)) 0) (orElse (numberOf (f .size)) 0) (at-most (scalarSize t (optOf p (f .«type_name»))) v u (i .scalar (orElse (optOf p (f .«type_name»)) (bytes "u8"))) (i .narrow))
   size-below K.Enum = part-one (sized (optOf p (f .«type_name»)) (enumSize (t .enums)) 1) u (v * orElse (numberOf (f .count)) 0) (v * orElse (numberOf (f .rows)) 0 * orElse (numberOf (f .cols)) 0) (orElse (numberOf (f .size)) 0) (named-below u (optOf p (f .«type_name»)) (enumSize (t .enums)) 1 (at-most 1 4 u (omega arith) (i .four)) (i .enum))
   size-below K.TypeAlias = part-one (sized (optOf p (f .«type_name»)) (aliasSize (t .scalars) (t .aliases)) 2) u (v * orElse (numberOf (f .count)) 0) (v * orElse (numberOf (f .rows)) 0 * orElse (numberOf (f .cols)) 0) (orElse (numberOf (f .size)) 0) (named-below u (optOf p (f .«type_name»)) (aliasSize (t .scalars) (t .aliases)) 2 (at-most 2 4 u (omega arith) (i .four)) (alias-below u (t .scalars) (t .aliases) (at-most 2 4 u (omega arith) (i .four)) (λ x. at-most (primSize (t .scalars) x) v u (i .scalar x) (i .narrow))))
@@ -321,13 +361,17 @@ module _ (t : Schema) (u v : ℕ) (i : Units t u v) (p : Str) (f : D.Field.Field
   size-below K.Text = part-one 0 u (v * orElse (numberOf (f .count)) 0) (v * orElse (numberOf (f .rows)) 0 * orElse (numberOf (f .cols)) 0) (orElse (numberOf (f .size)) 0) (at-most 0 4 u (omega arith) (i .four))
   size-below K.Other = part-one 0 u (v * orElse (numberOf (f .count)) 0) (v * orElse (numberOf (f .rows)) 0 * orElse (numberOf (f .cols)) 0) (orElse (numberOf (f .size)) 0) (at-most 0 4 u (omega arith) (i .four))
 
-  shape-below : shapeSize t (fieldOf p f key) ≤ fieldBound u v f
+  shape-below : shapeSize t (fieldOf p f key) ≤ u + numbersOf v f
   unfolding shapeSize
   shape-below = size-below (kindOf (fieldOf p f key .kind))
 
 end-within : (t : Schema) (at : ℕ) (f : Field) (fs : List Field) → at + shapeSize t f ≤ limit → any large (places t (at + shapeSize t f) fs) ≡ false → any large (places t at (f ∷ fs)) ≡ false
 unfolding places placeOf any large
 end-within t at f fs h k = rw (le-ltb limit (at + shapeSize t f) h) k
+
+-- what a command takes of the bound: a field one unit and its numbers, a family the two units of its front
+unfoldable boundAt : ℕ → ℕ → Str → ℕ → ℕ
+boundAt u v s at = cond (eqb (getD s at 0) 11) (u + numbersOf v (fieldAt (drop at s))) (cond (eqb (getD s at 0) 9) (u + u) 0)
 
 -- the fields of a type end within the limit, and so do the fronts of families
 module _ (t : Schema) (u v : ℕ) (i : Units t u v) (s p : Str) where
@@ -337,7 +381,7 @@ module _ (t : Schema) (u v : ℕ) (i : Units t u v) (s p : Str) where
   fields-below (x ∷ ps) at h = go (fields-below ps) (eqb (getD s x 0) 11) h
     where
       go : ((k : ℕ) → k + totalOf (boundAt u v s) ps ≤ limit → any large (places t k (fields s p ps)) ≡ false) → (b : Bool)
-          → at + (cond b (fieldBound u v (fieldAt (drop x s))) (cond (eqb (getD s x 0) 9) (u + u) 0) + totalOf (boundAt u v s) ps) ≤ limit
+          → at + (cond b (u + numbersOf v (fieldAt (drop x s))) (cond (eqb (getD s x 0) 9) (u + u) 0) + totalOf (boundAt u v s) ps) ≤ limit
           → any large (places t at (cond b (fieldOf p (fieldAt (drop x s)) (first (keys s p ps)) ∷ fields s p ps) (cond (eqb (getD s x 0) 12) (fields s p ps) []))) ≡ false
       go ih true h =
           let l = shape-below t u v i p (fieldAt (drop x s)) (first (keys s p ps)) in
@@ -403,22 +447,72 @@ module _ (t : Schema) (u v : ℕ) (i : Units t u v) (s p : Str) where
       go ih false q true w = find-miss (vast t) (opened s p (x ∷ ps)) _ (opened s p ps) (opened-plain x ps q w) (fields-below ps 0 (omega (arith, h))) ∙ ih (omega (arith, h))
       go ih false q false w = ap (find (vast t)) (opened-skip x ps q w) ∙ ih (omega (arith, h))
 
-module _ (rows s p : Str) (v a b u : ℕ) (e : v ≡ capped (sumSizes (scalarsOf rows))) (f : a ≡ capped (4 + v)) (g : b ≡ capped (totalOf (unitAt s) (commandsAt s 0))) (k : u ≡ capped (a + b)) (l : u ≤ limit) where
-  units : Units (schemaOf (rec s p (scalarsOf rows))) u v
-  unfolding schemaOf schemaFrom
+-- the commands together take no more than the bound
+twice : (u w : ℕ) → 2 ≤ w → u + u ≤ u * w
+twice u w h = at-most (u + u) (u * 2) (u * w) (omega arith) (mul-le-mul-left u h)
+
+added-below : (a b p q r x y : ℕ) → a ≤ p + x → b ≤ q + y → r ≡ p + q → a + b ≤ r + (x + y)
+added-below a b p q r x y h k e = omega arith
+
+all-within : (t m n x : ℕ) → t ≤ m + x → m ≡ n → n + x ≤ limit → t ≤ limit
+all-within t m n x h q k = omega arith
+
+module _ (u v : ℕ) (s : Str) where
+  command-below : (at : ℕ) → boundAt u v s at ≤ u * widthOf (getD s at 0) + extraAt v s at
+  unfolding boundAt extraAt operands bytes wide widths widthWith widthOf
+  command-below at = go (eqb (getD s at 0) 11) refl (eqb (getD s at 0) 9) refl
+    where
+      go : (b : Bool) → eqb (getD s at 0) 11 ≡ b → (c : Bool) → eqb (getD s at 0) 9 ≡ c
+          → cond b (u + numbersOf v (fieldAt (drop at s))) (cond c (u + u) 0) ≤ u * widthOf (getD s at 0) + cond b (numbersOf v (fieldAt (drop at s))) 0
+      go true q c r = rw (eqb-true (getD s at 0) 11 q) (let h = twice u 33 (omega arith) in omega arith)
+      go false q true r = rw (eqb-true (getD s at 0) 9 r) (let h = twice u 17 (omega arith) in omega arith)
+      go false q false r = omega arith
+
+  commands-below : (at : ℕ) → totalOf (boundAt u v s) (commandsAt s at) ≤ u * (length s - at) + totalOf (extraAt v s) (commandsAt s at)
+  unfolding totalOf
+  commands-below =
+      along s (λ (at : ℕ). totalOf (boundAt u v s) (commandsAt s at) ≤ u * (length s - at) + totalOf (extraAt v s) (commandsAt s at))
+      (λ at e. rw (commands-stop s at e) (omega arith))
+      (λ at c k e ih. rw (commands-next s at c k e) (added-below _ _ _ _ _ _ _ (command-below at) ih (parted at c k e)))
+    where
+      parted : (at : ℕ) (c : Command) (k : Cursor) → stepAt s at ≡ Next c k → u * (length s - at) ≡ u * widthOf (getD s at 0) + u * (length s - k .at)
+      parted at c k e =
+          let g = step-found s at c k e in
+          let w = g .wide in
+          let l = g .within in
+          ap (λ (n : ℕ). u * n) (let d : length s - at ≡ widthOf (getD s at 0) + (length s - k .at) = omega arith in d)
+          ∙ mul-add u (widthOf (getD s at 0)) (length s - k .at)
+
+module _ (rows s p : Str) (v : ℕ) (e : v ≡ capped (sumSizes (scalarsOf rows))) (l : v ≤ limit) where
+  units : Units (schemaOf (rec s p (scalarsOf rows))) (unitOf v s) v
+  unfolding schemaOf schemaFrom unitOf
   units =
-      let h = cap-exact (a + b) u k l in
-      let i = cap-exact (4 + v) a f (omega arith) in
-      let j = cap-exact (totalOf (unitAt s) (commandsAt s 0)) b g (omega arith) in
-      let m = cap-exact (sumSizes (scalarsOf rows)) v e (omega arith) in
+      let m = cap-exact (sumSizes (scalarsOf rows)) v e l in
       record {
         four = omega arith;
         narrow = omega arith;
         scalar = λ x. at-most (primSize (scalarsOf rows) x) (sumSizes (scalarsOf rows)) v (prim-below (scalarsOf rows) x) (omega arith);
-        enum = λ n. at-most (sized (some n) (enumSize (enums s p (commandsAt s 0))) 1) (1 + totalOf (unitAt s) (commandsAt s 0)) u (enum-below s p n (commandsAt s 0)) (omega arith);
-        bits = λ n. at-most (sized (some n) (bitfieldSize (bitfields s p (commandsAt s 0))) 0) (0 + totalOf (unitAt s) (commandsAt s 0)) u (bits-below s p n (commandsAt s 0)) (omega arith);
+        enum = λ n. at-most (sized (some n) (enumSize (enums s p (commandsAt s 0))) 1) (1 + totalOf (unitAt s) (commandsAt s 0)) (unitOf v s) (enum-below s p n (commandsAt s 0)) (omega arith);
+        bits = λ n. at-most (sized (some n) (bitfieldSize (bitfields s p (commandsAt s 0))) 0) (0 + totalOf (unitAt s) (commandsAt s 0)) (unitOf v s) (bits-below s p n (commandsAt s 0)) (omega arith);
       }
 
-  pub small-none : (r : Bool) → r ≡ leb (totalOf (boundAt u v s) (commandsAt s 0)) limit → r ≡ true → NoneVast ≡ firstVast (rec s p (scalarsOf rows)) 0
-  unfolding firstVast openedFrom
-  small-none r q h = sym (ap vastAt (none-vast (schemaOf (rec s p (scalarsOf rows))) u v units s p (commandsAt s 0) (leb-true (totalOf (boundAt u v s) (commandsAt s 0)) limit (sym q ∙ h))))
+  bounded-none : boundOf v s ≤ limit → NoneVast ≡ firstVast (rec s p (scalarsOf rows)) 0
+  unfolding firstVast openedFrom boundOf
+  bounded-none b =
+      let total = all-within _ _ _ _ (commands-below (unitOf v s) v s 0) (ap (λ (n : ℕ). unitOf v s * n) (sub-zero (length s))) b in
+      sym (ap vastAt (none-vast (schemaOf (rec s p (scalarsOf rows))) (unitOf v s) v units s p (commandsAt s 0) total))
+
+-- in a stream with a byte the bound is not below what a scalar takes
+scalar-within : (v : ℕ) (s : Str) → 1 ≤ length s → boundOf v s ≤ limit → v ≤ limit
+unfolding unitOf boundOf
+scalar-within v s h b = low v (unitOf v s) (unitOf v s * length s) (totalOf (extraAt v s) (commandsAt s 0)) (omega arith) (le-mul-of-pos-right {m = length s} (unitOf v s) h) b
+  where
+    low : (v u m x : ℕ) → v ≤ u → u ≤ m → m + x ≤ limit → v ≤ limit
+    low v u m x h k l = omega arith
+
+pub small-none : (rows s p : Str) (v : ℕ) (r : Bool) → v ≡ capped (sumSizes (scalarsOf rows)) → r ≡ leb (boundOf v s) limit → r ≡ true → NoneVast ≡ firstVast (rec s p (scalarsOf rows)) 0
+unfolding firstVast openedFrom opened find commandsAt commandsFrom
+small-none rows [] p v r e q h = refl
+small-none rows (x ∷ xs) p v r e q h =
+    let b = leb-true (boundOf v (x ∷ xs)) limit (sym q ∙ h) in
+    bounded-none rows (x ∷ xs) p v e (scalar-within v (x ∷ xs) (omega arith) b) b

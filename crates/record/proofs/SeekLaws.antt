@@ -90,6 +90,14 @@ module _ (s : List ℕ) (at n : ℕ) (e : n ≡ afterAt s at) where
       let c = t .to in
       omega arith
 
+  pub after-whole : (n ≡ 0 → ⊥) → at + widthOf (getD s at 0) ≤ length s
+  after-whole z =
+      let t = stepped z in
+      let g = step-found s at (t .command) (t .cursor) (t .step) in
+      let a = g .wide in
+      let b = g .within in
+      omega arith
+
 -- a step along the places of a list ----------------------------------------------------------------------------------------
 
 -- the elements from a place on are those from a later one

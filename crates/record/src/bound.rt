@@ -6,7 +6,6 @@ use crate::le::byte_at;
 use crate::operands::opt_number_at;
 use crate::seek::after_at;
 use crate::sizes::LIMIT;
-use crate::sizes::cap;
 use crate::sizes::or_else;
 use crate::sizes::product;
 use crate::sizes::sum;
@@ -14,16 +13,18 @@ use crate::sizes::wide;
 use crate::vast::Vast;
 use crate::vast::first_vast;
 ghost use mathlib.Core.Path.{_≡_};
+ghost use Prim.Native.Nat.{_+_, _≤_};
+ghost use lib.ListN.{length, getD};
 ghost use lib.Dec.{leb};
 ghost use Rattle.record.specs.Base.{orElse};
 ghost use Rattle.record.specs.Scalars.{scalarsOf};
 ghost use Rattle.record.specs.Lists.{numberOf};
 ghost use Rattle.record.specs.Operands.{optNumberAt};
-ghost use Rattle.record.specs.Commands.{fieldAt, commandsAt};
+ghost use Rattle.record.specs.Commands.{widthOf, fieldAt};
 ghost use Rattle.record.specs.Shapes.{limit, capped};
 ghost use Rattle.record.specs.Reading.{rec};
 ghost use Rattle.record.specs.Vast.{firstVast};
-ghost use Rattle.record.specs.Bound.{sumSizes, unitAt, fieldBound, boundAt, totalOf};
+ghost use Rattle.record.specs.Bound.{sumSizes, unitAt, numbersOf, extraAt, boundOf};
 
 // A size that no scalar of the table is larger than: the sum of all.
 fn scalar_bound(rows: &[u8]) -> u64
@@ -41,33 +42,14 @@ fn scalar_bound(rows: &[u8]) -> u64
     total
 }
 
-// The size that an enum or a bit field declares.
-fn command_unit(stream: &[u8], at: usize) -> u64
-    ensures { λ r. ⌜ r ≡ capped (unitAt (now (stream .entry)) at) ⌝ }
+// The sum with the size that the command at a place declares, where it is an enum's or a bit field's.
+fn add_unit(total: u64, stream: &[u8], at: usize) -> u64
+    ensures { λ r. ⌜ capped r ≡ capped (total + unitAt (now (stream .entry)) at) ⌝ }
 {
     match byte_at(stream, at) {
-        4 => cap(wide(le::u32_at(cut::from(stream, at), 4))),
-        6 => cap(wide(le::u32_at(cut::from(stream, at), 4))),
-        _ => 0,
-    }
-}
-
-// A size that no enum and no bit field is larger than: the sum of all.
-fn unit_bound(stream: &[u8]) -> u64
-    ensures { λ r. ⌜ r ≡ capped (totalOf (unitAt (now (stream .entry))) (commandsAt (now (stream .entry)) 0)) ⌝ }
-{
-    let mut total = 0;
-    let mut at = 0;
-    loop {
-        let after = after_at(stream, at);
-        if after == 0 {
-            return total;
-        }
-        total = sum(total, command_unit(stream, at));
-        if LIMIT < total {
-            return LIMIT + 1;
-        }
-        at = after;
+        4 => sum(total, wide(le::u32_at(cut::from(stream, at), 4))),
+        6 => sum(total, wide(le::u32_at(cut::from(stream, at), 4))),
+        _ => total,
     }
 }
 
@@ -77,41 +59,56 @@ fn number(s: &[u8], at: usize) -> u64
     wide(or_else(opt_number_at(s, at), 0))
 }
 
-// A bound of a field's size, where no scalar is larger than v and nothing that a field names or points at than u.
-fn field_bound(u: u64, v: u64, s: &[u8]) -> u64
-    ensures { λ r. ⌜ r ≡ capped (fieldBound u v (fieldAt (now (s .entry)))) ⌝ }
+// What a field's numbers add to the bound of its size, where no scalar is larger than v.
+fn numbers(v: u64, s: &[u8]) -> u64
+    ensures { λ r. ⌜ r ≡ capped (numbersOf v (fieldAt (now (s .entry)))) ⌝ }
 {
     let line = product(v, number(s, 13));
     let square = product(product(v, number(s, 18)), number(s, 23));
-    sum(u, sum(line, sum(square, number(s, 28))))
+    sum(line, sum(square, number(s, 28)))
 }
 
-// What a command adds to the bound: a field its own, a family its front's.
-fn command_bound(u: u64, v: u64, stream: &[u8], at: usize) -> u64
-    ensures { λ r. ⌜ r ≡ capped (boundAt u v (now (stream .entry)) at) ⌝ }
+// The sum with what a field's numbers add. Few fields have any, so the flags are looked at first.
+fn add_numbers(total: u64, v: u64, s: &[u8]) -> u64
+    requires { ⌜ 33 ≤ length (now s) ⌝ }
+    ensures { λ r. ⌜ capped r ≡ capped (total + numbersOf v (fieldAt (now (s .entry)))) ⌝ }
 {
-    match byte_at(stream, at) {
-        11 => field_bound(u, v, cut::from(stream, at)),
-        9 => sum(u, u),
-        _ => 0,
+    if s[13] == 0 {
+        if s[18] == 0 {
+            if s[28] == 0 {
+                return total;
+            }
+        }
     }
+    sum(total, numbers(v, s))
 }
 
-// Whether the bounds of all commands together are within the limit.
-fn within(u: u64, v: u64, stream: &[u8]) -> bool
-    ensures { λ r. ⌜ r ≡ leb (totalOf (boundAt u v (now (stream .entry))) (commandsAt (now (stream .entry)) 0)) limit ⌝ }
+// The sum with what the numbers of the command at a place add, where it is a field's.
+fn add_extra(total: u64, v: u64, stream: &[u8], at: usize) -> u64
+    requires { ⌜ at + widthOf (getD (now stream) at 0) ≤ length (now stream) ⌝ }
+    ensures { λ r. ⌜ capped r ≡ capped (total + extraAt v (now (stream .entry)) at) ⌝ }
 {
-    let mut total = 0;
+    if byte_at(stream, at) == 11 {
+        return add_numbers(total, v, cut::from(stream, at));
+    }
+    total
+}
+
+// Whether the bound is within the limit, where no scalar is larger than v. One walk makes both sums, since the one that is multiplied is so at its end.
+fn within(v: u64, stream: &[u8]) -> bool
+    ensures { λ r. ⌜ r ≡ leb (boundOf v (now (stream .entry))) limit ⌝ }
+{
+    let mut units = 0;
+    let mut extra = 0;
     let mut at = 0;
     loop {
         let after = after_at(stream, at);
         if after == 0 {
-            return true;
+            let unit = sum(sum(4, v), units);
+            return sum(product(unit, stream.len() as u64), extra) <= LIMIT;
         }
-        total = sum(total, command_bound(u, v, stream, at));
-        if LIMIT < total {
-            return false;
-        }
+        units = add_unit(units, stream, at);
+        extra = add_extra(extra, v, stream, at);
         at = after;
     }
 }
@@ -120,12 +117,8 @@ fn within(u: u64, v: u64, stream: &[u8]) -> bool
 pub fn vast_type(rows: &[u8], stream: &[u8], pool: &[u8]) -> Vast
     ensures { λ r. ⌜ r ≡ firstVast (rec (now (stream .entry)) (now (pool .entry)) (scalarsOf (now (rows .entry)))) 0 ⌝ }
 {
-    let v = scalar_bound(rows);
-    let u = sum(sum(4, v), unit_bound(stream));
-    if u <= LIMIT {
-        if within(u, v, stream) {
-            return Vast::NoneVast;
-        }
+    if within(scalar_bound(rows), stream) {
+        return Vast::NoneVast;
     }
     first_vast(rows, stream, pool)
 }

@@ -5,52 +5,30 @@ use Rattle.record.proofs.bound.vast_type.Tie as tie
 use Rattle.record.proofs.bound.vast_type.Reads as reads
 use Rattle.record.proofs.bound.vast_type.Lts as lts
 use Rattle.record.proofs.bound.scalar_bound.Reads as scalar-bound-reads
-use Rattle.record.proofs.bound.unit_bound.Reads as unit-bound-reads
 use Rattle.record.proofs.bound.within.Reads as within-reads
-use Rattle.record.proofs.sizes.sum.Reads as sum-reads
 use Rattle.record.proofs.vast.first_vast.Reads as first-vast-reads
 
--- src/bound.rt:129:9
+-- src/bound.rt:121:15
 scalar-bound-requires : tie.Need-scalar-bound-requires
 scalar-bound-requires c κs = search needs
 
--- src/bound.rt:130:17
-sum-requires : tie.Need-sum-requires
-sum-requires c κs = search needs
-
--- src/bound.rt:130:28
-unit-bound-requires : tie.Need-unit-bound-requires
-unit-bound-requires c κs = search needs
-
--- src/bound.rt:130:9
-sum-requires-2 : tie.Need-sum-requires-2
-sum-requires-2 c κs = search needs
-
--- src/bound.rt:132:12
+-- src/bound.rt:121:8
 within-requires : tie.Need-within-requires
 within-requires c κs = search needs
 
--- src/bound.rt:133:13
+-- src/bound.rt:122:9
 returns : tie.Need-returns
 returns c = search small-none
 
--- src/bound.rt:136:5
+-- src/bound.rt:124:5
 first-vast-requires : tie.Need-first-vast-requires
 first-vast-requires c κs = search needs
 
--- src/bound.rt:126:1
+-- src/bound.rt:118:1
 returns-2 : tie.Need-returns-2
 returns-2 c = search needs
 
 pub vast-type-spec : {M : Type 1} → statement M
 vast-type-spec =
     tie.close
-    (tie.spec
-    scalar-bound-requires
-    sum-requires
-    unit-bound-requires
-    sum-requires-2
-    within-requires
-    returns
-    first-vast-requires
-    returns-2)
+    (tie.spec scalar-bound-requires within-requires returns first-vast-requires returns-2)

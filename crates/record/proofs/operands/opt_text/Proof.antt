@@ -1,5 +1,4 @@
 use Rattle.record.proofs.CommandLaws.{opt-text-laws}
-use borrow.Author.Needs.{needs}
 use Rattle.record.proofs.operands.opt_text.Statement.{statement}
 use Rattle.record.proofs.operands.opt_text.Tie as tie
 use Rattle.record.proofs.operands.opt_text.Reads as reads

@@ -1,76 +1,76 @@
 use Rattle.record.proofs.BoundLaws.{unit-laws}
 use borrow.Author.Needs.{needs}
-use Rattle.record.proofs.bound.command_unit.Statement.{statement}
-use Rattle.record.proofs.bound.command_unit.Tie as tie
-use Rattle.record.proofs.bound.command_unit.Reads as reads
-use Rattle.record.proofs.bound.command_unit.Lts as lts
+use Rattle.record.proofs.bound.add_unit.Statement.{statement}
+use Rattle.record.proofs.bound.add_unit.Tie as tie
+use Rattle.record.proofs.bound.add_unit.Reads as reads
+use Rattle.record.proofs.bound.add_unit.Lts as lts
 use Rattle.record.proofs.cut.from.Reads as from-reads
 use Rattle.record.proofs.le.byte_at.Reads as byte-at-reads
 use Rattle.record.proofs.le.u32_at.Reads as u32-at-reads
-use Rattle.record.proofs.sizes.cap.Reads as cap-reads
+use Rattle.record.proofs.sizes.sum.Reads as sum-reads
 use Rattle.record.proofs.sizes.wide.Reads as wide-reads
 
--- src/bound.rt:54:11
+-- src/bound.rt:49:11
 byte-at-requires : tie.Need-byte-at-requires
 byte-at-requires c κs = search needs
 
--- src/bound.rt:55:34
+-- src/bound.rt:50:41
 from-requires : tie.Need-from-requires
 from-requires c κs = search needs
 
--- src/bound.rt:55:23
+-- src/bound.rt:50:30
 u32-at-requires : tie.Need-u32-at-requires
 u32-at-requires c κs = search needs
 
--- src/bound.rt:55:18
+-- src/bound.rt:50:25
 wide-requires : tie.Need-wide-requires
 wide-requires c κs = search needs
 
--- src/bound.rt:55:14
-cap-requires : tie.Need-cap-requires
-cap-requires c κs = search needs
+-- src/bound.rt:50:14
+sum-requires : tie.Need-sum-requires
+sum-requires c κs = search needs
 
--- src/bound.rt:56:34
+-- src/bound.rt:51:41
 from-requires-2 : tie.Need-from-requires-2
 from-requires-2 c κs = search needs
 
--- src/bound.rt:56:23
+-- src/bound.rt:51:30
 u32-at-requires-2 : tie.Need-u32-at-requires-2
 u32-at-requires-2 c κs = search needs
 
--- src/bound.rt:56:18
+-- src/bound.rt:51:25
 wide-requires-2 : tie.Need-wide-requires-2
 wide-requires-2 c κs = search needs
 
--- src/bound.rt:56:14
-cap-requires-2 : tie.Need-cap-requires-2
-cap-requires-2 c κs = search needs
+-- src/bound.rt:51:14
+sum-requires-2 : tie.Need-sum-requires-2
+sum-requires-2 c κs = search needs
 
--- src/bound.rt:51:1
+-- src/bound.rt:46:1
 returns : tie.Need-returns
 returns c = search unit-laws
 
--- src/bound.rt:51:1
+-- src/bound.rt:46:1
 returns-2 : tie.Need-returns-2
 returns-2 c = search unit-laws
 
--- src/bound.rt:51:1
+-- src/bound.rt:46:1
 returns-3 : tie.Need-returns-3
 returns-3 c = search unit-laws
 
-pub command-unit-spec : {M : Type 1} → statement M
-command-unit-spec =
+pub add-unit-spec : {M : Type 1} → statement M
+add-unit-spec =
     tie.close
     (tie.spec
     byte-at-requires
     from-requires
     u32-at-requires
     wide-requires
-    cap-requires
+    sum-requires
     from-requires-2
     u32-at-requires-2
     wide-requires-2
-    cap-requires-2
+    sum-requires-2
     returns
     returns-2
     returns-3)
