@@ -1,13 +1,13 @@
 -- The whole comparison of two records, from its passes over their lists. Assumes nothing.
 use mathlib.Core.Path.{_≡_, refl, sym, ap, ap₂, _∙_}
-use mathlib.Core.List.{[], _∷_}
+use mathlib.Core.List.{List, [], _∷_}
 use mathlib.Core.Option.{Option}
 use mathlib.Core.Bool.{Bool, true, false}
 use lib.ListN.{take}
 use Rattle.record.specs.Base.{Str}
 use Rattle.record.specs.Stretch.{textOf}
 use Rattle.record.specs.Lists.{optOf}
-use Rattle.record.specs.Schema.{Schema}
+use Rattle.record.specs.Schema.{Schema, Enum}
 use Rattle.record.specs.Steps.{constantsAt, enumsAt, bitfieldsAt, structsAt, familiesAt, unstoredAt, versionsAt}
 use Rattle.record.specs.Keys.{pluginKeys}
 use Rattle.record.specs.References.{typesAt}
@@ -16,7 +16,7 @@ use Rattle.record.specs.Reading.{Rec, schemaOf}
 use Rattle.record.specs.declared.ends.Ends.{Ends}
 use Rattle.record.specs.declared.text.Text.{Text}
 use Rattle.record.specs.declared.operands.OptText.{OptText}
-use Rattle.record.proofs.EndLaws.{bitfields-front}
+use Rattle.record.proofs.EndLaws.{enums-front, bitfields-front}
 use Rattle.record.proofs.SchemaLaws.{schema-release, schema-unreleased, schema-constants, schema-aliases, schema-enums, schema-bitfields, schema-structs, schema-families, schema-unstored, schema-versions}
 use Rattle.definition.specs.Verdicts as D
 use Rattle.definition.specs.Pass.{_then_, required}
@@ -38,6 +38,9 @@ use Rattle.verdicts.specs.Meaning.{meaning}
 use Rattle.verdicts.specs.declared.verdict.Verdict.{Verdict}
 
 -- streams that are cut off where a list ends have the same list
+pub enums-cut : (r q : Str) (was : Ends) → EndsOf r was → (u : Str) → u ≡ take (was .enums) r → (p : Str) (v : Verdict) (es : List Enum) → meaning p q v ≡ checkEnums es (enumsAt u q 0) → meaning p q v ≡ checkEnums es (enumsAt r q 0)
+enums-cut r q was j u f p v es h = h ∙ ap (checkEnums es) (enums-front r q u was j f)
+
 module _ (s p : Str) (is : Ends) (i : EndsOf s is) (r q : Str) (was : Ends) (j : EndsOf r was) where
   module _ (t u : Str) (e : t ≡ take (is .bitfields) s) (f : u ≡ take (was .bitfields) r) (v : Verdict) where
     pub bits-cut : meaning p q v ≡ checkBitfields (bitfieldsAt t p 0) (bitfieldsAt u q 0) → meaning p q v ≡ checkBitfields (bitfieldsAt s p 0) (bitfieldsAt r q 0)

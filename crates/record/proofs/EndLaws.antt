@@ -9,9 +9,9 @@ use lib.Dec.{eqb}
 use lib.ListN.{length, take, drop, getD}
 use lib.Seq.{getD-take, getD-drop, length-take-le}
 use Rattle.record.specs.Base.{Str, bytes}
-use Rattle.record.specs.Commands.{widthOf, widthWith, operands, widths, wide, commandOf, stepAt, place, commandsAt, bitfieldAt, memberAt}
-use Rattle.record.specs.Lists.{listed, nothing, anything, memberOf, bitfieldOf, members, bitfields}
-use Rattle.record.specs.Steps.{bitfieldsAt}
+use Rattle.record.specs.Commands.{widthOf, widthWith, operands, widths, wide, commandOf, stepAt, place, commandsAt, enumAt, valueAt, bitfieldAt, memberAt}
+use Rattle.record.specs.Lists.{listed, nothing, anything, enumOf, valueOf, bitfieldOf, memberOf, values, enums, members, bitfields}
+use Rattle.record.specs.Steps.{enumsAt, bitfieldsAt}
 use Rattle.record.specs.Seek.{afterAt, overOf, placesOf}
 use Rattle.record.specs.Ends.{Reached, there, onward, Before, EndsOf, noted}
 use Rattle.record.specs.declared.command.Cursor.{Cursor}
@@ -19,7 +19,7 @@ use Rattle.record.specs.declared.command.Command.{Command}
 use Rattle.record.specs.declared.command.Step.the-variants.{Next}
 use Rattle.record.specs.declared.seek.Between.the-variants.{Anything}
 use Rattle.record.specs.declared.ends.Ends.{Ends}
-use Rattle.record.proofs.CommandLaws.{step-end, step-next, text-same, opt-same, u32-same, number-same}
+use Rattle.record.proofs.CommandLaws.{step-end, step-next, text-same, opt-same, flag-same, u32-same, u64-same, number-same}
 use Rattle.record.proofs.Stream.{step-found, along}
 use Rattle.record.proofs.ListLaws.{byteOf, byte-is, listed-stop, listed-here, listed-over, listed-end}
 use Rattle.record.proofs.SeekLaws.{Stepped, stepped, ended-there}
@@ -38,13 +38,14 @@ pub record BeforeTo (s : Str) (a b e at : ℕ) : Type 0 where
 
 pub record EndsTo (s : Str) (r : Ends) (at : ℕ) : Type 0 where
   pub reached : Reached s at 0
+  pub enums : BeforeTo s 4 5 (r .enums) at
   pub bitfields : BeforeTo s 6 7 (r .bitfields) at
 
 nowhere : (s : Str) (a b : ℕ) → BeforeTo s a b 0 0
 nowhere s a b = record { reached = there refl; first = refl; second = refl }
 
-pub ends-start : (s : Str) → EndsTo s (record { bitfields = 0 }) 0
-ends-start s = record { reached = there refl; bitfields = nowhere s 6 7 }
+pub ends-start : (s : Str) → EndsTo s (record { enums = 0; bitfields = 0 }) 0
+ends-start s = record { reached = there refl; enums = nowhere s 4 5; bitfields = nowhere s 6 7 }
 
 module _ (s : Str) (at n : ℕ) (e : n ≡ afterAt s at) where
   module _ (z : n ≡ 0) where
@@ -56,7 +57,7 @@ module _ (s : Str) (at n : ℕ) (e : n ≡ afterAt s at) where
     all-before a b k h = record { reached = h .reached; first = h .first ∙ none-left a; second = h .second ∙ none-left b }
 
     pub ends-end : (r : Ends) → EndsTo s r at → EndsOf s r
-    ends-end r h = record { bitfields = all-before 6 7 (r .bitfields) (h .bitfields) }
+    ends-end r h = record { enums = all-before 4 5 (r .enums) (h .enums); bitfields = all-before 6 7 (r .bitfields) (h .bitfields) }
 
   module _ (z : n ≡ 0 → ⊥) (y : ℕ) (i : y ≡ getD s at 0) where
     t : Stepped s at n
@@ -80,26 +81,38 @@ module _ (s : Str) (at n : ℕ) (e : n ≡ afterAt s at) where
 
     pub ends-on : (r q : Ends) → EndsTo s r at → q ≡ noted r y n → EndsTo s q n
     unfolding noted
-    ends-on r q h j = rw j (record { reached = reach (h .reached); bitfields = seen 6 7 (r .bitfields) (h .reached) (h .bitfields) })
+    ends-on r q h j = rw j (record {
+      reached = reach (h .reached);
+      enums = seen 4 5 (r .enums) (h .reached) (h .enums);
+      bitfields = seen 6 7 (r .bitfields) (h .reached) (h .bitfields);
+    })
 
 pub ruleset ends-laws = (ends-start, ends-end, ends-on)
 
 -- noted ------------------------------------------------------------------------------------------------------------------
 
 module _ (r : Ends) (b k : ℕ) where
-  pub noted-bits : b ≡ 6 → _≡_ {A = Ends} (record { bitfields = k }) (noted r b k)
+  pub noted-enum : b ≡ 4 → _≡_ {A = Ends} (record { enums = k; bitfields = r .bitfields }) (noted r b k)
+  unfolding noted
+  noted-enum e = rw e
+
+  pub noted-value : b ≡ 5 → _≡_ {A = Ends} (record { enums = k; bitfields = r .bitfields }) (noted r b k)
+  unfolding noted
+  noted-value e = rw e
+
+  pub noted-bits : b ≡ 6 → _≡_ {A = Ends} (record { enums = r .enums; bitfields = k }) (noted r b k)
   unfolding noted
   noted-bits e = rw e
 
-  pub noted-member : b ≡ 7 → _≡_ {A = Ends} (record { bitfields = k }) (noted r b k)
+  pub noted-member : b ≡ 7 → _≡_ {A = Ends} (record { enums = r .enums; bitfields = k }) (noted r b k)
   unfolding noted
   noted-member e = rw e
 
-  pub noted-other : (b ≡ 6 → ⊥) → (b ≡ 7 → ⊥) → r ≡ noted r b k
+  pub noted-other : (b ≡ 4 → ⊥) → (b ≡ 5 → ⊥) → (b ≡ 6 → ⊥) → (b ≡ 7 → ⊥) → r ≡ noted r b k
   unfolding noted
-  noted-other g h = rw (ne-eqb b 6 g, ne-eqb b 7 h)
+  noted-other f g h i = rw (ne-eqb b 4 f, ne-eqb b 5 g, ne-eqb b 6 h, ne-eqb b 7 i)
 
-pub ruleset noted-laws = (noted-bits, noted-member, noted-other)
+pub ruleset noted-laws = (noted-enum, noted-value, noted-bits, noted-member, noted-other)
 
 -- a list of a stream that is cut off -------------------------------------------------------------------------------------
 
@@ -183,6 +196,43 @@ module _ (s : Str) (to at : ℕ) (c : Command) (k : Cursor) (e : stepAt s at ≡
   bytes-front b h =
       byte-front s to at (widthOf b) (let a = reached-ahead s to r in let w : k .at ≡ at + widthOf b = step-found s at c k e .wide ∙ ap (λ (x : ℕ). at + widthOf x) h in omega arith)
 
+before-short : (s : Str) (a b to : ℕ) → Before s a b to → to ≤ length s
+before-short s a b to h = reached-within s to (h .reached) (omega arith)
+
+-- enums ------------------------------------------------------------------------------------------------------------------
+
+enum-same : (x y : Str) → ((i : ℕ) → i < 12 → getD x i 0 ≡ getD y i 0) → enumAt x ≡ enumAt y
+enum-same x y f =
+    let n = text-same x y 1 (λ i k l. f i (omega arith)) in
+    let w = u32-same x y 4 (λ i k l. f i (omega arith)) in
+    let a = flag-same x y 8 (f 8 (omega arith)) in
+    let r = opt-same x y 9 (λ i k l. f i (omega arith)) in
+    λ j. record { name = n j; size = w j; «ora_api» = a j; «first_release» = r j }
+
+value-same : (x y : Str) → ((i : ℕ) → i < 15 → getD x i 0 ≡ getD y i 0) → valueAt x ≡ valueAt y
+value-same x y f =
+    let n = text-same x y 1 (λ i k l. f i (omega arith)) in
+    let v = u64-same x y 4 (λ i k l. f i (omega arith)) in
+    let r = opt-same x y 12 (λ i k l. f i (omega arith)) in
+    λ j. record { name = n j; value = v j; «first_release» = r j }
+
+module _ (s p : Str) (to : ℕ) (h : Before s 4 5 to) where
+  values-front : {at : ℕ} → Reached s to at → values s p (commandsAt s at) ≡ values (take to s) p (commandsAt (take to s) at)
+  unfolding values widthOf widthWith operands widths wide bytes
+  values-front =
+      listed-front s to (before-short s 4 5 to h) nothing 5 _ _ (h .second)
+      (λ at c k e i r. ap (valueOf p) (value-same (drop at s) (drop at (take to s)) (bytes-front s to at c k e r 5 i)))
+
+  enums-cut : enumsAt s p 0 ≡ enumsAt (take to s) p 0
+  unfolding enumsAt enums widthOf widthWith operands widths wide bytes
+  enums-cut =
+      listed-front s to (before-short s 4 5 to h) anything 4 _ _ (h .first)
+      (λ at c k e i r. ap₂ (enumOf p) (enum-same (drop at s) (drop at (take to s)) (bytes-front s to at c k e r 4 i)) (values-front r))
+      (h .reached)
+
+pub enums-front : (s p t : Str) (r : Ends) → EndsOf s r → t ≡ take (r .enums) s → enumsAt t p 0 ≡ enumsAt s p 0
+enums-front s p t r e h = ap (λ (x : Str). enumsAt x p 0) h ∙ sym (enums-cut s p (r .enums) (e .enums))
+
 -- bit fields -------------------------------------------------------------------------------------------------------------
 
 bitfield-same : (x y : Str) → ((i : ℕ) → i < 11 → getD x i 0 ≡ getD y i 0) → bitfieldAt x ≡ bitfieldAt y
@@ -201,19 +251,16 @@ member-same x y f =
     λ j. record { name = n j; bit = b j; width = w j; «first_release» = r j }
 
 module _ (s p : Str) (to : ℕ) (h : Before s 6 7 to) where
-  short : to ≤ length s
-  short = reached-within s to (h .reached) (omega arith)
-
   members-front : {at : ℕ} → Reached s to at → members s p (commandsAt s at) ≡ members (take to s) p (commandsAt (take to s) at)
   unfolding members widthOf widthWith operands widths wide bytes
   members-front =
-      listed-front s to short nothing 7 _ _ (h .second)
+      listed-front s to (before-short s 6 7 to h) nothing 7 _ _ (h .second)
       (λ at c k e i r. ap (memberOf p) (member-same (drop at s) (drop at (take to s)) (bytes-front s to at c k e r 7 i)))
 
   bitfields-cut : bitfieldsAt s p 0 ≡ bitfieldsAt (take to s) p 0
   unfolding bitfieldsAt bitfields widthOf widthWith operands widths wide bytes
   bitfields-cut =
-      listed-front s to short anything 6 _ _ (h .first)
+      listed-front s to (before-short s 6 7 to h) anything 6 _ _ (h .first)
       (λ at c k e i r. ap₂ (bitfieldOf p) (bitfield-same (drop at s) (drop at (take to s)) (bytes-front s to at c k e r 6 i)) (members-front r))
       (h .reached)
 

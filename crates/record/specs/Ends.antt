@@ -25,8 +25,12 @@ pub record Before (s : Str) (a b e : ℕ) : Type 0 where
   pub second : placesOf s Anything b e ≡ []
 
 pub record EndsOf (s : Str) (r : Ends) : Type 0 where
+  pub enums : Before s 4 5 (r .enums)
   pub bitfields : Before s 6 7 (r .bitfields)
 
 -- the ends once one more command is seen
 unfoldable pub noted : Ends → ℕ → ℕ → Ends
-noted r b k = record { bitfields = cond (eqb b 6 || eqb b 7) k (r .bitfields) }
+noted r b k = record {
+  enums = cond (eqb b 4 || eqb b 5) k (r .enums);
+  bitfields = cond (eqb b 6 || eqb b 7) k (r .bitfields);
+}
