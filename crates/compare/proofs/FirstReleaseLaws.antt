@@ -35,7 +35,7 @@ use Rattle.record.specs.declared.lists.EnumStep.{EnumStep}
 use Rattle.record.specs.declared.lists.EnumStep.the-variants.{NoEnum, AnEnum}
 use Rattle.record.specs.declared.lists.ValueStep.{ValueStep}
 use Rattle.record.specs.declared.lists.ValueStep.the-variants.{NoValue, AValue}
-use Rattle.record.proofs.EndLaws.{enums-front}
+use Rattle.record.proofs.EndLaws.{constants-front, enums-front}
 use Rattle.record.proofs.StepLaws.{constants-now, constants-over-now, enums-now, enums-over-now, values-now, values-over-now}
 use Rattle.definition.specs.Verdicts.{aConstant, anEnum, aKey, within, valueUndated}
 use Rattle.definition.specs.Pass.{_then_, ensure, onFound}
@@ -298,6 +298,9 @@ pub ruleset key-arrivals-laws = (keys-end, keys-on, keys-stop)
 
 -- a stream that is cut off where a list ends has the same list
 module _ (s : Str) (is : Ends) (i : EndsOf s is) (t p q : Str) (v : Verdict) (now : Str) (copy : Option Str) where
+  pub constant-arrivals-cut : t ≡ take (is .constants) s → (cs : List M.Const) → meaning p q v ≡ checkConstantArrivals now copy (constantsAt t p 0) cs → meaning p q v ≡ checkConstantArrivals now copy (constantsAt s p 0) cs
+  constant-arrivals-cut e cs h = h ∙ ap (λ (l : List M.Const). checkConstantArrivals now copy l cs) (constants-front s p t is i e)
+
   pub enum-arrivals-cut : t ≡ take (is .enums) s → (es : List M.Enum) → meaning p q v ≡ checkEnumArrivals now copy (enumsAt t p 0) es → meaning p q v ≡ checkEnumArrivals now copy (enumsAt s p 0) es
   enum-arrivals-cut e es h = h ∙ ap (λ (l : List M.Enum). checkEnumArrivals now copy l es) (enums-front s p t is i e)
 

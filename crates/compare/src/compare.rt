@@ -64,7 +64,8 @@ fn check_numbers(
     requires { ⌜ (length (now past) ≤ 32768) × Room (now past) (now table) × Room (now past) (now scratch) × Indexed (now stream) (now pool) (now index) × EndsOf (now past) «old_ends» ⌝ }
     ensures { λ r. ⌜ meaning (now (pool .entry)) (now (old .entry)) r ≡ (checkConstants (structsAt (now (stream .entry)) (now (pool .entry)) 0) (constantsAt (now (stream .entry)) (now (pool .entry)) 0) (constantsAt (now (past .entry)) (now (old .entry)) 0) then checkEnums (enumsAt (now (stream .entry)) (now (pool .entry)) 0) (enumsAt (now (past .entry)) (now (old .entry)) 0)) ⌝ }
 {
-    let verdict = check_constants(stream, pool, index, past, old, table, scratch);
+    let was = upto(past, old_ends.constants);
+    let verdict = check_constants(stream, pool, index, was, old, table, scratch);
     if let Verdict::Passed = verdict {
         return check_enums(stream, pool, index, upto(past, old_ends.enums), old);
     }

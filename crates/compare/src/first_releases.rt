@@ -356,12 +356,13 @@ pub(crate) fn check_first_releases(
     requires { ⌜ EndsOf (now stream) ends × Indexed (now past) (now old) (now index) ⌝ }
     ensures { λ r. ⌜ meaning (now (pool .entry)) (now (old .entry)) r ≡ checkFirstReleases (textOf (now (pool .entry)) current) (optOf (now (old .entry)) copy) (constantsAt (now (stream .entry)) (now (pool .entry)) 0) (constantsAt (now (past .entry)) (now (old .entry)) 0) (enumsAt (now (stream .entry)) (now (pool .entry)) 0) (enumsAt (now (past .entry)) (now (old .entry)) 0) (pluginKeys (structsAt (now (stream .entry)) (now (pool .entry)) 0) (unstoredAt (now (stream .entry)) (now (pool .entry)) 0)) (pluginKeys (structsAt (now (past .entry)) (now (old .entry)) 0) (unstoredAt (now (past .entry)) (now (old .entry)) 0)) ⌝ }
 {
-    let constants = check_constant_arrivals(stream, pool, past, old, index, current, copy);
+    let first = upto(stream, ends.constants);
+    let constants = check_constant_arrivals(first, pool, past, old, index, current, copy);
     let Verdict::Passed = constants else {
         return constants;
     };
-    let listed = upto(stream, ends.enums);
-    let enums = check_enum_arrivals(listed, pool, past, old, index, current, copy);
+    let second = upto(stream, ends.enums);
+    let enums = check_enum_arrivals(second, pool, past, old, index, current, copy);
     let Verdict::Passed = enums else {
         return enums;
     };

@@ -6,6 +6,7 @@ ghost use Rattle.record.specs.Ends.{EndsOf, noted};
 
 // The place after the last command of each list; 0 where there is none.
 pub struct Ends {
+    pub constants: usize,
     pub enums: usize,
     pub bitfields: usize,
 }
@@ -15,6 +16,10 @@ fn noted(ends: Ends, number: u8, after: usize) -> Ends
     ensures { λ r. ⌜ r ≡ noted ends number after ⌝ }
 {
     let mut out = ends;
+    if number == 2 {
+        out.constants = after;
+        return out;
+    }
     if number == 4 {
         out.enums = after;
         return out;
@@ -39,6 +44,7 @@ pub fn ends_of(stream: &[u8]) -> Ends
     ensures { λ r. ⌜ EndsOf (now (stream .entry)) r ⌝ }
 {
     let mut ends = Ends {
+        constants: 0,
         enums: 0,
         bitfields: 0,
     };

@@ -24,5 +24,8 @@ returns-4 c = search noted-laws
 returns-5 : tie.Need-returns-5
 returns-5 c = search noted-laws
 
+returns-6 : tie.Need-returns-6
+returns-6 c = search noted-laws
+
 pub noted-spec : {M : Type 1} → statement M
-noted-spec = tie.close (tie.spec returns returns-2 returns-3 returns-4 returns-5)
+noted-spec = tie.close (tie.spec returns returns-2 returns-3 returns-4 returns-5 returns-6)
