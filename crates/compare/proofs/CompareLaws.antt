@@ -1,13 +1,16 @@
 -- The whole comparison of two records, from its passes over their lists. Assumes nothing.
 use mathlib.Core.Path.{_≡_, refl, sym, ap, ap₂, _∙_}
-use mathlib.Core.List.{[], _∷_}
+use mathlib.Core.List.{List, [], _∷_}
 use mathlib.Core.Option.{Option}
 use mathlib.Core.Bool.{Bool, true, false}
-use lib.ListN.{take}
+use Prim.Native.Nat.{ℕ, _≤_}
+use native.Mathlib.Omega.{arith}
+use native.Mathlib.Nat.{min-le-left, min-comm}
+use lib.ListN.{length, take, length-take}
 use Rattle.record.specs.Base.{Str}
 use Rattle.record.specs.Stretch.{textOf}
 use Rattle.record.specs.Lists.{optOf}
-use Rattle.record.specs.Schema.{Schema}
+use Rattle.record.specs.Schema.{Schema, Const, Enum, Struct}
 use Rattle.record.specs.Steps.{constantsAt, enumsAt, bitfieldsAt, structsAt, familiesAt, unstoredAt, versionsAt}
 use Rattle.record.specs.Keys.{pluginKeys}
 use Rattle.record.specs.References.{typesAt}
@@ -16,8 +19,9 @@ use Rattle.record.specs.Reading.{Rec, schemaOf}
 use Rattle.record.specs.declared.ends.Ends.{Ends}
 use Rattle.record.specs.declared.text.Text.{Text}
 use Rattle.record.specs.declared.operands.OptText.{OptText}
-use Rattle.record.proofs.EndLaws.{bitfields-front}
+use Rattle.record.proofs.EndLaws.{constants-front, enums-front, bitfields-front}
 use Rattle.record.proofs.SchemaLaws.{schema-release, schema-unreleased, schema-constants, schema-aliases, schema-enums, schema-bitfields, schema-structs, schema-families, schema-unstored, schema-versions}
+use Rattle.layout.specs.Room.{Room}
 use Rattle.definition.specs.Verdicts as D
 use Rattle.definition.specs.Pass.{_then_, required}
 use Rattle.compare.specs.Required.{RequiredText}
@@ -38,6 +42,23 @@ use Rattle.verdicts.specs.Meaning.{meaning}
 use Rattle.verdicts.specs.declared.verdict.Verdict.{Verdict}
 
 -- streams that are cut off where a list ends have the same list
+module _ (r u : Str) (n : ℕ) (f : u ≡ take n r) where
+  shorter : length u ≤ length r
+  shorter = rw (f, length-take, min-comm) (min-le-left (length r) n)
+
+  pub short-cut : length r ≤ 32768 → length u ≤ 32768
+  short-cut h = let e = shorter in omega arith
+
+  pub room-cut : (t : List ℕ) → Room r t → Room u t
+  room-cut t h = let e = shorter in omega arith
+
+pub constants-cut : (r q : Str) (was : Ends) → EndsOf r was → (u : Str) → u ≡ take (was .constants) r → (p : Str) (v : Verdict) (ts : List Struct) (cs : List Const) → meaning p q v ≡ checkConstants ts cs (constantsAt u q 0)
+    → meaning p q v ≡ checkConstants ts cs (constantsAt r q 0)
+constants-cut r q was j u f p v ts cs h = h ∙ ap (checkConstants ts cs) (constants-front r q u was j f)
+
+pub enums-cut : (r q : Str) (was : Ends) → EndsOf r was → (u : Str) → u ≡ take (was .enums) r → (p : Str) (v : Verdict) (es : List Enum) → meaning p q v ≡ checkEnums es (enumsAt u q 0) → meaning p q v ≡ checkEnums es (enumsAt r q 0)
+enums-cut r q was j u f p v es h = h ∙ ap (checkEnums es) (enums-front r q u was j f)
+
 module _ (s p : Str) (is : Ends) (i : EndsOf s is) (r q : Str) (was : Ends) (j : EndsOf r was) where
   module _ (t u : Str) (e : t ≡ take (is .bitfields) s) (f : u ≡ take (was .bitfields) r) (v : Verdict) where
     pub bits-cut : meaning p q v ≡ checkBitfields (bitfieldsAt t p 0) (bitfieldsAt u q 0) → meaning p q v ≡ checkBitfields (bitfieldsAt s p 0) (bitfieldsAt r q 0)

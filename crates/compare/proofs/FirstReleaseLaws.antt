@@ -5,7 +5,7 @@ use mathlib.Core.Option.{Option, some}
 use mathlib.Core.Bool.{Bool, true, false, not}
 use Prim.Native.Nat.{ℕ, suc, _<_}
 use native.Mathlib.Omega.{arith}
-use lib.ListN.{length}
+use lib.ListN.{length, take}
 use Rattle.record.specs.Base.{Str, eqs, isSome, orOption}
 use Rattle.record.specs.Schema as M
 use Rattle.record.specs.Stretch.{textOf}
@@ -13,6 +13,8 @@ use Rattle.record.specs.Commands.{start}
 use Rattle.record.specs.Lists.{optOf, constantOf, enumOf, valueOf, keyOf}
 use Rattle.record.specs.Steps.{constantsAt, enumsAt, valuesAt, structsAt, unstoredAt, ConstantsFrom, EnumsFrom, ValuesFrom, enumFound}
 use Rattle.record.specs.Index.{Indexed}
+use Rattle.record.specs.Ends.{EndsOf}
+use Rattle.record.specs.declared.ends.Ends.{Ends}
 use Rattle.record.specs.Named.{ApiEnum}
 use Rattle.record.specs.Keys.{pluginKeys, keysFrom, pluginKeysOf, AllKeys, PluginKeysFrom}
 use Rattle.record.specs.Dates.{Dated}
@@ -33,6 +35,7 @@ use Rattle.record.specs.declared.lists.EnumStep.{EnumStep}
 use Rattle.record.specs.declared.lists.EnumStep.the-variants.{NoEnum, AnEnum}
 use Rattle.record.specs.declared.lists.ValueStep.{ValueStep}
 use Rattle.record.specs.declared.lists.ValueStep.the-variants.{NoValue, AValue}
+use Rattle.record.proofs.EndLaws.{constants-front, enums-front}
 use Rattle.record.proofs.StepLaws.{constants-now, constants-over-now, enums-now, enums-over-now, values-now, values-over-now}
 use Rattle.definition.specs.Verdicts.{aConstant, anEnum, aKey, within, valueUndated}
 use Rattle.definition.specs.Pass.{_then_, ensure, onFound}
@@ -293,6 +296,14 @@ module _ (s p q : Str) (now : Text) (copy : OptText) (l : List M.Key) where
 
 pub ruleset key-arrivals-laws = (keys-end, keys-on, keys-stop)
 
+-- a stream that is cut off where a list ends has the same list
+module _ (s : Str) (is : Ends) (i : EndsOf s is) (t p q : Str) (v : Verdict) (now : Str) (copy : Option Str) where
+  pub constant-arrivals-cut : t ≡ take (is .constants) s → (cs : List M.Const) → meaning p q v ≡ checkConstantArrivals now copy (constantsAt t p 0) cs → meaning p q v ≡ checkConstantArrivals now copy (constantsAt s p 0) cs
+  constant-arrivals-cut e cs h = h ∙ ap (λ (l : List M.Const). checkConstantArrivals now copy l cs) (constants-front s p t is i e)
+
+  pub enum-arrivals-cut : t ≡ take (is .enums) s → (es : List M.Enum) → meaning p q v ≡ checkEnumArrivals now copy (enumsAt t p 0) es → meaning p q v ≡ checkEnumArrivals now copy (enumsAt s p 0) es
+  enum-arrivals-cut e es h = h ∙ ap (λ (l : List M.Enum). checkEnumArrivals now copy l es) (enums-front s p t is i e)
+
 -- the whole pass
 module _ (p q now : Str) (copy : Option Str) (cs cs₀ : List M.Const) (es es₀ : List M.Enum) (ks ks₀ : List M.Key) (a : Verdict) (h : meaning p q a ≡ checkConstantArrivals now copy cs cs₀) where
   pub first-constants : violated a → meaning p q a ≡ checkFirstReleases now copy cs cs₀ es es₀ ks ks₀
@@ -307,5 +318,3 @@ module _ (p q now : Str) (copy : Option Str) (cs cs₀ : List M.Const) (es es₀
     pub first-keys : (c : Verdict) → b ≡ Passed → meaning p q c ≡ checkKeyArrivals now copy ks ks₀ → meaning p q c ≡ checkFirstReleases now copy cs cs₀ es es₀ ks ks₀
     unfolding checkFirstReleases meaning _then_
     first-keys c n j = rw (← h, m, ← i, n) j
-
-pub ruleset first-releases-laws = (first-constants, first-enums, first-keys)

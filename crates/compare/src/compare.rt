@@ -50,27 +50,29 @@ ghost use Rattle.compare.specs.CoverTable.{changedTypes};
 ghost use Rattle.definition.specs.Compare.{compare};
 ghost use Rattle.verdicts.specs.Meaning.{meaning};
 
-// Constants, then enums.
+// Constants, then enums; the released stream is passed only as far as they go.
 fn check_numbers(
     stream: &[u8],
     pool: &[u8],
     index: &[u16],
     past: &[u8],
     old: &[u8],
+    old_ends: Ends,
     table: &mut [u32],
     scratch: &mut [u32],
 ) -> Verdict
-    requires { ⌜ (length (now past) ≤ 32768) × Room (now past) (now table) × Room (now past) (now scratch) × Indexed (now stream) (now pool) (now index) ⌝ }
+    requires { ⌜ (length (now past) ≤ 32768) × Room (now past) (now table) × Room (now past) (now scratch) × Indexed (now stream) (now pool) (now index) × EndsOf (now past) «old_ends» ⌝ }
     ensures { λ r. ⌜ meaning (now (pool .entry)) (now (old .entry)) r ≡ (checkConstants (structsAt (now (stream .entry)) (now (pool .entry)) 0) (constantsAt (now (stream .entry)) (now (pool .entry)) 0) (constantsAt (now (past .entry)) (now (old .entry)) 0) then checkEnums (enumsAt (now (stream .entry)) (now (pool .entry)) 0) (enumsAt (now (past .entry)) (now (old .entry)) 0)) ⌝ }
 {
-    let verdict = check_constants(stream, pool, index, past, old, table, scratch);
+    let was = upto(past, old_ends.constants);
+    let verdict = check_constants(stream, pool, index, was, old, table, scratch);
     if let Verdict::Passed = verdict {
-        return check_enums(stream, pool, index, past, old);
+        return check_enums(stream, pool, index, upto(past, old_ends.enums), old);
     }
     verdict
 }
 
-// Bit fields, then their releases, of which the streams are passed only as far as they go.
+// Bit fields, then their releases; both streams are passed only as far as bit fields go.
 fn check_bits(
     stream: &[u8],
     pool: &[u8],
@@ -110,11 +112,11 @@ fn check_declared(
 {
     let ends = ends_of(stream);
     let old_ends = ends_of(past);
-    let first = check_first_releases(stream, pool, past, old, old_index, current, copy);
+    let first = check_first_releases(stream, pool, ends, past, old, old_index, current, copy);
     let Verdict::Passed = first else {
         return first;
     };
-    let second = check_numbers(stream, pool, index, past, old, table, scratch);
+    let second = check_numbers(stream, pool, index, past, old, old_ends, table, scratch);
     let Verdict::Passed = second else {
         return second;
     };

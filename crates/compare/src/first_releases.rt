@@ -11,7 +11,9 @@ use record::command::Cursor;
 use record::command::Enum;
 use record::command::PluginKey;
 use record::command::Value;
+use record::cut::upto;
 use record::dates::member_release;
+use record::ends::Ends;
 use record::keys::PluginKeyStep;
 use record::keys::first_key;
 use record::keys::next_plugin_key;
@@ -33,6 +35,7 @@ ghost use Rattle.record.specs.Stretch.{textOf};
 ghost use Rattle.record.specs.Lists.{optOf, constantOf, enumOf, valueOf, keyOf};
 ghost use Rattle.record.specs.Steps.{constantsAt, enumsAt, valuesAt, structsAt, unstoredAt, enumFound};
 ghost use Rattle.record.specs.Index.{Indexed};
+ghost use Rattle.record.specs.Ends.{EndsOf};
 ghost use Rattle.record.specs.Keys.{pluginKeys};
 ghost use Rattle.verdicts.specs.Arguments.{itemOf};
 ghost use Rattle.compare.specs.Shipped.{shippedOf};
@@ -339,24 +342,27 @@ fn check_key_arrivals(
     }
 }
 
-// The constants, then the enums with their values, then the plugin keys.
+// The constants, then the enums with their values, then the plugin keys; the stream is passed only as far as each of them goes.
 pub(crate) fn check_first_releases(
     stream: &[u8],
     pool: &[u8],
+    ends: Ends,
     past: &[u8],
     old: &[u8],
     index: &[u16],
     current: Text,
     copy: OptText,
 ) -> Verdict
-    requires { ⌜ Indexed (now past) (now old) (now index) ⌝ }
+    requires { ⌜ EndsOf (now stream) ends × Indexed (now past) (now old) (now index) ⌝ }
     ensures { λ r. ⌜ meaning (now (pool .entry)) (now (old .entry)) r ≡ checkFirstReleases (textOf (now (pool .entry)) current) (optOf (now (old .entry)) copy) (constantsAt (now (stream .entry)) (now (pool .entry)) 0) (constantsAt (now (past .entry)) (now (old .entry)) 0) (enumsAt (now (stream .entry)) (now (pool .entry)) 0) (enumsAt (now (past .entry)) (now (old .entry)) 0) (pluginKeys (structsAt (now (stream .entry)) (now (pool .entry)) 0) (unstoredAt (now (stream .entry)) (now (pool .entry)) 0)) (pluginKeys (structsAt (now (past .entry)) (now (old .entry)) 0) (unstoredAt (now (past .entry)) (now (old .entry)) 0)) ⌝ }
 {
-    let constants = check_constant_arrivals(stream, pool, past, old, index, current, copy);
+    let first = upto(stream, ends.constants);
+    let constants = check_constant_arrivals(first, pool, past, old, index, current, copy);
     let Verdict::Passed = constants else {
         return constants;
     };
-    let enums = check_enum_arrivals(stream, pool, past, old, index, current, copy);
+    let second = upto(stream, ends.enums);
+    let enums = check_enum_arrivals(second, pool, past, old, index, current, copy);
     let Verdict::Passed = enums else {
         return enums;
     };

@@ -9,7 +9,7 @@ use lib.ListN.{length, take, drop, getD, length-drop}
 use lib.Seq.{take-all}
 use lib.Dec.{eqb}
 use borrow.Author.Tests.{ne-eqb, lt-ltb, le-ltb}
-use Rattle.record.specs.Le.{u16At, u32At, u8-past, u16-past}
+use Rattle.record.specs.Le.{u16At, u32At, u64At, u8-past, u16-past}
 use Rattle.record.specs.declared.text.Text.{Text}
 use Rattle.record.specs.declared.operands.OptText.{OptText}
 use Rattle.record.specs.declared.operands.OptText.the-variants.{Absent, Given}
@@ -18,7 +18,7 @@ use Rattle.record.specs.declared.command.Command.{Command}
 use Rattle.record.specs.declared.command.Command.the-variants as C
 use Rattle.record.specs.declared.command.Version.{Version}
 use Rattle.record.specs.declared.command.Step.the-variants.{Next, Stop}
-use Rattle.record.specs.Operands.{textAt, optText, optTextAt, optNumberAt}
+use Rattle.record.specs.Operands.{textAt, optText, optTextAt, optNumberAt, flagAt}
 use Rattle.record.specs.Commands.{operands, widthWith, widthOf, commandOf, stepAt, place, versionAt}
 
 module _ (s : List ℕ) (at : ℕ) where
@@ -80,6 +80,10 @@ module _ (a b : List ℕ) (at : ℕ) where
   unfolding optTextAt
   opt-same f = ap optText (text-same f)
 
+  pub flag-same : getD a at 0 ≡ getD b at 0 → flagAt a at ≡ flagAt b at
+  unfolding flagAt
+  flag-same e = ap (λ (n : ℕ). eqb n 1) e
+
   pub u32-same : ((i : ℕ) → at ≤ i → i ≤ at + 3 → getD a i 0 ≡ getD b i 0) → u32At a at ≡ u32At b at
   unfolding u32At u16At
   u32-same f =
@@ -88,6 +92,13 @@ module _ (a b : List ℕ) (at : ℕ) where
       let i : getD a (at + 2) 0 ≡ getD b (at + 2) 0 = f (at + 2) (omega arith) (omega arith) in
       let j : getD a (at + 2 + 1) 0 ≡ getD b (at + 2 + 1) 0 = f (at + 2 + 1) (omega arith) (omega arith) in
       λ x. g x + 256 * h x + 65536 * (i x + 256 * j x)
+
+pub u64-same : (a b : List ℕ) (at : ℕ) → ((i : ℕ) → at ≤ i → i ≤ at + 7 → getD a i 0 ≡ getD b i 0) → u64At a at ≡ u64At b at
+unfolding u64At
+u64-same a b at f =
+    let g : u32At a at ≡ u32At b at = u32-same a b at (λ i k l. f i (omega arith) (omega arith)) in
+    let h : u32At a (at + 4) ≡ u32At b (at + 4) = u32-same a b (at + 4) (λ i k l. f i (omega arith) (omega arith)) in
+    λ x. g x + 4294967296 * h x
 
 pub number-same : (a b : List ℕ) (at : ℕ) → ((i : ℕ) → at ≤ i → i ≤ at + 4 → getD a i 0 ≡ getD b i 0) → optNumberAt a at ≡ optNumberAt b at
 unfolding optNumberAt

@@ -1,7 +1,7 @@
 -- Where the lists of a record end, along the walk that finds it; and each list of a stream that is cut off there. Assumes nothing.
 use mathlib.Core.Path.{_≡_, refl, sym, ap, ap₂, subst, _∙_}
 use mathlib.Core.List.{List, [], _∷_, List·Memᴰ, List·Memᴰ·head, List·Memᴰ·not-nil}
-use mathlib.Core.Bool.{Bool, true, false, cond, _||_}
+use mathlib.Core.Bool.{Bool, true, false, cond, false≢true}
 use Prim.Native.Nat.{ℕ, _+_, _-_, _≤_, _<_}
 use native.Mathlib.Omega.{arith}
 use borrow.Author.Tests.{ne-eqb, eqb-true, eqb-false}
@@ -9,17 +9,17 @@ use lib.Dec.{eqb}
 use lib.ListN.{length, take, drop, getD}
 use lib.Seq.{getD-take, getD-drop, length-take-le}
 use Rattle.record.specs.Base.{Str, bytes}
-use Rattle.record.specs.Commands.{widthOf, widthWith, operands, widths, wide, commandOf, stepAt, place, commandsAt, bitfieldAt, memberAt}
-use Rattle.record.specs.Lists.{listed, nothing, anything, memberOf, bitfieldOf, members, bitfields}
-use Rattle.record.specs.Steps.{bitfieldsAt}
+use Rattle.record.specs.Commands.{widthOf, widthWith, operands, widths, wide, commandOf, stepAt, place, commandsAt, constantAt, enumAt, valueAt, bitfieldAt, memberAt}
+use Rattle.record.specs.Lists.{listed, nothing, anything, constantOf, enumOf, valueOf, bitfieldOf, memberOf, constants, values, enums, members, bitfields}
+use Rattle.record.specs.Steps.{constantsAt, enumsAt, bitfieldsAt}
 use Rattle.record.specs.Seek.{afterAt, overOf, placesOf}
-use Rattle.record.specs.Ends.{Reached, there, onward, Before, EndsOf, noted}
+use Rattle.record.specs.Ends.{Reached, there, onward, inConstants, inEnums, inBitfields, Before, EndsOf, noted}
 use Rattle.record.specs.declared.command.Cursor.{Cursor}
 use Rattle.record.specs.declared.command.Command.{Command}
 use Rattle.record.specs.declared.command.Step.the-variants.{Next}
 use Rattle.record.specs.declared.seek.Between.the-variants.{Anything}
 use Rattle.record.specs.declared.ends.Ends.{Ends}
-use Rattle.record.proofs.CommandLaws.{step-end, step-next, text-same, opt-same, u32-same, number-same}
+use Rattle.record.proofs.CommandLaws.{step-end, step-next, text-same, opt-same, flag-same, u32-same, u64-same, number-same}
 use Rattle.record.proofs.Stream.{step-found, along}
 use Rattle.record.proofs.ListLaws.{byteOf, byte-is, listed-stop, listed-here, listed-over, listed-end}
 use Rattle.record.proofs.SeekLaws.{Stepped, stepped, ended-there}
@@ -31,32 +31,29 @@ reached-next s m c k e (there p) = onward (ap (stepAt s) p ∙ e) (there refl)
 reached-next s m c k e (onward f r) = onward f (reached-next s m c k e r)
 
 -- the same of a place up to which the commands are seen
-pub record BeforeTo (s : Str) (a b e at : ℕ) : Type 0 where
+pub record BeforeTo (s : Str) (is : ℕ → Bool) (e at : ℕ) : Type 0 where
   reached : Reached s e 0
-  first : placesOf s Anything a e ≡ placesOf s Anything a at
-  second : placesOf s Anything b e ≡ placesOf s Anything b at
+  same : (b : ℕ) → is b ≡ true → placesOf s Anything b e ≡ placesOf s Anything b at
 
 pub record EndsTo (s : Str) (r : Ends) (at : ℕ) : Type 0 where
   pub reached : Reached s at 0
-  pub bitfields : BeforeTo s 6 7 (r .bitfields) at
+  pub constants : BeforeTo s inConstants (r .constants) at
+  pub enums : BeforeTo s inEnums (r .enums) at
+  pub bitfields : BeforeTo s inBitfields (r .bitfields) at
 
-nowhere : (s : Str) (a b : ℕ) → BeforeTo s a b 0 0
-nowhere s a b = record { reached = there refl; first = refl; second = refl }
-
-pub ends-start : (s : Str) → EndsTo s (record { bitfields = 0 }) 0
-ends-start s = record { reached = there refl; bitfields = nowhere s 6 7 }
+pub ends-start : (s : Str) → EndsTo s (record { constants = 0; enums = 0; bitfields = 0 }) 0
+ends-start s = record { reached = there refl; constants = nowhere inConstants; enums = nowhere inEnums; bitfields = nowhere inBitfields }
+  where
+    nowhere : (is : ℕ → Bool) → BeforeTo s is 0 0
+    nowhere is = record { reached = there refl; same = λ b h. refl }
 
 module _ (s : Str) (at n : ℕ) (e : n ≡ afterAt s at) where
-  module _ (z : n ≡ 0) where
-    none-left : (b : ℕ) → placesOf s Anything b at ≡ []
-    unfolding placesOf
-    none-left b = listed-stop s (overOf Anything) b (λ at rest. at) at (ended-there s at n e z)
-
-    all-before : (a b k : ℕ) → BeforeTo s a b k at → Before s a b k
-    all-before a b k h = record { reached = h .reached; first = h .first ∙ none-left a; second = h .second ∙ none-left b }
-
-    pub ends-end : (r : Ends) → EndsTo s r at → EndsOf s r
-    ends-end r h = record { bitfields = all-before 6 7 (r .bitfields) (h .bitfields) }
+  pub ends-end : n ≡ 0 → (r : Ends) → EndsTo s r at → EndsOf s r
+  unfolding placesOf
+  ends-end z r h = record { constants = all (h .constants); enums = all (h .enums); bitfields = all (h .bitfields) }
+    where
+      all : {is : ℕ → Bool} {k : ℕ} → BeforeTo s is k at → Before s is k
+      all f = record { reached = f .reached; none = λ b q. f .same b q ∙ listed-stop s (overOf Anything) b (λ at rest. at) at (ended-there s at n e z) }
 
   module _ (z : n ≡ 0 → ⊥) (y : ℕ) (i : y ≡ getD s at 0) where
     t : Stepped s at n
@@ -70,36 +67,52 @@ module _ (s : Str) (at n : ℕ) (e : n ≡ afterAt s at) where
     passed b w =
         listed-over s (overOf Anything) b (λ at rest. at) at (t .command) (t .cursor) (t .step) (λ h. w (i ∙ t .number ∙ h)) refl ∙ ap (placesOf s Anything b) (t .to)
 
-    seen : (a b k : ℕ) → Reached s at 0 → BeforeTo s a b k at → BeforeTo s a b (cond (eqb y a || eqb y b) n k) n
-    seen a b k r h = go (eqb y a) (eqb y b) refl refl
+    seen : (is : ℕ → Bool) (k : ℕ) → Reached s at 0 → BeforeTo s is k at → BeforeTo s is (cond (is y) n k) n
+    seen is k r f = go (is y) refl
       where
-        go : (v w : Bool) → eqb y a ≡ v → eqb y b ≡ w → BeforeTo s a b (cond (v || w) n k) n
-        go true w p q = record { reached = reach r; first = refl; second = refl }
-        go false true p q = record { reached = reach r; first = refl; second = refl }
-        go false false p q = record { reached = h .reached; first = h .first ∙ passed a (eqb-false y a p); second = h .second ∙ passed b (eqb-false y b q) }
+        go : (v : Bool) → is y ≡ v → BeforeTo s is (cond v n k) n
+        go true p = record { reached = reach r; same = λ b h. refl }
+        go false p = record { reached = f .reached; same = λ b h. f .same b h ∙ passed b (λ q. false≢true (sym p ∙ ap is q ∙ h)) }
 
     pub ends-on : (r q : Ends) → EndsTo s r at → q ≡ noted r y n → EndsTo s q n
     unfolding noted
-    ends-on r q h j = rw j (record { reached = reach (h .reached); bitfields = seen 6 7 (r .bitfields) (h .reached) (h .bitfields) })
+    ends-on r q h j = rw j (record {
+      reached = reach (h .reached);
+      constants = seen inConstants (r .constants) (h .reached) (h .constants);
+      enums = seen inEnums (r .enums) (h .reached) (h .enums);
+      bitfields = seen inBitfields (r .bitfields) (h .reached) (h .bitfields);
+    })
 
 pub ruleset ends-laws = (ends-start, ends-end, ends-on)
 
 -- noted ------------------------------------------------------------------------------------------------------------------
 
 module _ (r : Ends) (b k : ℕ) where
-  pub noted-bits : b ≡ 6 → _≡_ {A = Ends} (record { bitfields = k }) (noted r b k)
+  pub noted-constant : b ≡ 2 → _≡_ {A = Ends} (record { constants = k; enums = r .enums; bitfields = r .bitfields }) (noted r b k)
+  unfolding noted
+  noted-constant e = rw e
+
+  pub noted-enum : b ≡ 4 → _≡_ {A = Ends} (record { constants = r .constants; enums = k; bitfields = r .bitfields }) (noted r b k)
+  unfolding noted
+  noted-enum e = rw e
+
+  pub noted-value : b ≡ 5 → _≡_ {A = Ends} (record { constants = r .constants; enums = k; bitfields = r .bitfields }) (noted r b k)
+  unfolding noted
+  noted-value e = rw e
+
+  pub noted-bits : b ≡ 6 → _≡_ {A = Ends} (record { constants = r .constants; enums = r .enums; bitfields = k }) (noted r b k)
   unfolding noted
   noted-bits e = rw e
 
-  pub noted-member : b ≡ 7 → _≡_ {A = Ends} (record { bitfields = k }) (noted r b k)
+  pub noted-member : b ≡ 7 → _≡_ {A = Ends} (record { constants = r .constants; enums = r .enums; bitfields = k }) (noted r b k)
   unfolding noted
   noted-member e = rw e
 
-  pub noted-other : (b ≡ 6 → ⊥) → (b ≡ 7 → ⊥) → r ≡ noted r b k
+  pub noted-other : (b ≡ 2 → ⊥) → (b ≡ 4 → ⊥) → (b ≡ 5 → ⊥) → (b ≡ 6 → ⊥) → (b ≡ 7 → ⊥) → r ≡ noted r b k
   unfolding noted
-  noted-other g h = rw (ne-eqb b 6 g, ne-eqb b 7 h)
+  noted-other e f g h i = rw (ne-eqb b 2 e, ne-eqb b 4 f, ne-eqb b 5 g, ne-eqb b 6 h, ne-eqb b 7 i)
 
-pub ruleset noted-laws = (noted-bits, noted-member, noted-other)
+pub ruleset noted-laws = (noted-constant, noted-enum, noted-value, noted-bits, noted-member, noted-other)
 
 -- a list of a stream that is cut off -------------------------------------------------------------------------------------
 
@@ -183,6 +196,65 @@ module _ (s : Str) (to at : ℕ) (c : Command) (k : Cursor) (e : stepAt s at ≡
   bytes-front b h =
       byte-front s to at (widthOf b) (let a = reached-ahead s to r in let w : k .at ≡ at + widthOf b = step-found s at c k e .wide ∙ ap (λ (x : ℕ). at + widthOf x) h in omega arith)
 
+before-short : (s : Str) (is : ℕ → Bool) (to : ℕ) → Before s is to → to ≤ length s
+before-short s is to h = reached-within s to (h .reached) (omega arith)
+
+-- constants --------------------------------------------------------------------------------------------------------------
+
+constant-same : (x y : Str) → ((i : ℕ) → i < 20 → getD x i 0 ≡ getD y i 0) → constantAt x ≡ constantAt y
+constant-same x y f =
+    let n = text-same x y 1 (λ i k l. f i (omega arith)) in
+    let t = flag-same x y 4 (f 4 (omega arith)) in
+    let v = u64-same x y 5 (λ i k l. f i (omega arith)) in
+    let w = opt-same x y 13 (λ i k l. f i (omega arith)) in
+    let a = flag-same x y 16 (f 16 (omega arith)) in
+    let r = opt-same x y 17 (λ i k l. f i (omega arith)) in
+    λ j. record { name = n j; «is_text» = t j; integer = v j; text = w j; «ora_api» = a j; «first_release» = r j }
+
+constants-cut : (s p : Str) (to : ℕ) → Before s inConstants to → constantsAt s p 0 ≡ constantsAt (take to s) p 0
+unfolding constantsAt constants widthOf widthWith operands widths wide bytes
+constants-cut s p to h =
+    listed-front s to (before-short s inConstants to h) anything 2 _ _ (h .none 2 refl)
+    (λ at c k e i r. ap (constantOf p) (constant-same (drop at s) (drop at (take to s)) (bytes-front s to at c k e r 2 i)))
+    (h .reached)
+
+pub constants-front : (s p t : Str) (r : Ends) → EndsOf s r → t ≡ take (r .constants) s → constantsAt t p 0 ≡ constantsAt s p 0
+constants-front s p t r e h = ap (λ (x : Str). constantsAt x p 0) h ∙ sym (constants-cut s p (r .constants) (e .constants))
+
+-- enums ------------------------------------------------------------------------------------------------------------------
+
+enum-same : (x y : Str) → ((i : ℕ) → i < 12 → getD x i 0 ≡ getD y i 0) → enumAt x ≡ enumAt y
+enum-same x y f =
+    let n = text-same x y 1 (λ i k l. f i (omega arith)) in
+    let w = u32-same x y 4 (λ i k l. f i (omega arith)) in
+    let a = flag-same x y 8 (f 8 (omega arith)) in
+    let r = opt-same x y 9 (λ i k l. f i (omega arith)) in
+    λ j. record { name = n j; size = w j; «ora_api» = a j; «first_release» = r j }
+
+value-same : (x y : Str) → ((i : ℕ) → i < 15 → getD x i 0 ≡ getD y i 0) → valueAt x ≡ valueAt y
+value-same x y f =
+    let n = text-same x y 1 (λ i k l. f i (omega arith)) in
+    let v = u64-same x y 4 (λ i k l. f i (omega arith)) in
+    let r = opt-same x y 12 (λ i k l. f i (omega arith)) in
+    λ j. record { name = n j; value = v j; «first_release» = r j }
+
+module _ (s p : Str) (to : ℕ) (h : Before s inEnums to) where
+  values-front : {at : ℕ} → Reached s to at → values s p (commandsAt s at) ≡ values (take to s) p (commandsAt (take to s) at)
+  unfolding values widthOf widthWith operands widths wide bytes
+  values-front =
+      listed-front s to (before-short s inEnums to h) nothing 5 _ _ (h .none 5 refl)
+      (λ at c k e i r. ap (valueOf p) (value-same (drop at s) (drop at (take to s)) (bytes-front s to at c k e r 5 i)))
+
+  enums-cut : enumsAt s p 0 ≡ enumsAt (take to s) p 0
+  unfolding enumsAt enums widthOf widthWith operands widths wide bytes
+  enums-cut =
+      listed-front s to (before-short s inEnums to h) anything 4 _ _ (h .none 4 refl)
+      (λ at c k e i r. ap₂ (enumOf p) (enum-same (drop at s) (drop at (take to s)) (bytes-front s to at c k e r 4 i)) (values-front r))
+      (h .reached)
+
+pub enums-front : (s p t : Str) (r : Ends) → EndsOf s r → t ≡ take (r .enums) s → enumsAt t p 0 ≡ enumsAt s p 0
+enums-front s p t r e h = ap (λ (x : Str). enumsAt x p 0) h ∙ sym (enums-cut s p (r .enums) (e .enums))
+
 -- bit fields -------------------------------------------------------------------------------------------------------------
 
 bitfield-same : (x y : Str) → ((i : ℕ) → i < 11 → getD x i 0 ≡ getD y i 0) → bitfieldAt x ≡ bitfieldAt y
@@ -200,20 +272,17 @@ member-same x y f =
     let r = opt-same x y 13 (λ i k l. f i (omega arith)) in
     λ j. record { name = n j; bit = b j; width = w j; «first_release» = r j }
 
-module _ (s p : Str) (to : ℕ) (h : Before s 6 7 to) where
-  short : to ≤ length s
-  short = reached-within s to (h .reached) (omega arith)
-
+module _ (s p : Str) (to : ℕ) (h : Before s inBitfields to) where
   members-front : {at : ℕ} → Reached s to at → members s p (commandsAt s at) ≡ members (take to s) p (commandsAt (take to s) at)
   unfolding members widthOf widthWith operands widths wide bytes
   members-front =
-      listed-front s to short nothing 7 _ _ (h .second)
+      listed-front s to (before-short s inBitfields to h) nothing 7 _ _ (h .none 7 refl)
       (λ at c k e i r. ap (memberOf p) (member-same (drop at s) (drop at (take to s)) (bytes-front s to at c k e r 7 i)))
 
   bitfields-cut : bitfieldsAt s p 0 ≡ bitfieldsAt (take to s) p 0
   unfolding bitfieldsAt bitfields widthOf widthWith operands widths wide bytes
   bitfields-cut =
-      listed-front s to short anything 6 _ _ (h .first)
+      listed-front s to (before-short s inBitfields to h) anything 6 _ _ (h .none 6 refl)
       (λ at c k e i r. ap₂ (bitfieldOf p) (bitfield-same (drop at s) (drop at (take to s)) (bytes-front s to at c k e r 6 i)) (members-front r))
       (h .reached)
 

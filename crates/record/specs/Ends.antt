@@ -1,7 +1,7 @@
 -- Where the lists of a record end, as the code keeps it. Assumes nothing.
 use mathlib.Core.Path.{_≡_}
 use mathlib.Core.List.{[]}
-use mathlib.Core.Bool.{_||_, cond}
+use mathlib.Core.Bool.{Bool, true, _||_, cond}
 use Prim.Native.Nat.{ℕ}
 use lib.Dec.{eqb}
 use Rattle.record.specs.Base.{Str}
@@ -18,15 +18,30 @@ pub data Reached (s : Str) (to : ℕ) : ℕ → Type 0 where
   there : {at : ℕ} → at ≡ to → Reached s to at
   onward : {at : ℕ} {c : Command} {k : Cursor} → stepAt s at ≡ Next c k → Reached s to (k .at) → Reached s to at
 
--- two numbers' commands all stand before a place, which is no command's inside
-pub record Before (s : Str) (a b e : ℕ) : Type 0 where
+-- the numbers of the commands of each list
+abbrev pub inConstants : ℕ → Bool
+inConstants b = eqb b 2
+
+abbrev pub inEnums : ℕ → Bool
+inEnums b = eqb b 4 || eqb b 5
+
+abbrev pub inBitfields : ℕ → Bool
+inBitfields b = eqb b 6 || eqb b 7
+
+-- the commands of some numbers all stand before a place, and no command begins before it and ends after it
+pub record Before (s : Str) (is : ℕ → Bool) (e : ℕ) : Type 0 where
   pub reached : Reached s e 0
-  pub first : placesOf s Anything a e ≡ []
-  pub second : placesOf s Anything b e ≡ []
+  pub none : (b : ℕ) → is b ≡ true → placesOf s Anything b e ≡ []
 
 pub record EndsOf (s : Str) (r : Ends) : Type 0 where
-  pub bitfields : Before s 6 7 (r .bitfields)
+  pub constants : Before s inConstants (r .constants)
+  pub enums : Before s inEnums (r .enums)
+  pub bitfields : Before s inBitfields (r .bitfields)
 
 -- the ends once one more command is seen
 unfoldable pub noted : Ends → ℕ → ℕ → Ends
-noted r b k = record { bitfields = cond (eqb b 6 || eqb b 7) k (r .bitfields) }
+noted r b k = record {
+  constants = cond (inConstants b) k (r .constants);
+  enums = cond (inEnums b) k (r .enums);
+  bitfields = cond (inBitfields b) k (r .bitfields);
+}

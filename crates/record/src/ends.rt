@@ -6,6 +6,8 @@ ghost use Rattle.record.specs.Ends.{EndsOf, noted};
 
 // The place after the last command of each list; 0 where there is none.
 pub struct Ends {
+    pub constants: usize,
+    pub enums: usize,
     pub bitfields: usize,
 }
 
@@ -14,6 +16,18 @@ fn noted(ends: Ends, number: u8, after: usize) -> Ends
     ensures { λ r. ⌜ r ≡ noted ends number after ⌝ }
 {
     let mut out = ends;
+    if number == 2 {
+        out.constants = after;
+        return out;
+    }
+    if number == 4 {
+        out.enums = after;
+        return out;
+    }
+    if number == 5 {
+        out.enums = after;
+        return out;
+    }
     if number == 6 {
         out.bitfields = after;
         return out;
@@ -29,7 +43,11 @@ fn noted(ends: Ends, number: u8, after: usize) -> Ends
 pub fn ends_of(stream: &[u8]) -> Ends
     ensures { λ r. ⌜ EndsOf (now (stream .entry)) r ⌝ }
 {
-    let mut ends = Ends { bitfields: 0 };
+    let mut ends = Ends {
+        constants: 0,
+        enums: 0,
+        bitfields: 0,
+    };
     let mut at = 0;
     loop {
         let after = after_at(stream, at);
