@@ -11,7 +11,7 @@ use Rattle.record.specs.Base.{Str, bytes}
 use Rattle.record.specs.Commands.{operands, wide, widths, widthWith, widthOf, fieldAt, stepAt, commandsAt}
 use Rattle.record.specs.Lists.{fieldOf}
 use Rattle.record.specs.Shapes.{shapeSize, capped}
-use Rattle.record.specs.Index.{Indexed, Findable}
+use Rattle.record.specs.Index.{Findable}
 use Rattle.record.specs.Reading.{Rec, schemaOf}
 use Rattle.record.specs.declared.command.Cursor.{Cursor}
 use Rattle.record.specs.declared.command.Command.{Command}
@@ -47,14 +47,14 @@ abbrev pub Entered : Rec → List ℕ → ℕ → ℕ → Type 0
 Entered r t from at = List·Memᴰ at (placesOf (r .stream) Anything 11 from) ⊎ ((at + 33 ≤ from) × (getD t ((at + 33) / 33) 0 ≡ fieldSize r at))
 
 pub record Sizing (r : Rec) (w o t : List ℕ) (from : ℕ) : Type 0 where
-  pub entered : Indexed (r .stream) (r .pool) w → SizesRoom (r .stream) o → (at : ℕ) → List·Memᴰ at (commandsAt (r .stream) 0) → getD (r .stream) at 0 ≡ 11 → Entered r t from at
+  pub entered : Findable (r .stream) (r .pool) w → SizesRoom (r .stream) o → (at : ℕ) → List·Memᴰ at (commandsAt (r .stream) 0) → getD (r .stream) at 0 ≡ 11 → Entered r t from at
   pub long : length t ≡ length o
 
 pub sizing-start : (r : Rec) (w o : List ℕ) → Sizing r w o o 0
 sizing-start r w o = record { entered = λ index room at m b. inl (place-listed (r .stream) 11 at b 0 m); long = refl }
 
 module _ (r : Rec) (w o t : List ℕ) (from : ℕ) (z : Sizing r w o t from) (g : Sought) (i : SoughtFrom (r .stream) Anything 11 from g) where
-  pub sizing-end : g ≡ Nowhere → Indexed (r .stream) (r .pool) w → SizesRoom (r .stream) o → SizesTable r t
+  pub sizing-end : g ≡ Nowhere → Findable (r .stream) (r .pool) w → SizesRoom (r .stream) o → SizesTable r t
   sizing-end m index room = record { sized = λ at n b. go (z .entered index room at n b) }
     where
       go : {at : ℕ} → Entered r t from at → getD t ((at + 33) / 33) 0 ≡ fieldSize r at
@@ -75,17 +75,17 @@ module _ (r : Rec) (w o t : List ℕ) (from : ℕ) (z : Sizing r w o t from) (g 
     pub sizing-field : (x : ℕ) (u : List ℕ) → (Findable (r .stream) (r .pool) w → x ≡ capped (shapeSize (schemaOf r) (fieldOf (r .pool) (fieldAt y) none))) → u ≡ set t (k / 33) x → Sizing r w o u k
     sizing-field x u e s = record { entered = λ index room at n b. go index room at (z .entered index room at n b); long = ap length s ∙ simp length-set (z .long) }
       where
-        here : Indexed (r .stream) (r .pool) w → SizesRoom (r .stream) o → (at : ℕ) → List·Memᴰ at (a ∷ placesOf (r .stream) Anything 11 k) → Entered r u k at
+        here : Findable (r .stream) (r .pool) w → SizesRoom (r .stream) o → (at : ℕ) → List·Memᴰ at (a ∷ placesOf (r .stream) Anything 11 k) → Entered r u k at
         here index room at (List·Memᴰ·head q) =
             let b = after in
             let h = stands .within in
             let l = z .long in
             let n : (at + 33) / 33 ≡ k / 33 = ap (λ (j : ℕ). j / 33) (omega arith) in
             let v : getD u (k / 33) 0 ≡ x = rw s (getD-set-same t (k / 33) x 0 (omega arith)) in
-            inr (omega arith, ap (λ (j : ℕ). getD u j 0) n ∙ v ∙ size-is x (e (record { by = inl index })) ∙ ap (fieldSize r) (sym q))
+            inr (omega arith, ap (λ (j : ℕ). getD u j 0) n ∙ v ∙ size-is x (e index) ∙ ap (fieldSize r) (sym q))
         here index room at (List·Memᴰ·tail n) = inl n
 
-        go : Indexed (r .stream) (r .pool) w → SizesRoom (r .stream) o → (at : ℕ) → Entered r t from at → Entered r u k at
+        go : Findable (r .stream) (r .pool) w → SizesRoom (r .stream) o → (at : ℕ) → Entered r t from at → Entered r u k at
         go index room at (inl n) = here index room at (rw (i .list ∙ ap (placesLeft (r .stream) Anything 11) m) at n)
         go index room at (inr c) =
             let b = after in

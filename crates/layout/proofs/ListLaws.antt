@@ -25,7 +25,7 @@ use Rattle.layout.specs.Answer.{refusalOf, textOr, listed, list, Answere
 use Rattle.layout.specs.declared.answer.Answer as D
 use Rattle.layout.proofs.Readable.{reading-refused, reading-read, read-short}
 
--- a text that is measured, then written -----------------------------------------------------------------------------------
+-- a text that is written, measured first or known to fit -----------------------------------------------------------------
 
 -- nothing can be put where there is no room
 none-put : (xs : Str) → length xs ≡ 0 → xs ≡ []

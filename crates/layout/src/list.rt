@@ -2,7 +2,7 @@
 use crate::answer::Answer;
 use crate::answer::refused;
 use crate::lines::put_types;
-use crate::tables::fill_tables;
+use crate::tables::fill_both;
 use record::index::fill_index;
 use record::read::Outcome;
 use record::read::read_record;
@@ -11,7 +11,7 @@ use record::scalars::built_in;
 ghost use Prim.Native.Nat.{_≤_};
 ghost use lib.ListN.{length};
 ghost use Rattle.record.specs.Scalars.{scalarsOf, builtIn};
-ghost use Rattle.record.specs.Index.{IndexRoom};
+ghost use Rattle.record.specs.Index.{IndexRoom, Findable};
 ghost use Rattle.record.specs.Reading.{rec, schemaOf};
 ghost use Rattle.record.specs.Read.{Exact};
 ghost use Rattle.layout.specs.Room.{Room, SizesRoom};
@@ -79,6 +79,24 @@ fn list_lent(
     rows: &[u8],
     stream: &[u8],
     pool: &[u8],
+    index: &[u16],
+    types: &mut [u32],
+    scratch: &mut [u32],
+    sizes: &mut [u64],
+    out: &mut [u8],
+) -> Answer
+    requires { ⌜ (length (now stream) ≤ 32768) × Exact (rec (now stream) (now pool) (scalarsOf (now rows))) × Room (now stream) (now types) × Room (now stream) (now scratch) × SizesRoom (now stream) (now sizes) × Findable (now stream) (now pool) (now index) ⌝ }
+    ensures { λ r. ⌜ Answered (now (out .entry)) (now (out .exit)) (textOr (length (now (out .entry))) 0 (listOf (schemaOf (rec (now (stream .entry)) (now (pool .entry)) (scalarsOf (now (rows .entry))))))) r ⌝ }
+{
+    let n = fill_both(rows, stream, pool, index, types, scratch, sizes);
+    list_tables(rows, stream, pool, &types[..n], sizes, out)
+}
+
+// The same with an index that is filled first.
+fn list_indexed(
+    rows: &[u8],
+    stream: &[u8],
+    pool: &[u8],
     index: &mut [u16],
     types: &mut [u32],
     scratch: &mut [u32],
@@ -89,8 +107,7 @@ fn list_lent(
     ensures { λ r. ⌜ Answered (now (out .entry)) (now (out .exit)) (textOr (length (now (out .entry))) 0 (listOf (schemaOf (rec (now (stream .entry)) (now (pool .entry)) (scalarsOf (now (rows .entry))))))) r ⌝ }
 {
     fill_index(stream, pool, index);
-    let n = fill_tables(rows, stream, pool, index, types, scratch, sizes);
-    list_tables(rows, stream, pool, &types[..n], sizes, out)
+    list_lent(rows, stream, pool, index, types, scratch, sizes, out)
 }
 
 // The same with tables for the longest stream that number 8 lets pass.
@@ -102,7 +119,7 @@ fn list_long(rows: &[u8], stream: &[u8], pool: &[u8], out: &mut [u8]) -> Answer
     let mut types = [0u32; 8192];
     let mut scratch = [0u32; 8192];
     let mut sizes = [0u64; 993];
-    list_lent(
+    list_indexed(
         rows,
         stream,
         pool,
@@ -123,11 +140,31 @@ fn list_short(rows: &[u8], stream: &[u8], pool: &[u8], out: &mut [u8]) -> Answer
     let mut types = [0u32; 512];
     let mut scratch = [0u32; 512];
     let mut sizes = [0u64; 63];
-    list_lent(
+    list_indexed(
         rows,
         stream,
         pool,
         &mut index,
+        &mut types,
+        &mut scratch,
+        &mut sizes,
+        out,
+    )
+}
+
+// The same for the shortest streams, without an index: few names are looked up, and a look at all commands finds them sooner than an index is filled.
+fn list_tiny(rows: &[u8], stream: &[u8], pool: &[u8], out: &mut [u8]) -> Answer
+    requires { ⌜ (length (now stream) ≤ 512) × Exact (rec (now stream) (now pool) (scalarsOf (now rows))) ⌝ }
+    ensures { λ r. ⌜ Answered (now (out .entry)) (now (out .exit)) (textOr (length (now (out .entry))) 0 (listOf (schemaOf (rec (now (stream .entry)) (now (pool .entry)) (scalarsOf (now (rows .entry))))))) r ⌝ }
+{
+    let mut types = [0u32; 128];
+    let mut scratch = [0u32; 128];
+    let mut sizes = [0u64; 16];
+    list_lent(
+        rows,
+        stream,
+        pool,
+        &[],
         &mut types,
         &mut scratch,
         &mut sizes,
@@ -140,6 +177,9 @@ fn list_read(rows: &[u8], stream: &[u8], pool: &[u8], out: &mut [u8]) -> Answer
     requires { ⌜ (length (now stream) ≤ 32768) × Exact (rec (now stream) (now pool) (scalarsOf (now rows))) ⌝ }
     ensures { λ r. ⌜ Answered (now (out .entry)) (now (out .exit)) (textOr (length (now (out .entry))) 0 (listOf (schemaOf (rec (now (stream .entry)) (now (pool .entry)) (scalarsOf (now (rows .entry))))))) r ⌝ }
 {
+    if stream.len() <= 512 {
+        return list_tiny(rows, stream, pool, out);
+    }
     if stream.len() <= 2048 {
         return list_short(rows, stream, pool, out);
     }

@@ -4,14 +4,14 @@ use crate::table::type_table;
 ghost use Prim.Native.Nat.{_/_, _≤_};
 ghost use lib.ListN.{length, take};
 ghost use Rattle.record.specs.Scalars.{scalarsOf};
-ghost use Rattle.record.specs.Index.{Indexed};
+ghost use Rattle.record.specs.Index.{Indexed, Findable};
 ghost use Rattle.record.specs.Reading.{rec};
 ghost use Rattle.record.specs.Read.{Exact};
 ghost use Rattle.layout.specs.Room.{Room, SizesRoom};
 ghost use Rattle.layout.specs.Tables.{Tables};
 
 // Fills the tables, where the record is within its limit and they are long enough.
-fn fill_both(
+pub(crate) fn fill_both(
     rows: &[u8],
     stream: &[u8],
     pool: &[u8],
@@ -21,7 +21,7 @@ fn fill_both(
     sizes: &mut [u64],
 ) -> usize
     requires { ⌜ (length (now stream) ≤ 32768) × Room (now stream) (now types) × Room (now stream) (now scratch) × SizesRoom (now stream) (now sizes) ⌝ }
-    ensures { λ r. ⌜ (Indexed (now (stream .entry)) (now (pool .entry)) (now (index .entry)) → Exact (rec (now (stream .entry)) (now (pool .entry)) (scalarsOf (now (rows .entry)))) → Tables (rec (now (stream .entry)) (now (pool .entry)) (scalarsOf (now (rows .entry)))) (take r (now (types .exit))) (now (sizes .exit))) × (r ≤ length (now (stream .entry)) / 4) ⌝ }
+    ensures { λ r. ⌜ (Findable (now (stream .entry)) (now (pool .entry)) (now (index .entry)) → Exact (rec (now (stream .entry)) (now (pool .entry)) (scalarsOf (now (rows .entry)))) → Tables (rec (now (stream .entry)) (now (pool .entry)) (scalarsOf (now (rows .entry)))) (take r (now (types .exit))) (now (sizes .exit))) × (r ≤ length (now (stream .entry)) / 4) ⌝ }
 {
     fill_sizes(rows, stream, pool, index, sizes);
     type_table(stream, pool, types, scratch)

@@ -1,3 +1,4 @@
+use mathlib.Core.Logic.{inl}
 use native.Mathlib.Omega.{arith}
 use borrow.Author.Needs.{needs}
 use Rattle.layout.proofs.tables.fill_tables.Statement.{statement}
@@ -40,7 +41,7 @@ same-length-3 c = search needs
 
 -- src/tables.rt:28:1
 returns-5 : tie.Need-returns-5
-returns-5 c = (λ i x y z w e. c .before .before .before .before .before .before .fill-both .ensures .0 i e, search needs)
+returns-5 c = (λ i x y z w e. c .before .before .before .before .before .before .fill-both .ensures .0 (record { by = inl i }) e, search needs)
 
 pub fill-tables-spec : {M : Type 1} → statement M
 fill-tables-spec =
