@@ -2,7 +2,8 @@
 use crate::answer::Answer;
 use crate::answer::refused;
 use crate::lines::put_types;
-use crate::tables::fill_both;
+use crate::tables::fill_few;
+use crate::tables::fill_tables;
 use record::index::fill_index;
 use record::read::Outcome;
 use record::read::read_record;
@@ -11,7 +12,7 @@ use record::scalars::built_in;
 ghost use Prim.Native.Nat.{_≤_};
 ghost use lib.ListN.{length};
 ghost use Rattle.record.specs.Scalars.{scalarsOf, builtIn};
-ghost use Rattle.record.specs.Index.{IndexRoom, Findable};
+ghost use Rattle.record.specs.Index.{IndexRoom};
 ghost use Rattle.record.specs.Reading.{rec, schemaOf};
 ghost use Rattle.record.specs.Read.{Exact};
 ghost use Rattle.layout.specs.Room.{Room, SizesRoom};
@@ -79,24 +80,6 @@ fn list_lent(
     rows: &[u8],
     stream: &[u8],
     pool: &[u8],
-    index: &[u16],
-    types: &mut [u32],
-    scratch: &mut [u32],
-    sizes: &mut [u64],
-    out: &mut [u8],
-) -> Answer
-    requires { ⌜ (length (now stream) ≤ 32768) × Exact (rec (now stream) (now pool) (scalarsOf (now rows))) × Room (now stream) (now types) × Room (now stream) (now scratch) × SizesRoom (now stream) (now sizes) × Findable (now stream) (now pool) (now index) ⌝ }
-    ensures { λ r. ⌜ Answered (now (out .entry)) (now (out .exit)) (textOr (length (now (out .entry))) 0 (listOf (schemaOf (rec (now (stream .entry)) (now (pool .entry)) (scalarsOf (now (rows .entry))))))) r ⌝ }
-{
-    let n = fill_both(rows, stream, pool, index, types, scratch, sizes);
-    list_tables(rows, stream, pool, &types[..n], sizes, out)
-}
-
-// The same with an index that is filled first.
-fn list_indexed(
-    rows: &[u8],
-    stream: &[u8],
-    pool: &[u8],
     index: &mut [u16],
     types: &mut [u32],
     scratch: &mut [u32],
@@ -107,7 +90,8 @@ fn list_indexed(
     ensures { λ r. ⌜ Answered (now (out .entry)) (now (out .exit)) (textOr (length (now (out .entry))) 0 (listOf (schemaOf (rec (now (stream .entry)) (now (pool .entry)) (scalarsOf (now (rows .entry))))))) r ⌝ }
 {
     fill_index(stream, pool, index);
-    list_lent(rows, stream, pool, index, types, scratch, sizes, out)
+    let n = fill_tables(rows, stream, pool, index, types, scratch, sizes);
+    list_tables(rows, stream, pool, &types[..n], sizes, out)
 }
 
 // The same with tables for the longest stream that number 8 lets pass.
@@ -119,7 +103,7 @@ fn list_long(rows: &[u8], stream: &[u8], pool: &[u8], out: &mut [u8]) -> Answer
     let mut types = [0u32; 8192];
     let mut scratch = [0u32; 8192];
     let mut sizes = [0u64; 993];
-    list_indexed(
+    list_lent(
         rows,
         stream,
         pool,
@@ -140,7 +124,7 @@ fn list_short(rows: &[u8], stream: &[u8], pool: &[u8], out: &mut [u8]) -> Answer
     let mut types = [0u32; 512];
     let mut scratch = [0u32; 512];
     let mut sizes = [0u64; 63];
-    list_indexed(
+    list_lent(
         rows,
         stream,
         pool,
@@ -160,7 +144,7 @@ fn list_tiny(rows: &[u8], stream: &[u8], pool: &[u8], out: &mut [u8]) -> Answer
     let mut types = [0u32; 128];
     let mut scratch = [0u32; 128];
     let mut sizes = [0u64; 16];
-    list_lent(
+    let n = fill_few(
         rows,
         stream,
         pool,
@@ -168,8 +152,8 @@ fn list_tiny(rows: &[u8], stream: &[u8], pool: &[u8], out: &mut [u8]) -> Answer
         &mut types,
         &mut scratch,
         &mut sizes,
-        out,
-    )
+    );
+    list_tables(rows, stream, pool, &types[..n], &sizes, out)
 }
 
 // The list of a record that can be read.
@@ -177,17 +161,26 @@ fn list_read(rows: &[u8], stream: &[u8], pool: &[u8], out: &mut [u8]) -> Answer
     requires { ⌜ (length (now stream) ≤ 32768) × Exact (rec (now stream) (now pool) (scalarsOf (now rows))) ⌝ }
     ensures { λ r. ⌜ Answered (now (out .entry)) (now (out .exit)) (textOr (length (now (out .entry))) 0 (listOf (schemaOf (rec (now (stream .entry)) (now (pool .entry)) (scalarsOf (now (rows .entry))))))) r ⌝ }
 {
-    if stream.len() <= 512 {
-        return list_tiny(rows, stream, pool, out);
-    }
     if stream.len() <= 2048 {
         return list_short(rows, stream, pool, out);
     }
     list_long(rows, stream, pool, out)
 }
 
-// The list of a record, read as one side.
-pub fn list_layouts(side: Side, stream: &[u8], pool: &[u8], out: &mut [u8]) -> Answer
+// The list of a short record, read as one side.
+fn list_few(side: Side, stream: &[u8], pool: &[u8], out: &mut [u8]) -> Answer
+    requires { ⌜ length (now stream) ≤ 512 ⌝ }
+    ensures { λ r. ⌜ Answered (now (out .entry)) (now (out .exit)) (list (length (now (out .entry))) side (rec (now (stream .entry)) (now (pool .entry)) builtIn)) r ⌝ }
+{
+    let rows = built_in();
+    if let Outcome::Refused(refusal, place) = read_record(side, &rows, stream, pool) {
+        return refused(side, refusal, place);
+    }
+    list_tiny(&rows, stream, pool, out)
+}
+
+// The list of any record, read as one side.
+fn list_any(side: Side, stream: &[u8], pool: &[u8], out: &mut [u8]) -> Answer
     ensures { λ r. ⌜ Answered (now (out .entry)) (now (out .exit)) (list (length (now (out .entry))) side (rec (now (stream .entry)) (now (pool .entry)) builtIn)) r ⌝ }
 {
     let rows = built_in();
@@ -195,4 +188,18 @@ pub fn list_layouts(side: Side, stream: &[u8], pool: &[u8], out: &mut [u8]) -> A
         return refused(side, refusal, place);
     }
     list_read(&rows, stream, pool, out)
+}
+
+// The list of a record, read as one side. The tables of a long record stand in a function that a short one does not enter; each side has a call of
+// its own, since a function with one call becomes a part of its caller.
+pub fn list_layouts(side: Side, stream: &[u8], pool: &[u8], out: &mut [u8]) -> Answer
+    ensures { λ r. ⌜ Answered (now (out .entry)) (now (out .exit)) (list (length (now (out .entry))) side (rec (now (stream .entry)) (now (pool .entry)) builtIn)) r ⌝ }
+{
+    if stream.len() <= 512 {
+        return list_few(side, stream, pool, out);
+    }
+    match side {
+        Side::Current => list_any(Side::Current, stream, pool, out),
+        Side::Released => list_any(Side::Released, stream, pool, out),
+    }
 }

@@ -72,19 +72,29 @@ fn arrange_many(stream: &[u8], pool: &[u8], handles: &mut [u32], scratch: &mut [
     arrange_lent(stream, pool, &mut fronts, handles, scratch)
 }
 
-// The same for types, of which there may be thousands; for a few a table costs more than it saves. Types in order of their names need no sort, and
-// the first two out of order end the test for that.
-fn arrange_types(stream: &[u8], pool: &[u8], types: &mut [u32], scratch: &mut [u32]) -> usize
+// The same for types, which often go up already.
+fn arrange_few(stream: &[u8], pool: &[u8], types: &mut [u32], scratch: &mut [u32]) -> usize
     requires { ⌜ (length (now scratch) ≡ length (now types)) × (length (now types) ≤ 65536) ⌝ }
     ensures { λ r. ⌜ (take r (now (types .exit)) ≡ lasts (typeName (now (stream .entry)) (now (pool .entry))) (arranged (typeName (now (stream .entry)) (now (pool .entry))) (now (types .entry)))) × (r ≤ length (now (types .entry))) ⌝ }
 {
     if ascending(stream, pool, types) {
         return types.len();
     }
-    if 64 <= types.len() {
-        return arrange_many(stream, pool, types, scratch);
-    }
     arrange(stream, pool, types, scratch)
+}
+
+// The same where there may be thousands of them; for a few a table of fronts costs more than it saves.
+fn arrange_types(stream: &[u8], pool: &[u8], types: &mut [u32], scratch: &mut [u32]) -> usize
+    requires { ⌜ (length (now scratch) ≡ length (now types)) × (length (now types) ≤ 65536) ⌝ }
+    ensures { λ r. ⌜ (take r (now (types .exit)) ≡ lasts (typeName (now (stream .entry)) (now (pool .entry))) (arranged (typeName (now (stream .entry)) (now (pool .entry))) (now (types .entry)))) × (r ≤ length (now (types .entry))) ⌝ }
+{
+    if types.len() < 64 {
+        return arrange_few(stream, pool, types, scratch);
+    }
+    if ascending(stream, pool, types) {
+        return types.len();
+    }
+    arrange_many(stream, pool, types, scratch)
 }
 
 // The table of a record's types at the front of `types`; and how many they are.
@@ -99,6 +109,15 @@ pub(crate) fn type_table(
 {
     let n = fill_handles(stream, types);
     arrange_types(stream, pool, &mut types[..n], &mut scratch[..n])
+}
+
+// The same for a short record, without room for the fronts of names.
+pub(crate) fn few_types(stream: &[u8], pool: &[u8], types: &mut [u32], scratch: &mut [u32]) -> usize
+    requires { ⌜ (length (now stream) ≤ 32768) × Room (now stream) (now types) × Room (now stream) (now scratch) ⌝ }
+    ensures { λ r. ⌜ TypesTable (now (stream .entry)) (now (pool .entry)) (take r (now (types .exit))) × (r ≤ length (now (stream .entry)) / 4) ⌝ }
+{
+    let n = fill_handles(stream, types);
+    arrange_few(stream, pool, &mut types[..n], &mut scratch[..n])
 }
 
 // A type of the table, by its index.

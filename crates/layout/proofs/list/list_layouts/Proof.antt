@@ -1,53 +1,68 @@
-use Rattle.layout.proofs.ListLaws.{list-refused, list-premise, list-readable}
+use Rattle.layout.proofs.ListLaws.{list-side}
 use borrow.Author.Needs.{needs}
 use Rattle.layout.proofs.list.list_layouts.Statement.{statement}
 use Rattle.layout.proofs.list.list_layouts.Tie as tie
+use Rattle.layout.proofs.list.list_layouts.Reads as reads
+use Rattle.layout.proofs.list.list_layouts.Lts as lts
+use Rattle.layout.proofs.list.list_any.Reads as list-any-reads
+use Rattle.layout.proofs.list.list_few.Reads as list-few-reads
 
-built-in-requires : tie.Need-built-in-requires
-built-in-requires c κs = search needs
+-- src/list.rt:199:9
+list-few-requires : tie.Need-list-few-requires
+list-few-requires c κs = search needs
 
-slice-aggregate-read-record : tie.Need-slice-aggregate-read-record
-slice-aggregate-read-record c = search needs
-
-read-record-requires : tie.Need-read-record-requires
-read-record-requires c κs = search needs
-
-enum-known-refusal : tie.Need-enum-known-refusal
-enum-known-refusal c = search needs
-
-refused-requires : tie.Need-refused-requires
-refused-requires c κs = search needs
-
-returns : tie.Need-returns
-returns c = list-refused _ _ _ _ _ (c .before .before .before .before .before .before .built-in .ensures) (c .before .before .before .before .read-record .ensures) _ _ _ _ (search needs) (c .refused .ensures)
-
-enum-told : tie.Need-enum-told
-enum-told c = search needs
-
-slice-aggregate-list-read : tie.Need-slice-aggregate-list-read
-slice-aggregate-list-read c = search needs
-
-list-read-requires : tie.Need-list-read-requires
-list-read-requires c κs = list-premise _ _ _ _ _ (c .before .before .before .before .before .before .built-in .ensures) (c .before .before .before .before .read-record .ensures) (search needs)
-
+-- src/list.rt:199:9
 same-length : tie.Need-same-length
 same-length c = search needs
 
+-- src/list.rt:199:9
+returns : tie.Need-returns
+returns c = search needs
+
+-- src/list.rt:202:35
+enum-told : tie.Need-enum-told
+enum-told c = search needs
+
+-- src/list.rt:202:26
+list-any-requires : tie.Need-list-any-requires
+list-any-requires c κs = search needs
+
+-- src/list.rt:203:36
+enum-told-2 : tie.Need-enum-told-2
+enum-told-2 c = search needs
+
+-- src/list.rt:203:27
+list-any-requires-2 : tie.Need-list-any-requires-2
+list-any-requires-2 c κs = search needs
+
+-- src/list.rt:195:1
+same-length-2 : tie.Need-same-length-2
+same-length-2 c = search needs
+
+-- src/list.rt:195:1
 returns-2 : tie.Need-returns-2
-returns-2 c = search list-readable
+returns-2 c = search list-side
+
+-- src/list.rt:195:1
+same-length-3 : tie.Need-same-length-3
+same-length-3 c = search needs
+
+-- src/list.rt:195:1
+returns-3 : tie.Need-returns-3
+returns-3 c = search list-side
 
 pub list-layouts-spec : {M : Type 1} → statement M
 list-layouts-spec =
     tie.close
     (tie.spec
-    built-in-requires
-    slice-aggregate-read-record
-    read-record-requires
-    enum-known-refusal
-    refused-requires
+    list-few-requires
+    same-length
     returns
     enum-told
-    slice-aggregate-list-read
-    list-read-requires
-    same-length
-    returns-2)
+    list-any-requires
+    enum-told-2
+    list-any-requires-2
+    same-length-2
+    returns-2
+    same-length-3
+    returns-3)

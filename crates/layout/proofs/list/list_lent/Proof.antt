@@ -1,10 +1,14 @@
+use native.Mathlib.Omega.{arith}
 use Rattle.layout.proofs.TableLaws.{cut-long}
 use borrow.Author.Needs.{needs}
 use Rattle.layout.proofs.list.list_lent.Statement.{statement}
 use Rattle.layout.proofs.list.list_lent.Tie as tie
 
-fill-both-requires : tie.Need-fill-both-requires
-fill-both-requires c κs = search needs
+fill-index-requires : tie.Need-fill-index-requires
+fill-index-requires c κs = search needs
+
+fill-tables-requires : tie.Need-fill-tables-requires
+fill-tables-requires c κs = search needs
 
 slice-reshare-prefix-list-tables : tie.Need-slice-reshare-prefix-list-tables
 slice-reshare-prefix-list-tables c = search needs
@@ -13,7 +17,9 @@ slice-aggregate-list-tables : tie.Need-slice-aggregate-list-tables
 slice-aggregate-list-tables c = cut-long _ _ (search needs)
 
 list-tables-requires : tie.Need-list-tables-requires
-list-tables-requires c κs = let pre = c .before .before .before .before .before .before .before .before .before .before .before .before .before .before .before .before .before .before .before .before .before .pre in c .before .before .before .before .before .before .before .before .before .fill-both .ensures .0 (pre .5) (pre .1)
+list-tables-requires c κs =
+    let pre = c .before .before .before .before .before .before .before .before .before .before .before .before .before .before .before .before .before .before .before .before .before .before .before .before .before .before .pre in
+    c .before .before .before .before .before .before .before .before .before .fill-tables .ensures .0 (c .before .before .before .before .before .before .before .before .before .before .before .before .before .before .before .before .fill-index .ensures (pre .0) (omega (arith, pre .5))) (search needs) (search needs) (search needs) (search needs) (pre .1)
 
 same-length : tie.Need-same-length
 same-length c = search needs
@@ -27,6 +33,9 @@ same-length-3 c = search needs
 same-length-4 : tie.Need-same-length-4
 same-length-4 c = search needs
 
+same-length-5 : tie.Need-same-length-5
+same-length-5 c = search needs
+
 returns : tie.Need-returns
 returns c = search needs
 
@@ -34,7 +43,8 @@ pub list-lent-spec : {M : Type 1} → statement M
 list-lent-spec =
     tie.close
     (tie.spec
-    fill-both-requires
+    fill-index-requires
+    fill-tables-requires
     slice-reshare-prefix-list-tables
     slice-aggregate-list-tables
     list-tables-requires
@@ -42,4 +52,5 @@ list-lent-spec =
     same-length-2
     same-length-3
     same-length-4
+    same-length-5
     returns)

@@ -2,20 +2,20 @@ use borrow.Author.Needs.{needs}
 use Rattle.layout.proofs.list.list_short.Statement.{statement}
 use Rattle.layout.proofs.list.list_short.Tie as tie
 
-slice-aggregate-list-indexed : tie.Need-slice-aggregate-list-indexed
-slice-aggregate-list-indexed c = search needs
+slice-aggregate-list-lent : tie.Need-slice-aggregate-list-lent
+slice-aggregate-list-lent c = search needs
 
-slice-aggregate-list-indexed-2 : tie.Need-slice-aggregate-list-indexed-2
-slice-aggregate-list-indexed-2 c = search needs
+slice-aggregate-list-lent-2 : tie.Need-slice-aggregate-list-lent-2
+slice-aggregate-list-lent-2 c = search needs
 
-slice-aggregate-list-indexed-3 : tie.Need-slice-aggregate-list-indexed-3
-slice-aggregate-list-indexed-3 c = search needs
+slice-aggregate-list-lent-3 : tie.Need-slice-aggregate-list-lent-3
+slice-aggregate-list-lent-3 c = search needs
 
-slice-aggregate-list-indexed-4 : tie.Need-slice-aggregate-list-indexed-4
-slice-aggregate-list-indexed-4 c = search needs
+slice-aggregate-list-lent-4 : tie.Need-slice-aggregate-list-lent-4
+slice-aggregate-list-lent-4 c = search needs
 
-list-indexed-requires : tie.Need-list-indexed-requires
-list-indexed-requires c κs = (search needs, search needs, search needs, search needs, search needs, search needs)
+list-lent-requires : tie.Need-list-lent-requires
+list-lent-requires c κs = (search needs, search needs, search needs, search needs, search needs, search needs)
 
 same-length : tie.Need-same-length
 same-length c = search needs
@@ -27,10 +27,10 @@ pub list-short-spec : {M : Type 1} → statement M
 list-short-spec =
     tie.close
     (tie.spec
-    slice-aggregate-list-indexed
-    slice-aggregate-list-indexed-2
-    slice-aggregate-list-indexed-3
-    slice-aggregate-list-indexed-4
-    list-indexed-requires
+    slice-aggregate-list-lent
+    slice-aggregate-list-lent-2
+    slice-aggregate-list-lent-3
+    slice-aggregate-list-lent-4
+    list-lent-requires
     same-length
     returns)

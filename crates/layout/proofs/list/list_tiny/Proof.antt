@@ -1,26 +1,54 @@
 use Rattle.record.proofs.IndexLaws.{no-index}
+use Rattle.layout.proofs.TableLaws.{cut-long}
 use borrow.Author.Needs.{needs}
 use Rattle.layout.proofs.list.list_tiny.Statement.{statement}
 use Rattle.layout.proofs.list.list_tiny.Tie as tie
+use Rattle.layout.proofs.list.list_tiny.Reads as reads
+use Rattle.layout.proofs.list.list_tiny.Lts as lts
+use Rattle.layout.proofs.list.list_tables.Reads as list-tables-reads
+use Rattle.layout.proofs.tables.fill_few.Reads as fill-few-reads
 
-slice-aggregate-list-lent : tie.Need-slice-aggregate-list-lent
-slice-aggregate-list-lent c = search needs
+-- src/list.rt:151:9
+slice-aggregate-fill-few : tie.Need-slice-aggregate-fill-few
+slice-aggregate-fill-few c = search needs
 
-slice-aggregate-list-lent-2 : tie.Need-slice-aggregate-list-lent-2
-slice-aggregate-list-lent-2 c = search needs
+-- src/list.rt:152:9
+slice-aggregate-fill-few-2 : tie.Need-slice-aggregate-fill-few-2
+slice-aggregate-fill-few-2 c = search needs
 
-slice-aggregate-list-lent-3 : tie.Need-slice-aggregate-list-lent-3
-slice-aggregate-list-lent-3 c = search needs
+-- src/list.rt:153:9
+slice-aggregate-fill-few-3 : tie.Need-slice-aggregate-fill-few-3
+slice-aggregate-fill-few-3 c = search needs
 
-slice-aggregate-list-lent-4 : tie.Need-slice-aggregate-list-lent-4
-slice-aggregate-list-lent-4 c = search needs
+-- src/list.rt:154:9
+slice-aggregate-fill-few-4 : tie.Need-slice-aggregate-fill-few-4
+slice-aggregate-fill-few-4 c = search needs
 
-list-lent-requires : tie.Need-list-lent-requires
-list-lent-requires c κs = (search needs, search needs, search needs, search needs, search needs, no-index _ _)
+-- src/list.rt:147:9
+fill-few-requires : tie.Need-fill-few-requires
+fill-few-requires c κs = search needs
 
+-- src/list.rt:156:37
+array-share-prefix-types : tie.Need-array-share-prefix-types
+array-share-prefix-types c = search needs
+
+-- src/list.rt:156:37
+slice-aggregate-list-tables : tie.Need-slice-aggregate-list-tables
+slice-aggregate-list-tables c = cut-long _ _ (search needs)
+
+-- src/list.rt:156:50
+slice-aggregate-list-tables-2 : tie.Need-slice-aggregate-list-tables-2
+slice-aggregate-list-tables-2 c = search needs
+
+-- src/list.rt:156:5
+list-tables-requires : tie.Need-list-tables-requires
+list-tables-requires c κs = c .before .before .before .before .before .before .fill-few .ensures .0 (no-index _ _) (search needs)
+
+-- src/list.rt:140:1
 same-length : tie.Need-same-length
 same-length c = search needs
 
+-- src/list.rt:140:1
 returns : tie.Need-returns
 returns c = search needs
 
@@ -28,10 +56,14 @@ pub list-tiny-spec : {M : Type 1} → statement M
 list-tiny-spec =
     tie.close
     (tie.spec
-    slice-aggregate-list-lent
-    slice-aggregate-list-lent-2
-    slice-aggregate-list-lent-3
-    slice-aggregate-list-lent-4
-    list-lent-requires
+    slice-aggregate-fill-few
+    slice-aggregate-fill-few-2
+    slice-aggregate-fill-few-3
+    slice-aggregate-fill-few-4
+    fill-few-requires
+    array-share-prefix-types
+    slice-aggregate-list-tables
+    slice-aggregate-list-tables-2
+    list-tables-requires
     same-length
     returns)

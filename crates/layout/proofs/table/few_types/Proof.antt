@@ -1,0 +1,51 @@
+use Rattle.layout.proofs.TableLaws.{table-is, cut-long, cuts-agree, cut-small, cut-few}
+use borrow.Author.Needs.{needs}
+use Rattle.layout.proofs.table.few_types.Statement.{statement}
+use Rattle.layout.proofs.table.few_types.Tie as tie
+
+fill-handles-requires : tie.Need-fill-handles-requires
+fill-handles-requires c κs = search needs
+
+slice-relend-prefix-arrange-few : tie.Need-slice-relend-prefix-arrange-few
+slice-relend-prefix-arrange-few c = search needs
+
+slice-aggregate-arrange-few : tie.Need-slice-aggregate-arrange-few
+slice-aggregate-arrange-few c = cut-long _ _ (search needs)
+
+slice-relend-prefix-arrange-few-2 : tie.Need-slice-relend-prefix-arrange-few-2
+slice-relend-prefix-arrange-few-2 c = search needs
+
+slice-aggregate-arrange-few-2 : tie.Need-slice-aggregate-arrange-few-2
+slice-aggregate-arrange-few-2 c = cut-long _ _ (search needs)
+
+arrange-few-requires : tie.Need-arrange-few-requires
+arrange-few-requires c κs = (
+  cuts-agree (c .before .before .before .before .before .before .before .before .before .before .args .scratch .now) (c .before .before .before .before .fill-handles .last .1 .0) (c .before .before .before .before .fill-handles .result) (search needs) (search needs),
+  cut-small (c .before .before .before .before .fill-handles .last .1 .0) (c .before .before .before .before .fill-handles .result) (search needs) (search needs),
+)
+
+same-length : tie.Need-same-length
+same-length c = search needs
+
+same-length-2 : tie.Need-same-length-2
+same-length-2 c = search needs
+
+returns : tie.Need-returns
+returns c = (
+  table-is _ _ (search needs) _ _ (c .before .before .before .before .arrange-few .last .1 .1 .0) _ (c .before .before .before .before .arrange-few .result) (c .before .before .before .before .before .before .before .before .before .fill-handles .ensures .0) (c .before .before .before .before .before .before .before .before .before .fill-handles .ensures .1) (c .before .before .before .before .arrange-few .ensures .0) (search needs),
+  cut-few (c .before .before .before .before .before .before .before .before .before .fill-handles .last .1 .0) (c .before .before .before .before .before .before .before .before .before .fill-handles .result) _ _ (c .before .before .before .before .arrange-few .ensures .1) (search needs),
+)
+
+pub few-types-spec : {M : Type 1} → statement M
+few-types-spec =
+    tie.close
+    (tie.spec
+    fill-handles-requires
+    slice-relend-prefix-arrange-few
+    slice-aggregate-arrange-few
+    slice-relend-prefix-arrange-few-2
+    slice-aggregate-arrange-few-2
+    arrange-few-requires
+    same-length
+    same-length-2
+    returns)

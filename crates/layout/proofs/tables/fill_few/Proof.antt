@@ -1,0 +1,33 @@
+use Rattle.layout.proofs.TablesLaws.{tables-are}
+use borrow.Author.Needs.{needs}
+use Rattle.layout.proofs.tables.fill_few.Statement.{statement}
+use Rattle.layout.proofs.tables.fill_few.Tie as tie
+
+fill-sizes-requires : tie.Need-fill-sizes-requires
+fill-sizes-requires c κs = search needs
+
+few-types-requires : tie.Need-few-types-requires
+few-types-requires c κs = search needs
+
+same-length : tie.Need-same-length
+same-length c = search needs
+
+same-length-2 : tie.Need-same-length-2
+same-length-2 c = search needs
+
+same-length-3 : tie.Need-same-length-3
+same-length-3 c = search needs
+
+returns : tie.Need-returns
+returns c = (λ i e. search tables-are, search needs)
+
+pub fill-few-spec : {M : Type 1} → statement M
+fill-few-spec =
+    tie.close
+    (tie.spec
+    fill-sizes-requires
+    few-types-requires
+    same-length
+    same-length-2
+    same-length-3
+    returns)
