@@ -35,7 +35,7 @@ use Rattle.record.specs.declared.lists.EnumStep.{EnumStep}
 use Rattle.record.specs.declared.lists.EnumStep.the-variants.{NoEnum, AnEnum}
 use Rattle.record.specs.declared.lists.ValueStep.{ValueStep}
 use Rattle.record.specs.declared.lists.ValueStep.the-variants.{NoValue, AValue}
-use Rattle.record.proofs.EndLaws.{constants-front, enums-front}
+use Rattle.record.proofs.EndLaws.{constants-front, enums-front, plugin-keys-front}
 use Rattle.record.proofs.StepLaws.{constants-now, constants-over-now, enums-now, enums-over-now, values-now, values-over-now}
 use Rattle.definition.specs.Verdicts.{aConstant, anEnum, aKey, within, valueUndated}
 use Rattle.definition.specs.Pass.{_then_, ensure, onFound}
@@ -303,6 +303,10 @@ module _ (s : Str) (is : Ends) (i : EndsOf s is) (t p q : Str) (v : Verdict) (no
 
   pub enum-arrivals-cut : t ≡ take (is .enums) s → (es : List M.Enum) → meaning p q v ≡ checkEnumArrivals now copy (enumsAt t p 0) es → meaning p q v ≡ checkEnumArrivals now copy (enumsAt s p 0) es
   enum-arrivals-cut e es h = h ∙ ap (λ (l : List M.Enum). checkEnumArrivals now copy l es) (enums-front s p t is i e)
+
+  pub key-arrivals-cut : t ≡ take (is .keys) s → (ks : List M.Key) → meaning p q v ≡ checkKeyArrivals now copy (pluginKeys (structsAt t p 0) (unstoredAt t p 0)) ks
+      → meaning p q v ≡ checkKeyArrivals now copy (pluginKeys (structsAt s p 0) (unstoredAt s p 0)) ks
+  key-arrivals-cut e ks h = h ∙ ap (λ (l : List M.Key). checkKeyArrivals now copy l ks) (plugin-keys-front s p t is i e)
 
 -- the whole pass
 module _ (p q now : Str) (copy : Option Str) (cs cs₀ : List M.Const) (es es₀ : List M.Enum) (ks ks₀ : List M.Key) (a : Verdict) (h : meaning p q a ≡ checkConstantArrivals now copy cs cs₀) where

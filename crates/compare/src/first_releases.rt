@@ -366,5 +366,6 @@ pub(crate) fn check_first_releases(
     let Verdict::Passed = enums else {
         return enums;
     };
-    check_key_arrivals(stream, pool, past, old, index, current, copy)
+    let third = upto(stream, ends.keys);
+    check_key_arrivals(third, pool, past, old, index, current, copy)
 }

@@ -8,12 +8,14 @@ use borrow.Author.Tests.{ne-eqb, eqb-true, eqb-false}
 use lib.Dec.{eqb}
 use lib.ListN.{length, take, drop, getD}
 use lib.Seq.{getD-take, getD-drop, length-take-le}
-use Rattle.record.specs.Base.{Str, bytes}
-use Rattle.record.specs.Commands.{widthOf, widthWith, operands, widths, wide, commandOf, stepAt, place, commandsAt, constantAt, enumAt, valueAt, bitfieldAt, memberAt}
-use Rattle.record.specs.Lists.{listed, nothing, anything, constantOf, enumOf, valueOf, bitfieldOf, memberOf, constants, values, enums, members, bitfields}
-use Rattle.record.specs.Steps.{constantsAt, enumsAt, bitfieldsAt}
+use Rattle.record.specs.Base.{Str, bytes, first, withSome}
+use Rattle.record.specs.Commands.{widthOf, widthWith, operands, widths, wide, commandOf, stepAt, place, commandsAt, constantAt, enumAt, valueAt, bitfieldAt, memberAt, keyAt}
+use Rattle.record.specs.Lists.{listed, anything, nothing, aKey, constantOf, enumOf, valueOf, bitfieldOf, memberOf, keyOf, constants, values, enums, members, bitfields, keys, fields, structs, unstored}
+use Rattle.record.specs.Steps.{constantsAt, enumsAt, bitfieldsAt, structsAt, unstoredAt}
+use Rattle.record.specs.Schema.{Key, Field, Struct}
+use Rattle.record.specs.Keys.{fieldKeys, pluginKeys}
 use Rattle.record.specs.Seek.{afterAt, overOf, placesOf}
-use Rattle.record.specs.Ends.{Reached, there, onward, inConstants, inEnums, inBitfields, Before, EndsOf, noted}
+use Rattle.record.specs.Ends.{Reached, there, onward, inConstants, inEnums, inBitfields, inKeys, Before, EndsOf, noted}
 use Rattle.record.specs.declared.command.Cursor.{Cursor}
 use Rattle.record.specs.declared.command.Command.{Command}
 use Rattle.record.specs.declared.command.Step.the-variants.{Next}
@@ -40,9 +42,10 @@ pub record EndsTo (s : Str) (r : Ends) (at : ℕ) : Type 0 where
   pub constants : BeforeTo s inConstants (r .constants) at
   pub enums : BeforeTo s inEnums (r .enums) at
   pub bitfields : BeforeTo s inBitfields (r .bitfields) at
+  pub keys : BeforeTo s inKeys (r .keys) at
 
-pub ends-start : (s : Str) → EndsTo s (record { constants = 0; enums = 0; bitfields = 0 }) 0
-ends-start s = record { reached = there refl; constants = nowhere inConstants; enums = nowhere inEnums; bitfields = nowhere inBitfields }
+pub ends-start : (s : Str) → EndsTo s (record { constants = 0; enums = 0; bitfields = 0; keys = 0 }) 0
+ends-start s = record { reached = there refl; constants = nowhere inConstants; enums = nowhere inEnums; bitfields = nowhere inBitfields; keys = nowhere inKeys }
   where
     nowhere : (is : ℕ → Bool) → BeforeTo s is 0 0
     nowhere is = record { reached = there refl; same = λ b h. refl }
@@ -50,7 +53,7 @@ ends-start s = record { reached = there refl; constants = nowhere inConstants; e
 module _ (s : Str) (at n : ℕ) (e : n ≡ afterAt s at) where
   pub ends-end : n ≡ 0 → (r : Ends) → EndsTo s r at → EndsOf s r
   unfolding placesOf
-  ends-end z r h = record { constants = all (h .constants); enums = all (h .enums); bitfields = all (h .bitfields) }
+  ends-end z r h = record { constants = all (h .constants); enums = all (h .enums); bitfields = all (h .bitfields); keys = all (h .keys) }
     where
       all : {is : ℕ → Bool} {k : ℕ} → BeforeTo s is k at → Before s is k
       all f = record { reached = f .reached; none = λ b q. f .same b q ∙ listed-stop s (overOf Anything) b (λ at rest. at) at (ended-there s at n e z) }
@@ -81,6 +84,7 @@ module _ (s : Str) (at n : ℕ) (e : n ≡ afterAt s at) where
       constants = seen inConstants (r .constants) (h .reached) (h .constants);
       enums = seen inEnums (r .enums) (h .reached) (h .enums);
       bitfields = seen inBitfields (r .bitfields) (h .reached) (h .bitfields);
+      keys = seen inKeys (r .keys) (h .reached) (h .keys);
     })
 
 pub ruleset ends-laws = (ends-start, ends-end, ends-on)
@@ -88,31 +92,39 @@ pub ruleset ends-laws = (ends-start, ends-end, ends-on)
 -- noted ------------------------------------------------------------------------------------------------------------------
 
 module _ (r : Ends) (b k : ℕ) where
-  pub noted-constant : b ≡ 2 → _≡_ {A = Ends} (record { constants = k; enums = r .enums; bitfields = r .bitfields }) (noted r b k)
+  pub noted-constant : b ≡ 2 → _≡_ {A = Ends} (record { constants = k; enums = r .enums; bitfields = r .bitfields; keys = r .keys }) (noted r b k)
   unfolding noted
   noted-constant e = rw e
 
-  pub noted-enum : b ≡ 4 → _≡_ {A = Ends} (record { constants = r .constants; enums = k; bitfields = r .bitfields }) (noted r b k)
+  pub noted-enum : b ≡ 4 → _≡_ {A = Ends} (record { constants = r .constants; enums = k; bitfields = r .bitfields; keys = r .keys }) (noted r b k)
   unfolding noted
   noted-enum e = rw e
 
-  pub noted-value : b ≡ 5 → _≡_ {A = Ends} (record { constants = r .constants; enums = k; bitfields = r .bitfields }) (noted r b k)
+  pub noted-value : b ≡ 5 → _≡_ {A = Ends} (record { constants = r .constants; enums = k; bitfields = r .bitfields; keys = r .keys }) (noted r b k)
   unfolding noted
   noted-value e = rw e
 
-  pub noted-bits : b ≡ 6 → _≡_ {A = Ends} (record { constants = r .constants; enums = r .enums; bitfields = k }) (noted r b k)
+  pub noted-bits : b ≡ 6 → _≡_ {A = Ends} (record { constants = r .constants; enums = r .enums; bitfields = k; keys = r .keys }) (noted r b k)
   unfolding noted
   noted-bits e = rw e
 
-  pub noted-member : b ≡ 7 → _≡_ {A = Ends} (record { constants = r .constants; enums = r .enums; bitfields = k }) (noted r b k)
+  pub noted-member : b ≡ 7 → _≡_ {A = Ends} (record { constants = r .constants; enums = r .enums; bitfields = k; keys = r .keys }) (noted r b k)
   unfolding noted
   noted-member e = rw e
 
-  pub noted-other : (b ≡ 2 → ⊥) → (b ≡ 4 → ⊥) → (b ≡ 5 → ⊥) → (b ≡ 6 → ⊥) → (b ≡ 7 → ⊥) → r ≡ noted r b k
+  pub noted-key : b ≡ 12 → _≡_ {A = Ends} (record { constants = r .constants; enums = r .enums; bitfields = r .bitfields; keys = k }) (noted r b k)
   unfolding noted
-  noted-other e f g h i = rw (ne-eqb b 2 e, ne-eqb b 4 f, ne-eqb b 5 g, ne-eqb b 6 h, ne-eqb b 7 i)
+  noted-key e = rw e
 
-pub ruleset noted-laws = (noted-constant, noted-enum, noted-value, noted-bits, noted-member, noted-other)
+  pub noted-unstored : b ≡ 13 → _≡_ {A = Ends} (record { constants = r .constants; enums = r .enums; bitfields = r .bitfields; keys = k }) (noted r b k)
+  unfolding noted
+  noted-unstored e = rw e
+
+  pub noted-other : (b ≡ 2 → ⊥) → (b ≡ 4 → ⊥) → (b ≡ 5 → ⊥) → (b ≡ 6 → ⊥) → (b ≡ 7 → ⊥) → (b ≡ 12 → ⊥) → (b ≡ 13 → ⊥) → r ≡ noted r b k
+  unfolding noted
+  noted-other d e f g h i j = rw (ne-eqb b 2 d, ne-eqb b 4 e, ne-eqb b 5 f, ne-eqb b 6 g, ne-eqb b 7 h, ne-eqb b 12 i, ne-eqb b 13 j)
+
+pub ruleset noted-laws = (noted-constant, noted-enum, noted-value, noted-bits, noted-member, noted-key, noted-unstored, noted-other)
 
 -- a list of a stream that is cut off -------------------------------------------------------------------------------------
 
@@ -120,21 +132,33 @@ reached-ahead : (s : Str) (to : ℕ) {at : ℕ} → Reached s to at → at ≤ t
 reached-ahead s to (there p) = omega arith
 reached-ahead s to (onward {at} {c} {k} e r) = let f = step-found s at c k e in let a = f .on in let b = reached-ahead s to r in omega arith
 
-module _ {A : Type 0} (s : Str) (over : ℕ → Bool) (b : ℕ) (f : ℕ → List ℕ → A) where
-  -- where no command of a number stands, a list of that number has no element
-  none-listed : (at : ℕ) → placesOf s Anything b at ≡ [] → listed s over b f (commandsAt s at) ≡ []
+-- where no command of a number stands from a place on, the command there has another, and none stands after it
+module _ (s : Str) (n at : ℕ) (c : Command) (k : Cursor) (e : stepAt s at ≡ Next c k) (h : placesOf s Anything n at ≡ []) where
+  not-here : byteOf c ≡ n → ⊥
   unfolding placesOf
-  none-listed =
-      along s (λ (at : ℕ). placesOf s Anything b at ≡ [] → listed s over b f (commandsAt s at) ≡ []) (λ at e h. listed-stop s over b f at e)
-      (λ at c k e ih h. go at c k e ih h (eqb (byteOf c) b) (over (byteOf c)) refl refl)
+  not-here q = List·Memᴰ·not-nil (subst (λ (l : List ℕ). List·Memᴰ at l) (sym (listed-here s (overOf Anything) n (λ at rest. at) at c k e q) ∙ h) (List·Memᴰ·head refl))
+
+  none-after : placesOf s Anything n (k .at) ≡ []
+  unfolding placesOf
+  none-after = sym (listed-over s (overOf Anything) n (λ at rest. at) at c k e not-here refl) ∙ h
+
+-- what is made of a list, one element after the other
+module _ {A X : Type 0} (F : List A → X) (h : A → X → X) (step : (x : A) (l : List A) → F (x ∷ l) ≡ h x (F l)) (s : Str) (over : ℕ → Bool) (b : ℕ) (f : ℕ → List ℕ → A) where
+  -- the elements count for nothing where no command of a number stands any more
+  none-made : (n : ℕ) → ((at : ℕ) (c : Command) (k : Cursor) → byteOf c ≡ b → (byteOf c ≡ n → ⊥) → placesOf s Anything n (k .at) ≡ [] → (x : X) → h (f at (commandsAt s (k .at))) x ≡ x)
+      → (at : ℕ) → placesOf s Anything n at ≡ [] → F (listed s over b f (commandsAt s at)) ≡ F []
+  none-made n idle =
+      along s (λ (at : ℕ). placesOf s Anything n at ≡ [] → F (listed s over b f (commandsAt s at)) ≡ F []) (λ at e m. ap F (listed-stop s over b f at e))
+      (λ at c k e ih m. go at c k e ih m (eqb (byteOf c) b) (over (byteOf c)) refl refl)
     where
-      go : (at : ℕ) (c : Command) (k : Cursor) → stepAt s at ≡ Next c k → (placesOf s Anything b (k .at) ≡ [] → listed s over b f (commandsAt s (k .at)) ≡ []) → placesOf s Anything b at ≡ []
-          → (t o : Bool) → eqb (byteOf c) b ≡ t → over (byteOf c) ≡ o → listed s over b f (commandsAt s at) ≡ []
-      go at c k e ih h true o p q = absurd (List·Memᴰ·not-nil (subst (λ (l : List ℕ). List·Memᴰ at l) (sym (listed-here s (overOf Anything) b (λ at rest. at) at c k e (eqb-true (byteOf c) b p)) ∙ h) (List·Memᴰ·head refl)))
-      go at c k e ih h false true p q =
-          let w = eqb-false (byteOf c) b p in
-          listed-over s over b f at c k e w q ∙ ih (sym (listed-over s (overOf Anything) b (λ at rest. at) at c k e w refl) ∙ h)
-      go at c k e ih h false false p q = listed-end s over b f at c k e (eqb-false (byteOf c) b p) q
+      go : (at : ℕ) (c : Command) (k : Cursor) → stepAt s at ≡ Next c k → (placesOf s Anything n (k .at) ≡ [] → F (listed s over b f (commandsAt s (k .at))) ≡ F []) → placesOf s Anything n at ≡ []
+          → (t o : Bool) → eqb (byteOf c) b ≡ t → over (byteOf c) ≡ o → F (listed s over b f (commandsAt s at)) ≡ F []
+      go at c k e ih m true o p q =
+          let w = eqb-true (byteOf c) b p in
+          let z = none-after s n at c k e m in
+          ap F (listed-here s over b f at c k e w) ∙ step _ _ ∙ idle at c k w (not-here s n at c k e m) z _ ∙ ih z
+      go at c k e ih m false true p q = ap F (listed-over s over b f at c k e (eqb-false (byteOf c) b p) q) ∙ ih (none-after s n at c k e m)
+      go at c k e ih m false false p q = ap F (listed-end s over b f at c k e (eqb-false (byteOf c) b p) q)
 
 reached-within : (s : Str) (to : ℕ) {at : ℕ} → Reached s to at → at ≤ length s → to ≤ length s
 reached-within s to (there p) h = omega arith
@@ -163,29 +187,38 @@ module _ (s : Str) (to : ℕ) (l : to ≤ length s) where
       ∙ ap (λ (j : ℕ). Next d (place j)) (sym w) in
       record { command = d; step = step; number = sym (byte-is (take to s) at d (place (k .at)) step) ∙ same ∙ byte-is s at c k e }
 
--- a list of which all commands stand before the cut stays as it is, if each of its elements does
-module _ {A : Type 0} (s : Str) (to : ℕ) (l : to ≤ length s) (over : ℕ → Bool) (b : ℕ) (f g : ℕ → List ℕ → A) (none : placesOf s Anything b to ≡ [])
-    (same : (at : ℕ) (c : Command) (k : Cursor) → stepAt s at ≡ Next c k → getD s at 0 ≡ b → Reached s to (k .at) → f at (commandsAt s (k .at)) ≡ g at (commandsAt (take to s) (k .at))) where
-  pub listed-front : {at : ℕ} → Reached s to at → listed s over b f (commandsAt s at) ≡ listed (take to s) over b g (commandsAt (take to s) at)
-  listed-front (there {at} p) =
-      none-listed s over b f at (subst (λ (x : ℕ). placesOf s Anything b x ≡ []) (sym p) none)
-      ∙ sym (listed-stop (take to s) over b g at (sym (step-end (take to s) at (let n = long s to l in omega arith))))
-  listed-front (onward {at} {c} {k} e r) = go (listed-front r) (uncut s to l at c k e (reached-ahead s to r)) (eqb (byteOf c) b) (over (byteOf c)) refl refl
-    where
-      go : listed s over b f (commandsAt s (k .at)) ≡ listed (take to s) over b g (commandsAt (take to s) (k .at)) → Uncut s to l at c k
-          → (t o : Bool) → eqb (byteOf c) b ≡ t → over (byteOf c) ≡ o → listed s over b f (commandsAt s at) ≡ listed (take to s) over b g (commandsAt (take to s) at)
-      go ih u true o p q =
-          let h = eqb-true (byteOf c) b p in
-          listed-here s over b f at c k e h ∙ ap₂ (λ (x : A) (m : List A). x ∷ m) (same at c k e (byte-is s at c k e ∙ h) r) ih
-          ∙ sym (listed-here (take to s) over b g at (u .command) (place (k .at)) (u .step) (u .number ∙ h))
-      go ih u false true p q =
-          let h = eqb-false (byteOf c) b p in
-          listed-over s over b f at c k e h q ∙ ih
-          ∙ sym (listed-over (take to s) over b g at (u .command) (place (k .at)) (u .step) (λ x. h (sym (u .number) ∙ x)) (ap over (u .number) ∙ q))
-      go ih u false false p q =
-          let h = eqb-false (byteOf c) b p in
-          listed-end s over b f at c k e h q
-          ∙ sym (listed-end (take to s) over b g at (u .command) (place (k .at)) (u .step) (λ x. h (sym (u .number) ∙ x)) (ap over (u .number) ∙ q))
+  -- what is made of a list stays as it is if each element counts as before, and those from the cut on for nothing
+  module _ {A X : Type 0} (F : List A → X) (h : A → X → X) (made : (x : A) (l : List A) → F (x ∷ l) ≡ h x (F l)) (over : ℕ → Bool) (b : ℕ) (f g : ℕ → List ℕ → A) (none : F (listed s over b f (commandsAt s to)) ≡ F [])
+      (same : (at : ℕ) (c : Command) (k : Cursor) → stepAt s at ≡ Next c k → getD s at 0 ≡ b → Reached s to (k .at) → (x : X) → h (f at (commandsAt s (k .at))) x ≡ h (g at (commandsAt (take to s) (k .at))) x) where
+    made-front : {at : ℕ} → Reached s to at → F (listed s over b f (commandsAt s at)) ≡ F (listed (take to s) over b g (commandsAt (take to s) at))
+    made-front (there {at} p) =
+        ap (λ (x : ℕ). F (listed s over b f (commandsAt s x))) p ∙ none
+        ∙ sym (ap F (listed-stop (take to s) over b g at (sym (step-end (take to s) at (let n = long in omega arith)))))
+    made-front (onward {at} {c} {k} e r) = go (made-front r) (uncut at c k e (reached-ahead s to r)) (eqb (byteOf c) b) (over (byteOf c)) refl refl
+      where
+        go : F (listed s over b f (commandsAt s (k .at))) ≡ F (listed (take to s) over b g (commandsAt (take to s) (k .at))) → Uncut at c k
+            → (t o : Bool) → eqb (byteOf c) b ≡ t → over (byteOf c) ≡ o → F (listed s over b f (commandsAt s at)) ≡ F (listed (take to s) over b g (commandsAt (take to s) at))
+        go ih u true o p q =
+            let w = eqb-true (byteOf c) b p in
+            ap F (listed-here s over b f at c k e w) ∙ made _ _ ∙ same at c k e (byte-is s at c k e ∙ w) r _ ∙ ap (h _) ih ∙ sym (made _ _)
+            ∙ sym (ap F (listed-here (take to s) over b g at (u .command) (place (k .at)) (u .step) (u .number ∙ w)))
+        go ih u false true p q =
+            let w = eqb-false (byteOf c) b p in
+            ap F (listed-over s over b f at c k e w q) ∙ ih
+            ∙ sym (ap F (listed-over (take to s) over b g at (u .command) (place (k .at)) (u .step) (λ x. w (sym (u .number) ∙ x)) (ap over (u .number) ∙ q)))
+        go ih u false false p q =
+            let w = eqb-false (byteOf c) b p in
+            ap F (listed-end s over b f at c k e w q)
+            ∙ sym (ap F (listed-end (take to s) over b g at (u .command) (place (k .at)) (u .step) (λ x. w (sym (u .number) ∙ x)) (ap over (u .number) ∙ q)))
+
+  -- a list of which all commands stand before the cut is the same if each of its elements is
+  listed-front : {A : Type 0} (over : ℕ → Bool) (b : ℕ) (f g : ℕ → List ℕ → A) → placesOf s Anything b to ≡ []
+      → ((at : ℕ) (c : Command) (k : Cursor) → stepAt s at ≡ Next c k → getD s at 0 ≡ b → Reached s to (k .at) → f at (commandsAt s (k .at)) ≡ g at (commandsAt (take to s) (k .at)))
+      → {at : ℕ} → Reached s to at → listed s over b f (commandsAt s at) ≡ listed (take to s) over b g (commandsAt (take to s) at)
+  listed-front {A} over b f g none same =
+      made-front (λ (l : List A). l) (λ (x : A) (l : List A). x ∷ l) (λ x l. refl) over b f g
+      (none-made (λ (l : List A). l) (λ (x : A) (l : List A). x ∷ l) (λ x l. refl) s over b f b (λ at c k p q m x. absurd (q p)) to none)
+      (λ at c k e i r x. ap (λ (y : A). y ∷ x) (same at c k e i r))
 
 -- the bytes of a command before the cut
 byte-front : (s : Str) (to at c : ℕ) → at + c ≤ to → (i : ℕ) → i < c → getD (drop at s) i 0 ≡ getD (drop at (take to s)) i 0
@@ -288,3 +321,55 @@ module _ (s p : Str) (to : ℕ) (h : Before s inBitfields to) where
 
 pub bitfields-front : (s p t : Str) (r : Ends) → EndsOf s r → t ≡ take (r .bitfields) s → bitfieldsAt t p 0 ≡ bitfieldsAt s p 0
 bitfields-front s p t r e h = ap (λ (x : Str). bitfieldsAt x p 0) h ∙ sym (bitfields-cut s p (r .bitfields) (e .bitfields))
+
+-- plugin keys ------------------------------------------------------------------------------------------------------------
+
+key-same : (x y : Str) → ((i : ℕ) → i < 7 → getD x i 0 ≡ getD y i 0) → keyAt x ≡ keyAt y
+key-same x y f =
+    let n = text-same x y 1 (λ i k l. f i (omega arith)) in
+    let r = opt-same x y 4 (λ i k l. f i (omega arith)) in
+    λ j. record { name = n j; «first_release» = r j }
+
+module _ (s p : Str) where
+  -- fields and structures without keys
+  none-fielded : (at : ℕ) → placesOf s Anything 12 at ≡ [] → (l : List Key) → fieldKeys (fields s p (commandsAt s at)) l ≡ l
+  unfolding fieldKeys fields keys withSome first
+  none-fielded at h l =
+      none-made (λ (fs : List Field). fieldKeys fs l) (λ (f : Field). withSome (f .key)) (λ f fs. refl) s aKey 11 _ 12
+      (λ at c k p q m x. ap (λ (ks : List Key). withSome (first ks) x) (none-made (λ (ks : List Key). ks) (λ (a : Key) (ks : List Key). a ∷ ks) (λ a ks. refl) s nothing 12 _ 12 (λ at c k p q m x. absurd (q p)) (k .at) m)) at h
+
+  none-stored : (at : ℕ) → placesOf s Anything 12 at ≡ [] → (l : List Key) → pluginKeys (structs s p (commandsAt s at)) l ≡ l
+  unfolding pluginKeys structs
+  none-stored at h l =
+      none-made (λ (ts : List Struct). pluginKeys ts l) (λ (t : Struct). fieldKeys (t .fields)) (λ t ts. refl) s anything 8 _ 12 (λ at c k p q m x. none-fielded (k .at) m x) at h
+
+  module _ (to : ℕ) (h : Before s inKeys to) where
+    keys-front : {at : ℕ} → Reached s to at → keys s p (commandsAt s at) ≡ keys (take to s) p (commandsAt (take to s) at)
+    unfolding keys widthOf widthWith operands widths wide bytes
+    keys-front =
+        listed-front s to (before-short s inKeys to h) nothing 12 _ _ (h .none 12 refl)
+        (λ at c k e i r. ap (keyOf p) (key-same (drop at s) (drop at (take to s)) (bytes-front s to at c k e r 12 i)))
+
+    field-keys-front : {at : ℕ} → Reached s to at → (l : List Key) → fieldKeys (fields s p (commandsAt s at)) l ≡ fieldKeys (fields (take to s) p (commandsAt (take to s) at)) l
+    unfolding fieldKeys fields
+    field-keys-front g l =
+        made-front s to (before-short s inKeys to h) (λ (fs : List Field). fieldKeys fs l) (λ (f : Field). withSome (f .key)) (λ f fs. refl) aKey 11 _ _ (none-fielded to (h .none 12 refl) l)
+        (λ at c k e i r x. ap (λ (ks : List Key). withSome (first ks) x) (keys-front r)) g
+
+    stored-cut : (l : List Key) → pluginKeys (structsAt s p 0) l ≡ pluginKeys (structsAt (take to s) p 0) l
+    unfolding pluginKeys structsAt structs
+    stored-cut l =
+        made-front s to (before-short s inKeys to h) (λ (ts : List Struct). pluginKeys ts l) (λ (t : Struct). fieldKeys (t .fields)) (λ t ts. refl) anything 8 _ _ (none-stored to (h .none 12 refl) l)
+        (λ at c k e i r x. field-keys-front r x) (h .reached)
+
+    unstored-cut : unstoredAt s p 0 ≡ unstoredAt (take to s) p 0
+    unfolding unstoredAt unstored widthOf widthWith operands widths wide bytes
+    unstored-cut =
+        listed-front s to (before-short s inKeys to h) anything 13 _ _ (h .none 13 refl)
+        (λ at c k e i r. ap (keyOf p) (key-same (drop at s) (drop at (take to s)) (bytes-front s to at c k e r 13 i)))
+        (h .reached)
+
+pub plugin-keys-front : (s p t : Str) (r : Ends) → EndsOf s r → t ≡ take (r .keys) s → pluginKeys (structsAt t p 0) (unstoredAt t p 0) ≡ pluginKeys (structsAt s p 0) (unstoredAt s p 0)
+plugin-keys-front s p t r e h =
+    ap (λ (x : Str). pluginKeys (structsAt x p 0) (unstoredAt x p 0)) h
+    ∙ sym (stored-cut s p (r .keys) (e .keys) (unstoredAt s p 0) ∙ ap (pluginKeys (structsAt (take (r .keys) s) p 0)) (unstored-cut s p (r .keys) (e .keys)))

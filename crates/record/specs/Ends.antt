@@ -28,6 +28,9 @@ inEnums b = eqb b 4 || eqb b 5
 abbrev pub inBitfields : ℕ → Bool
 inBitfields b = eqb b 6 || eqb b 7
 
+abbrev pub inKeys : ℕ → Bool
+inKeys b = eqb b 12 || eqb b 13
+
 -- the commands of some numbers all stand before a place, and no command begins before it and ends after it
 pub record Before (s : Str) (is : ℕ → Bool) (e : ℕ) : Type 0 where
   pub reached : Reached s e 0
@@ -37,6 +40,7 @@ pub record EndsOf (s : Str) (r : Ends) : Type 0 where
   pub constants : Before s inConstants (r .constants)
   pub enums : Before s inEnums (r .enums)
   pub bitfields : Before s inBitfields (r .bitfields)
+  pub keys : Before s inKeys (r .keys)
 
 -- the ends once one more command is seen
 unfoldable pub noted : Ends → ℕ → ℕ → Ends
@@ -44,4 +48,5 @@ noted r b k = record {
   constants = cond (inConstants b) k (r .constants);
   enums = cond (inEnums b) k (r .enums);
   bitfields = cond (inBitfields b) k (r .bitfields);
+  keys = cond (inKeys b) k (r .keys);
 }

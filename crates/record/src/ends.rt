@@ -9,6 +9,7 @@ pub struct Ends {
     pub constants: usize,
     pub enums: usize,
     pub bitfields: usize,
+    pub keys: usize,
 }
 
 // The ends once one more command is seen, by its number and the place after it.
@@ -36,6 +37,14 @@ fn noted(ends: Ends, number: u8, after: usize) -> Ends
         out.bitfields = after;
         return out;
     }
+    if number == 12 {
+        out.keys = after;
+        return out;
+    }
+    if number == 13 {
+        out.keys = after;
+        return out;
+    }
     out
 }
 
@@ -47,6 +56,7 @@ pub fn ends_of(stream: &[u8]) -> Ends
         constants: 0,
         enums: 0,
         bitfields: 0,
+        keys: 0,
     };
     let mut at = 0;
     loop {

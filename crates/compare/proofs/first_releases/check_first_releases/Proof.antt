@@ -1,4 +1,4 @@
-use Rattle.compare.proofs.FirstReleaseLaws.{constant-arrivals-cut, enum-arrivals-cut, first-constants, first-enums, first-keys}
+use Rattle.compare.proofs.FirstReleaseLaws.{constant-arrivals-cut, enum-arrivals-cut, key-arrivals-cut, first-constants, first-enums, first-keys}
 use borrow.Author.Needs.{needs}
 use Rattle.compare.proofs.first_releases.check_first_releases.Statement.{statement}
 use Rattle.compare.proofs.first_releases.check_first_releases.Tie as tie
@@ -38,13 +38,16 @@ enum-told-2 c = search needs
 returns-2 : tie.Need-returns-2
 returns-2 c = search (first-enums, constant-arrivals-cut, enum-arrivals-cut)
 
+upto-requires-3 : tie.Need-upto-requires-3
+upto-requires-3 c κs = search needs
+
 -- src/first_releases.rt:368:5
 check-key-arrivals-requires : tie.Need-check-key-arrivals-requires
 check-key-arrivals-requires c κs = search needs
 
 -- src/first_releases.rt:346:1
 returns-3 : tie.Need-returns-3
-returns-3 c = search (first-keys, constant-arrivals-cut, enum-arrivals-cut)
+returns-3 c = search (first-keys, constant-arrivals-cut, enum-arrivals-cut, key-arrivals-cut)
 
 pub check-first-releases-spec : {M : Type 1} → statement M
 check-first-releases-spec =
@@ -58,5 +61,6 @@ check-first-releases-spec =
     check-enum-arrivals-requires
     enum-told-2
     returns-2
+    upto-requires-3
     check-key-arrivals-requires
     returns-3)
