@@ -15,7 +15,7 @@ use Rattle.record.specs.Scalars.{Scalar}
 use Rattle.record.specs.Reading.{Rec, rec, schemaOf}
 use Rattle.record.specs.declared.text.Text.{Text}
 use Rattle.record.specs.declared.operands.OptText.the-variants.{Absent, Given}
-use Rattle.record.proofs.Basics.{eqs→eq}
+use Rattle.record.proofs.Basics.{find-some, eqs-refl, eqs→eq}
 use Rattle.layout.specs.declared.names.TypeName.{TypeName}
 use Rattle.layout.specs.declared.table.TypeFound.{TypeFound}
 use Rattle.layout.specs.declared.table.TypeFound.the-variants.{NoType, At}
@@ -25,7 +25,7 @@ use Rattle.record.specs.Fill.{fronted}
 use Rattle.layout.specs.Handles.{typeName, handlesOf, layoutOf}
 use Rattle.layout.specs.Names.{joined, frontOf, colonsOf, backOf, nameOf}
 use Rattle.layout.specs.Sort.{arranged, lasts}
-use Rattle.layout.specs.Table.{TypesTable, FoundType}
+use Rattle.layout.specs.Table.{TypesTable, foundIn, FoundType}
 use Rattle.layout.proofs.Origin.{sorted-mem}
 use Rattle.layout.proofs.Order.{before-trans, before-total, not-self, Sorted, sorted-sorted}
 use Rattle.layout.proofs.Runs.{lasts-are, map-sorted}
@@ -195,6 +195,22 @@ module _ (s p : Str) (t : List ℕ) (n : Str) (lo hi : ℕ) (k : Seeking s p t n
       }
 
 pub ruleset seek-laws = (seek-past, seek-other, seek-found)
+
+-- the table and the types of its record ---------------------------------------------------------------------------------------
+
+module _ (s p : Str) (t : List ℕ) (y : TypesTable s p t) where
+  -- the type of a name that the table has is the one that has it there
+  pub own-type : (w : List Scalar) (i : ℕ) → i < length t → typeIn (typeName s p (getD t i 0)) (types (schemaOf (rec s p w))) ≡ some (layoutOf (rec s p w) (getD t i 0))
+  own-type w i h =
+      ap (typeIn (typeName s p (getD t i 0))) (sym (y .layouts w))
+      ∙ one-found s p w _ t i h (λ j k. apart-before _ _ (y .upward j i k h)) (eqs-refl (typeName s p (getD t i 0)))
+
+  -- what is found has the name that was sought
+  pub found-name : (n : Str) (r : TypeFound) (i : ℕ) → FoundType s p t n r → r ≡ At i → typeName s p (getD t i 0) ≡ n
+  unfolding typeIn layoutOf
+  found-name n r i f m =
+      eqs→eq (typeName s p (getD t i 0)) n
+      (find-some (λ (x : TypeLayout). eqs (x .name) n) (types (schemaOf (rec s p []))) (f .layout y [] ∙ ap (foundIn (rec s p []) t) m) .1)
 
 -- names in parts ----------------------------------------------------------------------------------------------------------
 
