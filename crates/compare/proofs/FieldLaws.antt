@@ -156,9 +156,6 @@ marked-then i l m n P j k = record { entries = λ a z. ⊎-elim (λ y. j .entrie
 
 -- types whose fields are all passed over
 
-pub bare-told : (b : Str) (c : SpotCursor) (t : Bool) → (t ≡ true → (p : Str) (w : List Scalar) → placesFrom (rec b p w) c ≡ []) → t ≡ true → (p : Str) (w : List Scalar) → placesFrom (rec b p w) c ≡ []
-bare-told b c t f e = f e
-
 pub bare-marked : (s b : Str) (c c₀ : SpotCursor) (t u : Bool) (i : ℕ) (m : List ℕ) → (t ≡ true → (p : Str) (w : List Scalar) → placesFrom (rec s p w) c ≡ []) → t ≡ true
     → (u ≡ true → (p : Str) (w : List Scalar) → placesFrom (rec b p w) c₀ ≡ []) → u ≡ true
     → Marked i m (set m i 1) ((p q : Str) (w : List Scalar) → eqPlaces (placesFrom (rec s p w) c) (placesFrom (rec b q w) c₀) ≡ true)

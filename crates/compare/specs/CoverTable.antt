@@ -90,7 +90,7 @@ pub record Unchanged (r r₀ : Rec) (t m : List ℕ) : Type 0 where
 pub record Blank (n : ℕ) (m : List ℕ) : Type 0 where
   pub none : (i : ℕ) → i < n → getD m i 0 ≡ 0
 
--- a number that is not 0 was not before, or it is the one at an index, and this holds
+-- each number that is not 0 after a call was not 0 before it, or it is the one at an index, and then this holds
 pub record Marked (i : ℕ) (m n : List ℕ) (holds : Type 0) : Type 0 where
   pub entries : (j : ℕ) → (getD n j 0 ≡ 0 → ⊥) → (getD m j 0 ≡ 0 → ⊥) ⊎ ((j ≡ i) × holds)
 

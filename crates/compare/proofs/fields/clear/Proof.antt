@@ -1,6 +1,6 @@
 use Prim.Native.Nat.{_-_, _≤_}
 use mathlib.Core.Path.{_≡_}
-use lib.ListN.{length, length-set}
+use lib.ListN.{length}
 use Rattle.compare.specs.CoverTable.{Blank}
 use Rattle.compare.proofs.FieldLaws.{blank-start, blank-on, blank-end}
 use borrow.Author.Needs.{needs}

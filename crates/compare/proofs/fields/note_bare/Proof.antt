@@ -1,5 +1,5 @@
 use mathlib.Core.Bool.{false≢true}
-use Rattle.compare.proofs.FieldLaws.{bare-told, marked-not, bare-marked}
+use Rattle.compare.proofs.FieldLaws.{marked-not, bare-marked}
 use borrow.Author.Needs.{needs}
 use Rattle.compare.proofs.fields.note_bare.Statement.{statement}
 use Rattle.compare.proofs.fields.note_bare.Tie as tie
@@ -20,10 +20,10 @@ same-length : tie.Need-same-length
 same-length c = search needs
 
 returns : tie.Need-returns
-returns c = (λ t q w. search bare-told, bare-marked _ _ _ _ _ _ _ _ (c .before .is-bare2 .ensures) (c .if2 .taken) (c .before .before .before .is-bare .ensures) (c .before .before .if1 .taken))
+returns c = (λ t. c .before .before .before .is-bare .ensures (c .before .before .if1 .taken), bare-marked _ _ _ _ _ _ _ _ (c .before .is-bare2 .ensures) (c .if2 .taken) (c .before .before .before .is-bare .ensures) (c .before .before .if1 .taken))
 
 returns-2 : tie.Need-returns-2
-returns-2 c = (λ t q w. search bare-told, search marked-not)
+returns-2 c = (λ t. c .before .before .before .is-bare .ensures (c .before .before .if1 .taken), search marked-not)
 
 returns-3 : tie.Need-returns-3
 returns-3 c = (λ t. absurd (false≢true t), search marked-not)
