@@ -118,6 +118,27 @@ fn check_place(
     check_kept(pool, old, owner, was, x)
 }
 
+// Whether it is seen that no released field is ahead; where no current one is either, the type's entry becomes 1.
+fn note_bare(
+    stream: &[u8],
+    is: SpotCursor,
+    past: &[u8],
+    was: SpotCursor,
+    kept: &mut [u32],
+    i: usize,
+) -> bool
+    requires { ⌜ i < length (now kept) ⌝ }
+    ensures { λ r. ⌜ (r ≡ true → (q : Str) (w : List Scalar) → placesFrom (rec (now (past .entry)) q w) was ≡ []) × Marked i (now (kept .entry)) (now (kept .exit)) ((p q : Str) (w : List Scalar) → eqPlaces (placesFrom (rec (now (stream .entry)) p w) is) (placesFrom (rec (now (past .entry)) q w) was) ≡ true) ⌝ }
+{
+    if is_bare(past, was) {
+        if is_bare(stream, is) {
+            kept[i] = 1;
+        }
+        return true;
+    }
+    false
+}
+
 // The released fields of a type from a cursor on against those that are now, from another on.
 fn check_places(
     rows: &[u8],
@@ -246,27 +267,6 @@ fn check_any(
         owner,
         was,
     )
-}
-
-// Whether it is seen that no released field is ahead; where no current one is either, the type's entry becomes 1.
-fn note_bare(
-    stream: &[u8],
-    is: SpotCursor,
-    past: &[u8],
-    was: SpotCursor,
-    kept: &mut [u32],
-    i: usize,
-) -> bool
-    requires { ⌜ i < length (now kept) ⌝ }
-    ensures { λ r. ⌜ (r ≡ true → (q : Str) (w : List Scalar) → placesFrom (rec (now (past .entry)) q w) was ≡ []) × Marked i (now (kept .entry)) (now (kept .exit)) ((p q : Str) (w : List Scalar) → eqPlaces (placesFrom (rec (now (stream .entry)) p w) is) (placesFrom (rec (now (past .entry)) q w) was) ≡ true) ⌝ }
-{
-    if is_bare(past, was) {
-        if is_bare(stream, is) {
-            kept[i] = 1;
-        }
-        return true;
-    }
-    false
 }
 
 // The same without the released fields that are seen to be kept; where all fields are alike to the end, the type's entry becomes 1.
