@@ -37,7 +37,7 @@ use Rattle.definition.specs.Pass.{_then_, ensure, each, onFound}
 use Rattle.definition.specs.Fields.{eqPlaces, sameAs, changed}
 use Rattle.definition.specs.Coverage.{owning, standsAlone, checkCovered, checkAllCovered, under, firstUnder}
 use Rattle.compare.proofs.FieldLaws.{found-typed}
-use Rattle.compare.specs.CoverTable.{coverIn, coverFor, stretchIn, coverMeant, Owners, Knows, changedTypes, Changes, Entered, CoverTable, firstUncovered, isUnder, firstTouched, touchedName, touchedBy}
+use Rattle.compare.specs.CoverTable.{coverIn, coverFor, stretchIn, coverMeant, Owners, Knows, changedTypes, Unchanged, Changes, Entered, CoverTable, firstUncovered, isUnder, firstTouched, touchedName, touchedBy}
 use Rattle.verdicts.specs.Meaning.{meaning}
 use Rattle.verdicts.specs.declared.verdict.Verdict.{Verdict}
 use Rattle.verdicts.specs.declared.verdict.Verdict.the-variants.{Passed, Uncovered}
@@ -239,11 +239,12 @@ handle-typed s p w t z i h o l e = subst (λ (x : ℕ). Typed s x) (sym e) (o .t
 -- below an index 0 stands for each type that is as it was
 pub record Changing (r r₀ : Rec) (t m₀ m : List ℕ) (i : ℕ) : Type 0 where
   pub below : (j : ℕ) → j < i → eqb (getD m j 0) 0 ≡ sameAs (typeIn (typeName (r .stream) (r .pool) (getD t j 0)) (types (schemaOf r₀))) (layoutOf r (getD t j 0))
+  pub above : (j : ℕ) → i ≤ j → getD m j 0 ≡ getD m₀ j 0
   pub room : length t ≤ length m
   pub long : length m ≡ length m₀
 
 pub changing-start : (r r₀ : Rec) (t m : List ℕ) → length t ≤ length m → Changing r r₀ t m m 0
-changing-start r r₀ t m l = record { below = λ j h. absurd (omega arith); room = l; long = refl }
+changing-start r r₀ t m l = record { below = λ j h. absurd (omega arith); above = λ j h. refl; room = l; long = refl }
 
 module _ (r r₀ : Rec) (t m₀ m : List ℕ) (i : ℕ) (c : Changing r r₀ t m₀ m i) where
   pub changing-end : length t ≤ i → Changes r r₀ t m
@@ -251,7 +252,12 @@ module _ (r r₀ : Rec) (t m₀ m : List ℕ) (i : ℕ) (c : Changing r r₀ t m
 
   module _ (l : i < length t) (h : ℕ) (e : h ≡ getD t i 0) (y : Bool) (f : y ≡ sameAs (typeIn (typeName (r .stream) (r .pool) h) (types (schemaOf r₀))) (layoutOf r h)) where
     changing-next : (n : ℕ) → eqb n 0 ≡ y → Changing r r₀ t m₀ (set m i n) (i + 1)
-    changing-next n g = record { below = λ j k. go j k (eqb j i) refl; room = let o = c .room in rw length-set (omega arith); long = rw length-set (c .long) }
+    changing-next n g = record {
+      below = λ j k. go j k (eqb j i) refl;
+      above = λ j k. getD-set-other m i j n 0 (λ d. omega arith) ∙ c .above j (omega arith);
+      room = let o = c .room in rw length-set (omega arith);
+      long = rw length-set (c .long);
+    }
       where
         go : (j : ℕ) → j < i + 1 → (v : Bool) → eqb j i ≡ v → eqb (getD (set m i n) j 0) 0 ≡ sameAs (typeIn (typeName (r .stream) (r .pool) (getD t j 0)) (types (schemaOf r₀))) (layoutOf r (getD t j 0))
         go j k true d =
@@ -261,11 +267,20 @@ module _ (r r₀ : Rec) (t m₀ m : List ℕ) (i : ℕ) (c : Changing r r₀ t m
             let a : j ≡ i → ⊥ = eqb-false j i d in
             rw (getD-set-other m i j n 0 a) (c .below j (omega arith))
 
-    pub changing-same : y ≡ true → Changing r r₀ t m₀ (set m i 0) (i + 1)
-    changing-same g = changing-next 0 (sym g)
+    -- an entry that stays
+    pub changing-same : getD m i 0 ≡ 0 → y ≡ true → Changing r r₀ t m₀ m (i + 1)
+    changing-same z g = record { below = λ j k. go j k (eqb j i) refl; above = λ j k. c .above j (omega arith); room = c .room; long = c .long }
+      where
+        go : (j : ℕ) → j < i + 1 → (v : Bool) → eqb j i ≡ v → eqb (getD m j 0) 0 ≡ sameAs (typeIn (typeName (r .stream) (r .pool) (getD t j 0)) (types (schemaOf r₀))) (layoutOf r (getD t j 0))
+        go j k true d = rw (eqb-true j i d, z, ← e) (sym g ∙ f)
+        go j k false d = let a : j ≡ i → ⊥ = eqb-false j i d in c .below j (omega arith)
 
     pub changing-other : y ≡ false → Changing r r₀ t m₀ (set m i 1) (i + 1)
     changing-other g = changing-next 1 (sym g)
+
+  -- an entry that is not reached yet says what it said
+  pub changing-known : i < length t → Unchanged r r₀ t m₀ → (getD m i 0 ≡ 0 → ⊥) → Changing r r₀ t m₀ (set m i 0) (i + 1)
+  changing-known l u z = changing-next l (getD t i 0) refl true (u .same i l (λ k. z (c .above i (omega arith) ∙ k))) 0 refl
 
 -- below an index the entries are filled, and the last that was found is known
 pub record Entering (s p : Str) (t m₀ m : List ℕ) (i : ℕ) (last : Last) : Type 0 where

@@ -15,11 +15,9 @@ use Rattle.record.specs.Commands.{place}
 use Rattle.record.specs.Shapes.{Place, capped}
 use Rattle.record.specs.Reading.{rec}
 use Rattle.record.specs.declared.command.Cursor.{Cursor}
-use Rattle.record.specs.declared.seek.Between.the-variants.{Keys}
 use Rattle.record.specs.declared.seek.Sought.the-variants.{At}
 use Rattle.record.proofs.Basics.{eqs-refl, eqs→eq}
 use Rattle.record.proofs.ListLaws.{find-hit}
-use Rattle.record.proofs.SeekLaws.{sought-nearer}
 use Rattle.layout.specs.Handles.{nameAt}
 use Rattle.layout.specs.Spots.{cursorAt, placesFrom, Sound, OthersPassed}
 use Rattle.layout.specs.declared.spots.Ahead.{Ahead}
@@ -29,8 +27,9 @@ use Rattle.layout.proofs.SpotLaws.{others-here, others-body, others-on}
 use Rattle.definition.specs.Verdicts.{Verdict, pass}
 use Rattle.definition.specs.Pass.{_then_, ensure, each, onFound}
 use Rattle.definition.specs.Fields.{placeIn, checkKept, checkPlace, checkPlaces}
+use Rattle.compare.proofs.AlikeLaws.{alike-here, alike-so-far, alike-on, alike-nearer}
 use Rattle.compare.specs.Near.{keyOf}
-use Rattle.compare.specs.Alike.{AlikeNext, alikeFrom}
+use Rattle.compare.specs.Alike.{AlikePassed, AlikeNext, alikeFrom}
 use Rattle.compare.specs.Kept.{Kept, Noted, Noting, KeptNext, keptFrom}
 use Rattle.compare.specs.declared.alike.AlikeStep.{AlikeStep}
 use Rattle.compare.specs.declared.alike.AlikeStep.the-variants.{Alike}
@@ -121,30 +120,31 @@ module _ (s p : Str) (z : List ℕ) (c : SpotCursor) (t : List ℕ) (at : ℕ) (
 
 pub kept-next : (s p : Str) (z : List ℕ) (c : SpotCursor) (t : List ℕ) (at : ℕ) (b q : Str) (y : List ℕ) (to offset a k l size : ℕ) (r : AlikeStep) (n : Str) (u : List ℕ) (v : Bool)
     → Noted s p z c t at offset → alikeFrom s p z at b q y to r → r ≡ Alike a k l size → n ≡ nameAt s p a → Noting t n u → (v ≡ true → OthersPassed s p z n c (cursorAt (Body (place at)) offset)) → v ≡ true
-    → KeptNext s p z c u at b q y to offset k l size
+    → KeptNext s p z c u at b q y to offset a k l size
 kept-next s p z c t at b q y to offset a k l size r n u v i f m g j o e =
     let h = subst (λ (x : AlikeStep). alikeFrom s p z at b q y to x) m f in
     record {
       kept = kept-on s p z c t at b q y to offset a k l size i h n g u j (o e);
       noted = noted-on s p z c t at b q y to offset a k l size i h n g u j;
-      nearer = sought-nearer s Keys 11 at (At a k) (h .sought) a k refl;
+      alike = h;
     }
 
--- the fields so far stand as they were
-pub record Keeping (s p : Str) (z : List ℕ) (c : SpotCursor) (o t : List ℕ) (at : ℕ) (b q : Str) (y : List ℕ) (d : SpotCursor) (to offset : ℕ) : Type 0 where
+-- the fields so far are alike and stand as they were
+pub record Keeping (s p : Str) (z : List ℕ) (c : SpotCursor) (o t : List ℕ) (f : SpotCursor) (at : ℕ) (b q : Str) (y : List ℕ) (d : SpotCursor) (to offset : ℕ) : Type 0 where
   pub noted : Noted s p z c t at offset
   pub room : 1024 ≤ length t
   pub long : length t ≡ length o
   pub kept : Kept s p z c b q y d (cursorAt (Body (place to)) offset)
+  pub alike : AlikePassed s p z b q y f d (cursorAt (Body (place at)) offset) (cursorAt (Body (place to)) offset)
 
 pub kept-here : (s p : Str) (z : List ℕ) (c : SpotCursor) (b q : Str) (y : List ℕ) (d : SpotCursor) → Kept s p z c b q y d d
 kept-here s p z c b q y d = record { same = λ w f g n. refl; sound = λ w f g. g }
 
 pub keeping-start : (s p : Str) (z : List ℕ) (c : SpotCursor) (t : List ℕ) (at : ℕ) (b q : Str) (y : List ℕ) (to offset : ℕ) → Noted s p z c t at offset → 1024 ≤ length t
-    → Keeping s p z c t t at b q y (cursorAt (Body (place to)) offset) to offset
-keeping-start s p z c t at b q y to offset i l = record { noted = i; room = l; long = refl; kept = kept-here s p z c b q y _ }
+    → Keeping s p z c t t (cursorAt (Body (place at)) offset) at b q y (cursorAt (Body (place to)) offset) to offset
+keeping-start s p z c t at b q y to offset i l = record { noted = i; room = l; long = refl; kept = kept-here s p z c b q y _; alike = alike-here s p z b q y _ _ }
 
-module _ (s p : Str) (z : List ℕ) (c : SpotCursor) (o t : List ℕ) (at : ℕ) (b q : Str) (y : List ℕ) (d : SpotCursor) (to offset : ℕ) (i : Keeping s p z c o t at b q y d to offset) where
+module _ (s p : Str) (z : List ℕ) (c : SpotCursor) (o t : List ℕ) (v : SpotCursor) (at : ℕ) (b q : Str) (y : List ℕ) (d : SpotCursor) (to offset : ℕ) (i : Keeping s p z c o t v at b q y d to offset) where
   pub keeping-noted : Noted s p z c t at offset
   keeping-noted = i .noted
 
@@ -154,25 +154,29 @@ module _ (s p : Str) (z : List ℕ) (c : SpotCursor) (o t : List ℕ) (at : ℕ)
   pub keeping-end : (e : SpotCursor) → e ≡ cursorAt (Body (place to)) offset → Kept s p z c b q y d e
   keeping-end e m = rw m (i .kept)
 
+  pub keeping-alike : (g e : SpotCursor) → g ≡ cursorAt (Body (place at)) offset → e ≡ cursorAt (Body (place to)) offset → AlikePassed s p z b q y v d g e
+  keeping-alike g e h m = alike-so-far s p z b q y v d at to offset (i .alike) g e h m
+
   module _ (u : List ℕ) (r : AlikeStep) (a k l size : ℕ) (f : keptFrom s p z c u at b q y to offset r) (m : r ≡ Alike a k l size) where
-    here : KeptNext s p z c u at b q y to offset k l size
+    here : KeptNext s p z c u at b q y to offset a k l size
     here = subst (λ (x : AlikeStep). keptFrom s p z c u at b q y to offset x) m f
 
-    pub keeping-on : (e : ℕ) → e ≡ capped (offset + size) → length u ≡ length t → Keeping s p z c o u k b q y d l e
-    keeping-on e v j =
-        let x = here .kept e v in
+    pub keeping-on : (e : ℕ) → e ≡ capped (offset + size) → length u ≡ length t → Keeping s p z c o u v k b q y d l e
+    keeping-on e x0 j =
+        let x = here .kept e x0 in
         record {
-          noted = here .noted e v;
+          noted = here .noted e x0;
           room = let m0 = i .room in omega arith;
           long = j ∙ i .long;
           kept = record {
             same = λ w g h n. i .kept .same w g h n ∙ x .same w g (i .kept .sound w g h) n;
             sound = λ w g h. x .sound w g (i .kept .sound w g h);
           };
+          alike = alike-on s p z b q y v d at to offset (i .alike) (Alike a k l size) a k l size e (here .alike) refl x0;
         }
 
     pub keeping-nearer : length s - k < length s - at
-    keeping-nearer = here .nearer
+    keeping-nearer = alike-nearer s p z at b q y to (Alike a k l size) a k l size (here .alike) refl
 
 -- of a cursor at the record's fields only the place counts
 pub kept-body : (s p : Str) (z : List ℕ) (c : SpotCursor) (b q : Str) (y : List ℕ) (d e : SpotCursor) (l : Cursor) → d .ahead ≡ Body l → c .offset ≡ d .offset

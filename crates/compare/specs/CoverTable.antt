@@ -2,7 +2,8 @@
 use mathlib.Core.Path.{_≡_}
 use mathlib.Core.List.{List, [], _∷_}
 use mathlib.Core.Option.{Option, none, some}
-use mathlib.Core.Bool.{Bool, false, _&&_, not, cond}
+use mathlib.Core.Bool.{Bool, true, false, _&&_, not, cond}
+use mathlib.Core.Logic.{_⊎_}
 use Prim.Native.Nat.{ℕ, _-_, _≤_, _<_, _/_, _%_}
 use lib.Dec.{eqb, ltb}
 use lib.ListN.{length, getD, drop}
@@ -79,6 +80,19 @@ Knows s p (Entry h n) = coverMeant p n ≡ coverIn (typesAt s p) (owning (typeNa
 -- the types of a record whose layout is not the released one
 abbrev pub changedTypes : Rec → Rec → List TypeLayout
 changedTypes r r₀ = changed (types (schemaOf r)) (types (schemaOf r₀))
+
+-- a number for each type of a record, against a released one: where it is not 0 the type is as it was
+pub record Unchanged (r r₀ : Rec) (t m : List ℕ) : Type 0 where
+  pub same : (i : ℕ) → i < length t → (getD m i 0 ≡ 0 → ⊥)
+      → true ≡ sameAs (typeIn (typeName (r .stream) (r .pool) (getD t i 0)) (types (schemaOf r₀))) (layoutOf r (getD t i 0))
+
+-- the numbers are 0 below an index
+pub record Blank (n : ℕ) (m : List ℕ) : Type 0 where
+  pub none : (i : ℕ) → i < n → getD m i 0 ≡ 0
+
+-- each number that is not 0 after a call was not 0 before it, or it is the one at an index, and then this holds
+pub record Marked (i : ℕ) (m n : List ℕ) (holds : Type 0) : Type 0 where
+  pub entries : (j : ℕ) → (getD n j 0 ≡ 0 → ⊥) → (getD m j 0 ≡ 0 → ⊥) ⊎ ((j ≡ i) × holds)
 
 -- a number for each type of a record, against a released one: 0 just where the type is as it was
 pub record Changes (r r₀ : Rec) (t m : List ℕ) : Type 0 where

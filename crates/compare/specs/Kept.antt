@@ -1,8 +1,8 @@
 -- Released fields that stand as they were: what the code passes over where it holds the fields of a type to those that were. Assumes nothing.
 use mathlib.Core.Path.{_≡_}
 use mathlib.Core.List.{List}
-use Prim.Native.Nat.{ℕ, _+_, _-_, _<_}
-use lib.ListN.{length, getD}
+use Prim.Native.Nat.{ℕ, _+_}
+use lib.ListN.{getD}
 use Rattle.record.specs.Base.{Str}
 use Rattle.record.specs.Scalars.{Scalar}
 use Rattle.record.specs.Commands.{place}
@@ -13,6 +13,7 @@ use Rattle.layout.specs.declared.spots.Ahead.the-variants.{Body}
 use Rattle.layout.specs.declared.spots.SpotCursor.{SpotCursor}
 use Rattle.definition.specs.Fields.{checkPlaces}
 use Rattle.compare.specs.Near.{keyOf}
+use Rattle.compare.specs.Alike.{AlikeNext}
 use Rattle.compare.specs.declared.alike.AlikeStep.{AlikeStep}
 use Rattle.compare.specs.declared.alike.AlikeStep.the-variants.{Differ, Alike}
 
@@ -31,12 +32,12 @@ pub record Noting (t : List ℕ) (n : Str) (u : List ℕ) : Type 0 where
   pub noted : getD u (keyOf n) 0 ≡ 0 → ⊥
   pub others : (i : ℕ) → (i ≡ keyOf n → ⊥) → getD u i 0 ≡ getD t i 0
 
--- the next fields, the current one the first of its name
-pub record KeptNext (s p : Str) (z : List ℕ) (c : SpotCursor) (u : List ℕ) (at : ℕ) (b q : Str) (y : List ℕ) (to offset k l size : ℕ) : Type 0 where
+-- the next fields, which are alike, the current one the first of its name
+pub record KeptNext (s p : Str) (z : List ℕ) (c : SpotCursor) (u : List ℕ) (at : ℕ) (b q : Str) (y : List ℕ) (to offset a k l size : ℕ) : Type 0 where
   pub kept : (e : ℕ) → e ≡ capped (offset + size) → Kept s p z c b q y (cursorAt (Body (place to)) offset) (cursorAt (Body (place l)) e)
   pub noted : (e : ℕ) → e ≡ capped (offset + size) → Noted s p z c u k e
-  pub nearer : length s - k < length s - at
+  pub alike : AlikeNext s p z at b q y to a k l size
 
 abbrev pub keptFrom : Str → Str → List ℕ → SpotCursor → List ℕ → ℕ → Str → Str → List ℕ → ℕ → ℕ → AlikeStep → Type 0
 keptFrom s p z c u at b q y to offset Differ = Unit
-keptFrom s p z c u at b q y to offset (Alike a k l size) = KeptNext s p z c u at b q y to offset k l size
+keptFrom s p z c u at b q y to offset (Alike a k l size) = KeptNext s p z c u at b q y to offset a k l size

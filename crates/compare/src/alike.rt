@@ -110,6 +110,16 @@ pub struct Both {
     pub was: SpotCursor,
 }
 
+// The fields of two records from two places on, at one offset.
+pub(crate) fn bodies_at(at: usize, to: usize, offset: u64) -> Both
+    ensures { λ r. ⌜ (r .is ≡ cursorAt (Ahead.Body (place at)) offset) × (r .was ≡ cursorAt (Ahead.Body (place to)) offset) ⌝ }
+{
+    Both {
+        is: body_at(at, offset),
+        was: body_at(to, offset),
+    }
+}
+
 // The fields from two places on without those at their fronts that are alike.
 fn pass_places(
     stream: &[u8],
@@ -138,10 +148,7 @@ fn pass_places(
             widths,
             to,
         ) else {
-            return Both {
-                is: body_at(at, offset),
-                was: body_at(to, offset),
-            };
+            return bodies_at(at, to, offset);
         };
         offset = sum(offset, size);
         at = after;

@@ -46,7 +46,7 @@ ghost use Rattle.compare.specs.Layouts.{typesOf};
 ghost use Rattle.definition.specs.Fields.{checkFields};
 ghost use Rattle.definition.specs.Standalone.{checkStandalone};
 ghost use Rattle.definition.specs.Generations.{checkGenerations};
-ghost use Rattle.compare.specs.CoverTable.{changedTypes};
+ghost use Rattle.compare.specs.CoverTable.{changedTypes, Unchanged};
 ghost use Rattle.definition.specs.Compare.{compare};
 ghost use Rattle.verdicts.specs.Meaning.{meaning};
 
@@ -123,7 +123,7 @@ fn check_declared(
     check_bits(stream, pool, ends, past, old, old_ends, current)
 }
 
-// Fields, then standalone families.
+// Fields, then standalone families; kept is the table that the pass over the fields fills.
 fn check_types(
     rows: &[u8],
     stream: &[u8],
@@ -134,11 +134,23 @@ fn check_types(
     old: &[u8],
     shipped: &[u32],
     widths: &[u64],
+    kept: &mut [u32],
 ) -> Verdict
-    requires { ⌜ Tables (rec (now stream) (now pool) (scalarsOf (now rows))) (now types) (now sizes) × Tables (rec (now past) (now old) (scalarsOf (now rows))) (now shipped) (now widths) ⌝ }
-    ensures { λ r. ⌜ meaning (now (pool .entry)) (now (old .entry)) r ≡ (checkFields (typesOf (rec (now (stream .entry)) (now (pool .entry)) (scalarsOf (now (rows .entry))))) (typesOf (rec (now (past .entry)) (now (old .entry)) (scalarsOf (now (rows .entry))))) then checkStandalone (familiesAt (now (stream .entry)) (now (pool .entry)) 0) (familiesAt (now (past .entry)) (now (old .entry)) 0) (typesOf (rec (now (stream .entry)) (now (pool .entry)) (scalarsOf (now (rows .entry))))) (typesOf (rec (now (past .entry)) (now (old .entry)) (scalarsOf (now (rows .entry)))))) ⌝ }
+    requires { ⌜ Tables (rec (now stream) (now pool) (scalarsOf (now rows))) (now types) (now sizes) × Tables (rec (now past) (now old) (scalarsOf (now rows))) (now shipped) (now widths) × (length (now types) ≤ length (now kept)) ⌝ }
+    ensures { λ r. ⌜ (meaning (now (pool .entry)) (now (old .entry)) r ≡ (checkFields (typesOf (rec (now (stream .entry)) (now (pool .entry)) (scalarsOf (now (rows .entry))))) (typesOf (rec (now (past .entry)) (now (old .entry)) (scalarsOf (now (rows .entry))))) then checkStandalone (familiesAt (now (stream .entry)) (now (pool .entry)) 0) (familiesAt (now (past .entry)) (now (old .entry)) 0) (typesOf (rec (now (stream .entry)) (now (pool .entry)) (scalarsOf (now (rows .entry))))) (typesOf (rec (now (past .entry)) (now (old .entry)) (scalarsOf (now (rows .entry))))))) × Unchanged (rec (now (stream .entry)) (now (pool .entry)) (scalarsOf (now (rows .entry)))) (rec (now (past .entry)) (now (old .entry)) (scalarsOf (now (rows .entry)))) (now (types .entry)) (now (kept .exit)) ⌝ }
 {
-    let verdict = check_fields(rows, stream, pool, types, sizes, past, old, shipped, widths);
+    let verdict = check_fields(
+        rows,
+        stream,
+        pool,
+        types,
+        sizes,
+        past,
+        old,
+        shipped,
+        widths,
+        kept,
+    );
     if let Verdict::Passed = verdict {
         return check_standalone(rows, stream, pool, types, sizes, past, old, shipped, widths);
     }
@@ -166,7 +178,18 @@ fn check_layouts(
     requires { ⌜ Tables (rec (now stream) (now pool) (scalarsOf (now rows))) (now types) (now sizes) × Tables (rec (now past) (now old) (scalarsOf (now rows))) (now shipped) (now widths) × (length (now stream) ≤ length (now marks)) × (length (now types) ≤ length (now cover)) × Indexed (now stream) (now pool) (now index) × Indexed (now past) (now old) (now «old_index») ⌝ }
     ensures { λ r. ⌜ meaning (now (pool .entry)) (now (old .entry)) r ≡ ((checkFields (typesOf (rec (now (stream .entry)) (now (pool .entry)) (scalarsOf (now (rows .entry))))) (typesOf (rec (now (past .entry)) (now (old .entry)) (scalarsOf (now (rows .entry))))) then checkStandalone (familiesAt (now (stream .entry)) (now (pool .entry)) 0) (familiesAt (now (past .entry)) (now (old .entry)) 0) (typesOf (rec (now (stream .entry)) (now (pool .entry)) (scalarsOf (now (rows .entry))))) (typesOf (rec (now (past .entry)) (now (old .entry)) (scalarsOf (now (rows .entry)))))) then checkGenerations (textOf (now (pool .entry)) current) (optOf (now (old .entry)) copy) (versionsAt (now (stream .entry)) (now (pool .entry)) 0) (typesAt (now (stream .entry)) (now (pool .entry))) (constantsAt (now (stream .entry)) (now (pool .entry)) 0) (constantsAt (now (past .entry)) (now (old .entry)) 0) (changedTypes (rec (now (stream .entry)) (now (pool .entry)) (scalarsOf (now (rows .entry)))) (rec (now (past .entry)) (now (old .entry)) (scalarsOf (now (rows .entry)))))) ⌝ }
 {
-    let verdict = check_types(rows, stream, pool, types, sizes, past, old, shipped, widths);
+    let verdict = check_types(
+        rows,
+        stream,
+        pool,
+        types,
+        sizes,
+        past,
+        old,
+        shipped,
+        widths,
+        cover,
+    );
     if let Verdict::Passed = verdict {
         return check_generations(
             rows,

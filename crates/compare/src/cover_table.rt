@@ -25,7 +25,7 @@ ghost use Rattle.layout.specs.Table.{Typed};
 ghost use Rattle.layout.specs.FieldSizes.{SizesTable};
 ghost use Rattle.layout.specs.Tables.{Tables};
 ghost use Rattle.definition.specs.Fields.{sameAs};
-ghost use Rattle.compare.specs.CoverTable.{Owners, Changes, Entered, CoverTable, firstUncovered, isUnder, firstTouched};
+ghost use Rattle.compare.specs.CoverTable.{Owners, Unchanged, Changes, Entered, CoverTable, firstUncovered, isUnder, firstTouched};
 
 // A number of a table; past its end 0.
 fn entry_at(table: &[u32], i: usize) -> u32
@@ -66,7 +66,8 @@ fn unchanged(
     )
 }
 
-// Puts 0 for each type that is as it was and 1 for each other, and counts the latter.
+// Puts 0 for each type that is as it was and 1 for each other, and counts the latter; what is not 0 before is of a type that is known
+// to be as it was, so its fields are not looked at again.
 fn fill_changed(
     rows: &[u8],
     stream: &[u8],
@@ -79,15 +80,17 @@ fn fill_changed(
     widths: &[u64],
     cover: &mut [u32],
 ) -> usize
-    requires { ⌜ Tables (rec (now stream) (now pool) (scalarsOf (now rows))) (now types) (now sizes) × Tables (rec (now past) (now old) (scalarsOf (now rows))) (now shipped) (now widths) × (length (now types) ≤ length (now cover)) ⌝ }
+    requires { ⌜ Tables (rec (now stream) (now pool) (scalarsOf (now rows))) (now types) (now sizes) × Tables (rec (now past) (now old) (scalarsOf (now rows))) (now shipped) (now widths) × (length (now types) ≤ length (now cover)) × Unchanged (rec (now stream) (now pool) (scalarsOf (now rows))) (rec (now past) (now old) (scalarsOf (now rows))) (now types) (now cover) ⌝ }
     ensures { λ _. ⌜ Changes (rec (now (stream .entry)) (now (pool .entry)) (scalarsOf (now (rows .entry)))) (rec (now (past .entry)) (now (old .entry)) (scalarsOf (now (rows .entry)))) (now (types .entry)) (now (cover .exit)) ⌝ }
 {
     let mut changed = 0;
     let mut i = 0;
     while i < types.len() {
         let h = types[i];
-        if unchanged(rows, stream, pool, sizes, h, past, old, shipped, widths, i) {
+        if cover[i] != 0 {
             cover[i] = 0;
+            i += 1;
+        } else if unchanged(rows, stream, pool, sizes, h, past, old, shipped, widths, i) {
             i += 1;
         } else {
             cover[i] = 1;
@@ -170,7 +173,8 @@ fn fill_many(
     fill_entries(stream, pool, types, roots, marks, index, &leads, cover);
 }
 
-// Fills the table, where the marks are those of the owners and the index is the record's.
+// Fills the table, where the marks are those of the owners and the index is the record's; what is not 0 in it before is of a
+// type that is known to be as it was.
 pub(crate) fn fill_cover(
     rows: &[u8],
     stream: &[u8],
@@ -186,7 +190,7 @@ pub(crate) fn fill_cover(
     index: &[u16],
     cover: &mut [u32],
 )
-    requires { ⌜ Tables (rec (now stream) (now pool) (scalarsOf (now rows))) (now types) (now sizes) × Tables (rec (now past) (now old) (scalarsOf (now rows))) (now shipped) (now widths) × Known (now stream) (now pool) (now marks) (now index) × InSlots (now stream) (now pool) roots × (length (now types) ≤ length (now cover)) ⌝ }
+    requires { ⌜ Tables (rec (now stream) (now pool) (scalarsOf (now rows))) (now types) (now sizes) × Tables (rec (now past) (now old) (scalarsOf (now rows))) (now shipped) (now widths) × Known (now stream) (now pool) (now marks) (now index) × InSlots (now stream) (now pool) roots × (length (now types) ≤ length (now cover)) × Unchanged (rec (now stream) (now pool) (scalarsOf (now rows))) (rec (now past) (now old) (scalarsOf (now rows))) (now types) (now cover) ⌝ }
     ensures { λ _. ⌜ CoverTable (rec (now (stream .entry)) (now (pool .entry)) (scalarsOf (now (rows .entry)))) (rec (now (past .entry)) (now (old .entry)) (scalarsOf (now (rows .entry)))) (now (types .entry)) (now (cover .exit)) ⌝ }
 {
     let n = fill_changed(

@@ -17,22 +17,28 @@ use layout::table::TypeFound;
 use layout::table::find_same;
 use record::text::bytes_of;
 use verdicts::verdict::Verdict;
-ghost use Prim.Native.Nat.{_≤_};
+ghost use Prim.Native.Nat.{_≤_, _<_};
 ghost use mathlib.Core.Path.{_≡_};
+ghost use mathlib.Core.Bool.{true};
+ghost use mathlib.Core.List.{List, []};
+ghost use mathlib.Core.Option.{some};
 ghost use lib.ListN.{length};
-ghost use Rattle.record.specs.Scalars.{scalarsOf};
+ghost use Rattle.record.specs.Base.{Str};
+ghost use Rattle.record.specs.Scalars.{Scalar, scalarsOf};
 ghost use Rattle.record.specs.Marks.{Clear};
 ghost use Rattle.record.specs.Reading.{rec};
 ghost use Rattle.record.specs.Read.{Exact};
+ghost use Rattle.layout.specs.Layout.{typeIn};
 ghost use Rattle.layout.specs.Handles.{typeName, layoutOf};
 ghost use Rattle.layout.specs.Names.{nameOf};
 ghost use Rattle.layout.specs.Table.{Typed};
 ghost use Rattle.layout.specs.FieldSizes.{SizesTable};
 ghost use Rattle.layout.specs.Spots.{spotOf, placesFrom, Sound};
 ghost use Rattle.layout.specs.Tables.{Tables};
-ghost use Rattle.definition.specs.Fields.{placeIn, checkKept, checkPlace, checkPlaces, checkType, checkFields};
+ghost use Rattle.definition.specs.Fields.{placeIn, checkKept, checkPlace, checkPlaces, checkType, checkFields, eqPlaces};
 ghost use Rattle.compare.specs.Layouts.{typesOf, spotFound};
 ghost use Rattle.compare.specs.Near.{Near};
+ghost use Rattle.compare.specs.CoverTable.{Unchanged, Blank, Marked};
 ghost use Rattle.verdicts.specs.Meaning.{meaning};
 
 // A released field against the one of its name.
@@ -110,6 +116,27 @@ fn check_place(
         return Verdict::FieldGone { owner, name };
     };
     check_kept(pool, old, owner, was, x)
+}
+
+// Whether it is seen that no released field is ahead; where no current one is either, the type's entry becomes 1.
+fn note_bare(
+    stream: &[u8],
+    is: SpotCursor,
+    past: &[u8],
+    was: SpotCursor,
+    kept: &mut [u32],
+    i: usize,
+) -> bool
+    requires { ⌜ i < length (now kept) ⌝ }
+    ensures { λ r. ⌜ (r ≡ true → (q : Str) (w : List Scalar) → placesFrom (rec (now (past .entry)) q w) was ≡ []) × Marked i (now (kept .entry)) (now (kept .exit)) ((p q : Str) (w : List Scalar) → eqPlaces (placesFrom (rec (now (stream .entry)) p w) is) (placesFrom (rec (now (past .entry)) q w) was) ≡ true) ⌝ }
+{
+    if is_bare(past, was) {
+        if is_bare(stream, is) {
+            kept[i] = 1;
+        }
+        return true;
+    }
+    false
 }
 
 // The released fields of a type from a cursor on against those that are now, from another on.
@@ -242,7 +269,7 @@ fn check_any(
     )
 }
 
-// The same without the released fields that are seen to be kept.
+// The same without the released fields that are seen to be kept; where all fields are alike to the end, the type's entry becomes 1.
 fn check_changed(
     rows: &[u8],
     stream: &[u8],
@@ -254,11 +281,18 @@ fn check_changed(
     widths: &[u64],
     owner: TypeName,
     was: SpotCursor,
+    kept: &mut [u32],
+    i: usize,
 ) -> Verdict
-    requires { ⌜ Sound (rec (now stream) (now pool) (scalarsOf (now rows))) (now sizes) is × Sound (rec (now past) (now old) (scalarsOf (now rows))) (now widths) was ⌝ }
-    ensures { λ r. ⌜ meaning (now (pool .entry)) (now (old .entry)) r ≡ checkPlaces (nameOf (now (old .entry)) owner) (placesFrom (rec (now (stream .entry)) (now (pool .entry)) (scalarsOf (now (rows .entry)))) is) (placesFrom (rec (now (past .entry)) (now (old .entry)) (scalarsOf (now (rows .entry)))) was) ⌝ }
+    requires { ⌜ Sound (rec (now stream) (now pool) (scalarsOf (now rows))) (now sizes) is × Sound (rec (now past) (now old) (scalarsOf (now rows))) (now widths) was × (i < length (now kept)) ⌝ }
+    ensures { λ r. ⌜ (meaning (now (pool .entry)) (now (old .entry)) r ≡ checkPlaces (nameOf (now (old .entry)) owner) (placesFrom (rec (now (stream .entry)) (now (pool .entry)) (scalarsOf (now (rows .entry)))) is) (placesFrom (rec (now (past .entry)) (now (old .entry)) (scalarsOf (now (rows .entry)))) was)) × Marked i (now (kept .entry)) (now (kept .exit)) (eqPlaces (placesFrom (rec (now (stream .entry)) (now (pool .entry)) (scalarsOf (now (rows .entry)))) is) (placesFrom (rec (now (past .entry)) (now (old .entry)) (scalarsOf (now (rows .entry)))) was) ≡ true) ⌝ }
 {
-    let rest = pass_kept(stream, pool, sizes, is, past, old, widths, was);
+    let both = pass_kept(stream, pool, sizes, is, past, old, widths, was);
+    let ahead = both.is;
+    let rest = both.was;
+    if note_bare(stream, ahead, past, rest, kept, i) {
+        return Verdict::Passed;
+    }
     check_any(
         rows,
         stream,
@@ -284,17 +318,32 @@ fn check_layout(
     old: &[u8],
     widths: &[u64],
     other: u32,
+    kept: &mut [u32],
+    i: usize,
 ) -> Verdict
-    requires { ⌜ (Typed (now stream) handle × SizesTable (rec (now stream) (now pool) (scalarsOf (now rows))) (now sizes) × Exact (rec (now stream) (now pool) (scalarsOf (now rows)))) × (Typed (now past) other × SizesTable (rec (now past) (now old) (scalarsOf (now rows))) (now widths) × Exact (rec (now past) (now old) (scalarsOf (now rows)))) ⌝ }
-    ensures { λ r. ⌜ meaning (now (pool .entry)) (now (old .entry)) r ≡ checkPlaces (typeName (now (past .entry)) (now (old .entry)) other) (layoutOf (rec (now (stream .entry)) (now (pool .entry)) (scalarsOf (now (rows .entry)))) handle .fields) (layoutOf (rec (now (past .entry)) (now (old .entry)) (scalarsOf (now (rows .entry)))) other .fields) ⌝ }
+    requires { ⌜ (Typed (now stream) handle × SizesTable (rec (now stream) (now pool) (scalarsOf (now rows))) (now sizes) × Exact (rec (now stream) (now pool) (scalarsOf (now rows)))) × (Typed (now past) other × SizesTable (rec (now past) (now old) (scalarsOf (now rows))) (now widths) × Exact (rec (now past) (now old) (scalarsOf (now rows)))) × (i < length (now kept)) ⌝ }
+    ensures { λ r. ⌜ (meaning (now (pool .entry)) (now (old .entry)) r ≡ checkPlaces (typeName (now (past .entry)) (now (old .entry)) other) (layoutOf (rec (now (stream .entry)) (now (pool .entry)) (scalarsOf (now (rows .entry)))) handle .fields) (layoutOf (rec (now (past .entry)) (now (old .entry)) (scalarsOf (now (rows .entry)))) other .fields)) × Marked i (now (kept .entry)) (now (kept .exit)) (eqPlaces (layoutOf (rec (now (stream .entry)) (now (pool .entry)) (scalarsOf (now (rows .entry)))) handle .fields) (layoutOf (rec (now (past .entry)) (now (old .entry)) (scalarsOf (now (rows .entry)))) other .fields) ≡ true) ⌝ }
 {
     let was = first_spot(past, other);
-    if is_bare(past, was) {
+    let is = first_spot(stream, handle);
+    if note_bare(stream, is, past, was, kept, i) {
         return Verdict::Passed;
     }
     let owner = type_name(past, other);
-    let is = first_spot(stream, handle);
-    check_changed(rows, stream, pool, sizes, is, past, old, widths, owner, was)
+    check_changed(
+        rows,
+        stream,
+        pool,
+        sizes,
+        is,
+        past,
+        old,
+        widths,
+        owner,
+        was,
+        kept,
+        i,
+    )
 }
 
 // One released type, by its handle; its name is thought to stand near an index of the current types.
@@ -309,9 +358,10 @@ fn check_type(
     widths: &[u64],
     other: u32,
     near: usize,
+    kept: &mut [u32],
 ) -> Verdict
-    requires { ⌜ Tables (rec (now stream) (now pool) (scalarsOf (now rows))) (now types) (now sizes) × (Typed (now past) other × SizesTable (rec (now past) (now old) (scalarsOf (now rows))) (now widths) × Exact (rec (now past) (now old) (scalarsOf (now rows)))) ⌝ }
-    ensures { λ r. ⌜ meaning (now (pool .entry)) (now (old .entry)) r ≡ checkType (typesOf (rec (now (stream .entry)) (now (pool .entry)) (scalarsOf (now (rows .entry))))) (layoutOf (rec (now (past .entry)) (now (old .entry)) (scalarsOf (now (rows .entry)))) other) ⌝ }
+    requires { ⌜ Tables (rec (now stream) (now pool) (scalarsOf (now rows))) (now types) (now sizes) × (Typed (now past) other × SizesTable (rec (now past) (now old) (scalarsOf (now rows))) (now widths) × Exact (rec (now past) (now old) (scalarsOf (now rows)))) × (typeIn (typeName (now past) (now old) other) (typesOf (rec (now past) (now old) (scalarsOf (now rows)))) ≡ some (layoutOf (rec (now past) (now old) (scalarsOf (now rows))) other)) × Unchanged (rec (now stream) (now pool) (scalarsOf (now rows))) (rec (now past) (now old) (scalarsOf (now rows))) (now types) (now kept) × (length (now types) ≤ length (now kept)) ⌝ }
+    ensures { λ r. ⌜ (meaning (now (pool .entry)) (now (old .entry)) r ≡ checkType (typesOf (rec (now (stream .entry)) (now (pool .entry)) (scalarsOf (now (rows .entry))))) (layoutOf (rec (now (past .entry)) (now (old .entry)) (scalarsOf (now (rows .entry)))) other)) × Unchanged (rec (now (stream .entry)) (now (pool .entry)) (scalarsOf (now (rows .entry)))) (rec (now (past .entry)) (now (old .entry)) (scalarsOf (now (rows .entry)))) (now (types .entry)) (now (kept .exit)) ⌝ }
 {
     let found = find_same(stream, pool, types, past, old, other, near);
     let TypeFound::At(i) = found else {
@@ -320,10 +370,35 @@ fn check_type(
         };
     };
     let handle = types[i];
-    check_layout(rows, stream, pool, sizes, handle, past, old, widths, other)
+    check_layout(
+        rows,
+        stream,
+        pool,
+        sizes,
+        handle,
+        past,
+        old,
+        widths,
+        other,
+        kept,
+        i,
+    )
 }
 
-// The first type or field of the release that does not stand as it was, types in byte order of their names.
+// Puts 0 for the first entries of a table, as many as n.
+fn clear(table: &mut [u32], n: usize)
+    requires { ⌜ n ≤ length (now table) ⌝ }
+    ensures { λ _. ⌜ Blank n (now (table .exit)) ⌝ }
+{
+    let mut i = 0;
+    while i < n {
+        table[i] = 0;
+        i += 1;
+    }
+}
+
+// The first type or field of the release that does not stand as it was, types in byte order of their names; kept has an entry for each current
+// type, which becomes 1 where all its fields are seen to be as they were.
 pub(crate) fn check_fields(
     rows: &[u8],
     stream: &[u8],
@@ -334,10 +409,12 @@ pub(crate) fn check_fields(
     old: &[u8],
     shipped: &[u32],
     widths: &[u64],
+    kept: &mut [u32],
 ) -> Verdict
-    requires { ⌜ Tables (rec (now stream) (now pool) (scalarsOf (now rows))) (now types) (now sizes) × Tables (rec (now past) (now old) (scalarsOf (now rows))) (now shipped) (now widths) ⌝ }
-    ensures { λ r. ⌜ meaning (now (pool .entry)) (now (old .entry)) r ≡ checkFields (typesOf (rec (now (stream .entry)) (now (pool .entry)) (scalarsOf (now (rows .entry))))) (typesOf (rec (now (past .entry)) (now (old .entry)) (scalarsOf (now (rows .entry))))) ⌝ }
+    requires { ⌜ Tables (rec (now stream) (now pool) (scalarsOf (now rows))) (now types) (now sizes) × Tables (rec (now past) (now old) (scalarsOf (now rows))) (now shipped) (now widths) × (length (now types) ≤ length (now kept)) ⌝ }
+    ensures { λ r. ⌜ (meaning (now (pool .entry)) (now (old .entry)) r ≡ checkFields (typesOf (rec (now (stream .entry)) (now (pool .entry)) (scalarsOf (now (rows .entry))))) (typesOf (rec (now (past .entry)) (now (old .entry)) (scalarsOf (now (rows .entry)))))) × Unchanged (rec (now (stream .entry)) (now (pool .entry)) (scalarsOf (now (rows .entry)))) (rec (now (past .entry)) (now (old .entry)) (scalarsOf (now (rows .entry)))) (now (types .entry)) (now (kept .exit)) ⌝ }
 {
+    clear(kept, types.len());
     let mut i = 0;
     while i < shipped.len() {
         let verdict = check_type(
@@ -351,6 +428,7 @@ pub(crate) fn check_fields(
             widths,
             shipped[i],
             i,
+            kept,
         );
         if let Verdict::Passed = verdict {
             i += 1;

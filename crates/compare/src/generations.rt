@@ -42,7 +42,7 @@ ghost use Rattle.record.specs.Versioned.{versioned, InSlots};
 ghost use Rattle.layout.specs.Tables.{Tables};
 ghost use Rattle.definition.specs.Pass.{_then_};
 ghost use Rattle.definition.specs.Generations.{isListed, checkStill, checkRise, checkFrom, checkAgainst, checkGeneration, checkRoots, checkGenerations};
-ghost use Rattle.compare.specs.CoverTable.{changedTypes, firstUncovered, touchedBy};
+ghost use Rattle.compare.specs.CoverTable.{changedTypes, Unchanged, firstUncovered, touchedBy};
 ghost use Rattle.verdicts.specs.Meaning.{meaning};
 
 // Whether a version entry is of this structure and number.
@@ -388,7 +388,8 @@ fn check_filled(
     )
 }
 
-// The pass; the marks of the owners and the table of what covers each type are lent to it.
+// The pass; the marks of the owners and the table of what covers each type are lent to it, the table as the
+// pass over the fields filled it.
 pub(crate) fn check_generations(
     rows: &[u8],
     stream: &[u8],
@@ -406,7 +407,7 @@ pub(crate) fn check_generations(
     current: Text,
     copy: OptText,
 ) -> Verdict
-    requires { ⌜ Tables (rec (now stream) (now pool) (scalarsOf (now rows))) (now types) (now sizes) × Tables (rec (now past) (now old) (scalarsOf (now rows))) (now shipped) (now widths) × (length (now stream) ≤ length (now marks)) × (length (now types) ≤ length (now cover)) × Indexed (now stream) (now pool) (now index) × Indexed (now past) (now old) (now «old_index») ⌝ }
+    requires { ⌜ Tables (rec (now stream) (now pool) (scalarsOf (now rows))) (now types) (now sizes) × Tables (rec (now past) (now old) (scalarsOf (now rows))) (now shipped) (now widths) × (length (now stream) ≤ length (now marks)) × (length (now types) ≤ length (now cover)) × Indexed (now stream) (now pool) (now index) × Indexed (now past) (now old) (now «old_index») × Unchanged (rec (now stream) (now pool) (scalarsOf (now rows))) (rec (now past) (now old) (scalarsOf (now rows))) (now types) (now cover) ⌝ }
     ensures { λ r. ⌜ meaning (now (pool .entry)) (now (old .entry)) r ≡ checkGenerations (textOf (now (pool .entry)) current) (optOf (now (old .entry)) copy) (versionsAt (now (stream .entry)) (now (pool .entry)) 0) (typesAt (now (stream .entry)) (now (pool .entry))) (constantsAt (now (stream .entry)) (now (pool .entry)) 0) (constantsAt (now (past .entry)) (now (old .entry)) 0) (changedTypes (rec (now (stream .entry)) (now (pool .entry)) (scalarsOf (now (rows .entry)))) (rec (now (past .entry)) (now (old .entry)) (scalarsOf (now (rows .entry))))) ⌝ }
 {
     let slots = versioned_structs(stream, pool);

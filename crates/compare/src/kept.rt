@@ -1,7 +1,8 @@
 // Released fields that stand as they were, passed over: where the fields of two types are alike one after the other, a current one is the first of
 // its name unless one before it has that name's number, so that hardly any has to be looked up.
 use crate::alike::AlikeStep;
-use crate::alike::body_at;
+use crate::alike::Both;
+use crate::alike::bodies_at;
 use crate::alike::next_alike;
 use crate::near::key_of;
 use layout::names::name_at;
@@ -16,6 +17,7 @@ ghost use lib.ListN.{length, getD};
 ghost use Rattle.record.specs.Commands.{place};
 ghost use Rattle.layout.specs.Spots.{cursorAt, OthersPassed};
 ghost use Rattle.compare.specs.Near.{keyOf};
+ghost use Rattle.compare.specs.Alike.{AlikePassed};
 ghost use Rattle.compare.specs.Kept.{Kept, Noted, Noting, keptFrom};
 
 // Notes the number of a name; answers whether it was noted before.
@@ -102,7 +104,7 @@ fn next_kept(
     AlikeStep::Differ
 }
 
-// What is ahead of a released type without the fields at its front that are kept, from two places on; seen has room for the numbers of names.
+// What is ahead of two types without the fields at their fronts that are alike and kept, from two places on; seen has room for the numbers of names.
 fn pass_fields(
     stream: &[u8],
     pool: &[u8],
@@ -115,9 +117,9 @@ fn pass_fields(
     widths: &[u64],
     other: usize,
     start: u64,
-) -> SpotCursor
+) -> Both
     requires { ⌜ Noted (now stream) (now pool) (now sizes) front (now seen) from start × (1024 ≤ length (now seen)) ⌝ }
-    ensures { λ r. ⌜ Kept (now (stream .entry)) (now (pool .entry)) (now (sizes .entry)) front (now (past .entry)) (now (old .entry)) (now (widths .entry)) (cursorAt (Ahead.Body (place other)) start) r ⌝ }
+    ensures { λ r. ⌜ Kept (now (stream .entry)) (now (pool .entry)) (now (sizes .entry)) front (now (past .entry)) (now (old .entry)) (now (widths .entry)) (cursorAt (Ahead.Body (place other)) start) (r .was) × AlikePassed (now (stream .entry)) (now (pool .entry)) (now (sizes .entry)) (now (past .entry)) (now (old .entry)) (now (widths .entry)) (cursorAt (Ahead.Body (place from)) start) (cursorAt (Ahead.Body (place other)) start) (r .is) (r .was) ⌝ }
 {
     let mut at = from;
     let mut to = other;
@@ -136,7 +138,7 @@ fn pass_fields(
             to,
             offset,
         ) else {
-            return body_at(to, offset);
+            return bodies_at(at, to, offset);
         };
         offset = sum(offset, size);
         at = after;
@@ -154,19 +156,19 @@ pub(crate) fn pass_kept(
     old: &[u8],
     widths: &[u64],
     was: SpotCursor,
-) -> SpotCursor
-    ensures { λ r. ⌜ Kept (now (stream .entry)) (now (pool .entry)) (now (sizes .entry)) is (now (past .entry)) (now (old .entry)) (now (widths .entry)) was r ⌝ }
+) -> Both
+    ensures { λ r. ⌜ Kept (now (stream .entry)) (now (pool .entry)) (now (sizes .entry)) is (now (past .entry)) (now (old .entry)) (now (widths .entry)) was (r .was) × AlikePassed (now (stream .entry)) (now (pool .entry)) (now (sizes .entry)) (now (past .entry)) (now (old .entry)) (now (widths .entry)) is was (r .is) (r .was) ⌝ }
 {
     let ahead = is.ahead;
     let Ahead::Body(k) = ahead else {
-        return was;
+        return Both { is, was };
     };
     let other = was.ahead;
     let Ahead::Body(l) = other else {
-        return was;
+        return Both { is, was };
     };
     if is.offset != was.offset {
-        return was;
+        return Both { is, was };
     }
     let mut seen = [0u8; 1024];
     pass_fields(

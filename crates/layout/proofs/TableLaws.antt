@@ -15,7 +15,7 @@ use Rattle.record.specs.Scalars.{Scalar}
 use Rattle.record.specs.Reading.{Rec, rec, schemaOf}
 use Rattle.record.specs.declared.text.Text.{Text}
 use Rattle.record.specs.declared.operands.OptText.the-variants.{Absent, Given}
-use Rattle.record.proofs.Basics.{eqs→eq, eqs-refl}
+use Rattle.record.proofs.Basics.{find-some, eqs-refl, eqs→eq}
 use Rattle.layout.specs.declared.names.TypeName.{TypeName}
 use Rattle.layout.specs.declared.table.TypeFound.{TypeFound}
 use Rattle.layout.specs.declared.table.TypeFound.the-variants.{NoType, At}
@@ -25,7 +25,7 @@ use Rattle.record.specs.Fill.{fronted}
 use Rattle.layout.specs.Handles.{typeName, handlesOf, layoutOf}
 use Rattle.layout.specs.Names.{joined, frontOf, colonsOf, backOf, hasParts, nameOf}
 use Rattle.layout.specs.Sort.{arranged, lasts, ascends}
-use Rattle.layout.specs.Table.{TypesTable, FoundType}
+use Rattle.layout.specs.Table.{TypesTable, foundIn, FoundType}
 use Rattle.layout.proofs.Origin.{sorted-mem}
 use Rattle.layout.proofs.Order.{before-trans, before-total, not-self, Sorted, sorted-sorted}
 use Rattle.layout.proofs.Runs.{lasts-are, lasts-ascending, map-sorted}
@@ -200,20 +200,29 @@ module _ (s p : Str) (t : List ℕ) (n : Str) (lo hi : ℕ) (k : Seeking s p t n
 
 pub ruleset seek-laws = (seek-past, seek-other, seek-found)
 
--- a name that stands at an index stands before it nowhere
-module _ (s p : Str) (t : List ℕ) (f b : Str) (k i : ℕ) where
-  abbrev sought : Str
-  sought = joined f k b
+-- the table and the types of its record ---------------------------------------------------------------------------------------
 
-  pub found-here : (c : Bool) → i < length t → c ≡ hasParts s p (getD t i 0) f k b → c ≡ true → FoundType s p t sought (At i)
+module _ (s p : Str) (t : List ℕ) (y : TypesTable s p t) where
+  -- the type of a name that the table has is the one that has it there
+  pub own-type : (w : List Scalar) (i : ℕ) → i < length t → typeIn (typeName s p (getD t i 0)) (types (schemaOf (rec s p w))) ≡ some (layoutOf (rec s p w) (getD t i 0))
+  own-type w i h =
+      ap (typeIn (typeName s p (getD t i 0))) (sym (y .layouts w))
+      ∙ one-found s p w _ t i h (λ j k. apart-before _ _ (y .upward j i k h)) (eqs-refl (typeName s p (getD t i 0)))
+
+  -- what is found has the name that was sought
+  pub found-name : (n : Str) (r : TypeFound) (i : ℕ) → FoundType s p t n r → r ≡ At i → typeName s p (getD t i 0) ≡ n
+  unfolding typeIn layoutOf
+  found-name n r i f m =
+      eqs→eq (typeName s p (getD t i 0)) n
+      (find-some (λ (x : TypeLayout). eqs (x .name) n) (types (schemaOf (rec s p []))) (f .layout y [] ∙ ap (foundIn (rec s p []) t) m) .1)
+
+-- a name that stands at an index is found there
+module _ (s p : Str) (t : List ℕ) (f b : Str) (k i : ℕ) where
+  pub found-here : (c : Bool) → i < length t → c ≡ hasParts s p (getD t i 0) f k b → c ≡ true → FoundType s p t (joined f k b) (At i)
   found-here c h e z =
-      let n : typeName s p (getD t i 0) ≡ sought = named-so s p (getD t i 0) f b k (sym e ∙ z) in
+      let n : typeName s p (getD t i 0) ≡ joined f k b = named-so s p (getD t i 0) f b k (sym e ∙ z) in
       record {
-        layout = λ y w.
-            ap (typeIn sought) (sym (y .layouts w))
-            ∙ one-found s p w sought t i h
-            (λ j l. apart-before (typeName s p (getD t j 0)) sought (subst (λ (m : Str). before (typeName s p (getD t j 0)) m ≡ true) n (y .upward j i l h)))
-            (ap (λ (m : Str). eqs m sought) n ∙ eqs-refl sought);
+        layout = λ y w. ap (λ (m : Str). typeIn m (types (schemaOf (rec s p w)))) (sym n) ∙ own-type s p t y w i h;
         inside = omega arith;
       }
 

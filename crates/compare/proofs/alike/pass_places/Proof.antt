@@ -27,11 +27,8 @@ enum-known-after c = search needs
 enum-told : tie.Need-enum-told Inv-loop μ-loop
 enum-told c = search needs
 
-body-at-requires : tie.Need-body-at-requires Inv-loop μ-loop
-body-at-requires c κs = search needs
-
-body-at-requires-2 : tie.Need-body-at-requires-2 Inv-loop μ-loop
-body-at-requires-2 c κs = search needs
+bodies-at-requires : tie.Need-bodies-at-requires Inv-loop μ-loop
+bodies-at-requires c κs = search needs
 
 returns : tie.Need-returns Inv-loop μ-loop
 returns c = search alike-so-far
@@ -55,8 +52,7 @@ pass-places-spec =
     next-alike-requires
     enum-known-after
     enum-told
-    body-at-requires
-    body-at-requires-2
+    bodies-at-requires
     returns
     sum-requires
     loop-less

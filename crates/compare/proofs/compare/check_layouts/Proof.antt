@@ -10,7 +10,9 @@ enum-told : tie.Need-enum-told
 enum-told c = search needs
 
 check-generations-requires : tie.Need-check-generations-requires
-check-generations-requires c κs = search needs
+check-generations-requires c κs =
+    let pre = c .before .before .before .before .before .before .before .before .before .before .before .before .before .before .before .before .before .before .before .before .before .pre in
+    (pre .0, pre .1, pre .2, search needs, pre .4, pre .5, c .before .before .before .before .before .before .check-types .ensures .1)
 
 same-length : tie.Need-same-length
 same-length c = search needs
@@ -19,10 +21,13 @@ same-length-2 : tie.Need-same-length-2
 same-length-2 c = search needs
 
 returns : tie.Need-returns
-returns c = search then-on
+returns c = search (then-on, c .before .before .before .before .before .before .before .before .before .before .before .check-types .ensures .0)
+
+same-length-3 : tie.Need-same-length-3
+same-length-3 c = search needs
 
 returns-2 : tie.Need-returns-2
-returns-2 c = search then-stop
+returns-2 c = search (then-stop, c .before .before .before .check-types .ensures .0)
 
 pub check-layouts-spec : {M : Type 1} → statement M
 check-layouts-spec =
@@ -34,4 +39,5 @@ check-layouts-spec =
     same-length
     same-length-2
     returns
+    same-length-3
     returns-2)

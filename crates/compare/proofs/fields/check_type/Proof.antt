@@ -1,4 +1,4 @@
-use Rattle.compare.proofs.FieldLaws.{found-inside, found-typed, type-gone, type-there}
+use Rattle.compare.proofs.FieldLaws.{found-inside, found-room, found-typed, type-gone, type-there, unchanged-marked}
 use borrow.Author.Needs.{needs}
 use Rattle.compare.proofs.fields.check_type.Statement.{statement}
 use Rattle.compare.proofs.fields.check_type.Tie as tie
@@ -16,7 +16,7 @@ type-name-requires : tie.Need-type-name-requires
 type-name-requires c κs = search needs
 
 returns : tie.Need-returns
-returns c = search type-gone
+returns c = (search type-gone, search needs)
 
 mul-handle : tie.Need-mul-handle
 mul-handle c = search (needs, found-inside)
@@ -25,10 +25,13 @@ shared-slice-read-handle : tie.Need-shared-slice-read-handle
 shared-slice-read-handle c = search found-inside
 
 check-layout-requires : tie.Need-check-layout-requires
-check-layout-requires c κs = ((search found-typed, search needs, search needs), search needs)
+check-layout-requires c κs = ((search found-typed, search needs, search needs), search needs, search found-room)
+
+same-length : tie.Need-same-length
+same-length c = search needs
 
 returns-2 : tie.Need-returns-2
-returns-2 c = search type-there
+returns-2 c = (search type-there, search unchanged-marked)
 
 pub check-type-spec : {M : Type 1} → statement M
 check-type-spec =
@@ -42,4 +45,5 @@ check-type-spec =
     mul-handle
     shared-slice-read-handle
     check-layout-requires
+    same-length
     returns-2)

@@ -13,7 +13,7 @@ fill-cover-requires : tie.Need-fill-cover-requires
 fill-cover-requires c κs =
     let pre = c .before .before .before .before .before .before .before .before .before .before .before .before .before .before .before .before .before .before .before .before .pre in
     let slots = c .before .before .before .before .before .before .versioned-structs .ensures in
-    (pre .0, pre .1, record { marks = c .before .before .before .before .mark-owners .ensures .within (pre .2) slots (pre .4); index = pre .4 }, slots, pre .3)
+    (pre .0, pre .1, record { marks = c .before .before .before .before .mark-owners .ensures .within (pre .2) slots (pre .4); index = pre .4 }, slots, pre .3, pre .6)
 
 check-filled-requires : tie.Need-check-filled-requires
 check-filled-requires c κs =

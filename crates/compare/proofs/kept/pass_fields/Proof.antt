@@ -3,13 +3,13 @@ use lib.ListN.{length}
 use Rattle.record.specs.Commands.{place}
 use Rattle.layout.specs.Spots.{cursorAt}
 use Rattle.layout.specs.declared.spots.Ahead.the-variants.{Body}
-use Rattle.compare.proofs.KeptLaws.{Keeping, keeping-start, keeping-noted, keeping-room, keeping-end, keeping-on, keeping-nearer}
+use Rattle.compare.proofs.KeptLaws.{Keeping, keeping-start, keeping-noted, keeping-room, keeping-end, keeping-alike, keeping-on, keeping-nearer}
 use borrow.Author.Needs.{needs}
 use Rattle.compare.proofs.kept.pass_fields.Statement.{statement}
 use Rattle.compare.proofs.kept.pass_fields.Tie as tie
 
 abbrev Inv-loop : tie.InvT-loop
-Inv-loop stream pool sizes front seen₀ from past old widths other start at₀ to₀ offset₀ seen at to offset = Keeping stream pool sizes front seen₀ seen at past old widths (cursorAt (Body (place other)) start) to offset
+Inv-loop stream pool sizes front seen₀ from past old widths other start at₀ to₀ offset₀ seen at to offset = Keeping stream pool sizes front seen₀ seen (cursorAt (Body (place from)) start) at past old widths (cursorAt (Body (place other)) start) to offset
 
 abbrev μ-loop : tie.MeasureT-loop
 μ-loop stream pool sizes front seen₀ from past old widths other start at₀ to₀ offset₀ seen at to offset = length stream - at
@@ -26,14 +26,14 @@ enum-known-after c = search needs
 enum-told : tie.Need-enum-told Inv-loop μ-loop
 enum-told c = search needs
 
-body-at-requires : tie.Need-body-at-requires Inv-loop μ-loop
-body-at-requires c κs = search needs
+bodies-at-requires : tie.Need-bodies-at-requires Inv-loop μ-loop
+bodies-at-requires c κs = search needs
 
 same-length : tie.Need-same-length Inv-loop μ-loop
 same-length c = search needs
 
 returns : tie.Need-returns Inv-loop μ-loop
-returns c = search keeping-end
+returns c = (search keeping-end, search keeping-alike)
 
 sum-requires : tie.Need-sum-requires Inv-loop μ-loop
 sum-requires c κs = search needs
@@ -54,7 +54,7 @@ pass-fields-spec =
     next-kept-requires
     enum-known-after
     enum-told
-    body-at-requires
+    bodies-at-requires
     same-length
     returns
     sum-requires

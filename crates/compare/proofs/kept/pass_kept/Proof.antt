@@ -1,4 +1,5 @@
-use Rattle.compare.proofs.KeptLaws.{noted-front, kept-body}
+use Rattle.compare.proofs.AlikeLaws.{alike-here, alike-bodies}
+use Rattle.compare.proofs.KeptLaws.{noted-front, kept-here, kept-body}
 use borrow.Author.Needs.{needs}
 use Rattle.compare.proofs.kept.pass_kept.Statement.{statement}
 use Rattle.compare.proofs.kept.pass_kept.Tie as tie
@@ -7,16 +8,16 @@ enum-known-ahead : tie.Need-enum-known-ahead
 enum-known-ahead c = search needs
 
 returns : tie.Need-returns
-returns c = search needs
+returns c = (search kept-here, search alike-here)
 
 enum-known-other : tie.Need-enum-known-other
 enum-known-other c = search needs
 
 returns-2 : tie.Need-returns-2
-returns-2 c = search needs
+returns-2 c = (search kept-here, search alike-here)
 
 returns-3 : tie.Need-returns-3
-returns-3 c = search needs
+returns-3 c = (search kept-here, search alike-here)
 
 slice-aggregate-pass-fields : tie.Need-slice-aggregate-pass-fields
 slice-aggregate-pass-fields c = search needs
@@ -25,7 +26,7 @@ pass-fields-requires : tie.Need-pass-fields-requires
 pass-fields-requires c κs = (search noted-front, search needs)
 
 returns-4 : tie.Need-returns-4
-returns-4 c = search kept-body
+returns-4 c = (search kept-body, search alike-bodies)
 
 pub pass-kept-spec : {M : Type 1} → statement M
 pass-kept-spec =

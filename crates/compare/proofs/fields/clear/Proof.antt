@@ -1,0 +1,53 @@
+use Prim.Native.Nat.{_-_, _≤_}
+use mathlib.Core.Path.{_≡_}
+use lib.ListN.{length}
+use Rattle.compare.specs.CoverTable.{Blank}
+use Rattle.compare.proofs.FieldLaws.{blank-start, blank-on, blank-end}
+use borrow.Author.Needs.{needs}
+use Rattle.compare.proofs.fields.clear.Statement.{statement}
+use Rattle.compare.proofs.fields.clear.Tie as tie
+
+abbrev Inv-loop : tie.InvT-loop
+Inv-loop table₀ n i₀ table i = Blank i table × (n ≤ length table) × (length table ≡ length table₀)
+
+abbrev μ-loop : tie.MeasureT-loop
+μ-loop table₀ n i₀ table i = n - i
+
+loop-holds : tie.Need-loop-holds Inv-loop μ-loop
+loop-holds c = (search blank-start, search needs, search needs)
+
+mul-table : tie.Need-mul-table Inv-loop μ-loop
+mul-table c = search needs
+
+slice-write-table : tie.Need-slice-write-table Inv-loop μ-loop
+slice-write-table c = search needs
+
+add-i : tie.Need-add-i Inv-loop μ-loop
+add-i c = search needs
+
+loop-less : tie.Need-loop-less Inv-loop μ-loop
+loop-less c = search needs
+
+loop-again : tie.Need-loop-again Inv-loop μ-loop
+loop-again c = (search blank-on, search needs, search needs)
+
+same-length : tie.Need-same-length Inv-loop μ-loop
+same-length c = search needs
+
+returns : tie.Need-returns Inv-loop μ-loop
+returns c = search blank-end
+
+pub clear-spec : {M : Type 1} → statement M
+clear-spec =
+    tie.close
+    (tie.spec
+    Inv-loop
+    μ-loop
+    loop-holds
+    mul-table
+    slice-write-table
+    add-i
+    loop-less
+    loop-again
+    same-length
+    returns)
