@@ -17,7 +17,7 @@ use Rattle.record.specs.Seek.{afterAt, overOf, placesOf, placesLeft, SoughtFrom
 use Rattle.record.specs.declared.seek.Between.the-variants.{Anything, Fields}
 use Rattle.record.specs.declared.seek.Sought.{Sought}
 use Rattle.record.specs.declared.seek.Sought.the-variants.{Nowhere, At}
-use Rattle.record.proofs.SeekLaws.{Stepped, stepped, ended-there, sought-stands}
+use Rattle.record.proofs.SeekLaws.{Stepped, stepped, ended-there, after-end, after-nearer, sought-stands}
 use Rattle.record.specs.declared.command.Cursor.{Cursor}
 use Rattle.record.specs.declared.command.Command.{Command}
 use Rattle.record.specs.declared.command.Step.the-variants.{Next, Stop}
@@ -176,6 +176,9 @@ module _ (s : Str) (at n : ℕ) (i : n ≡ afterAt s at) where
   pub open-stop : n ≡ 0 → (family : ℕ) → familiesFrom s family at ≡ []
   open-stop z = open-none s at (ended-there s at n i z)
 
+  pub places-stop : n ≡ 0 → (b : ℕ) → placesOf s Anything b at ≡ []
+  places-stop z = places-none s at (ended-there s at n i z)
+
   module _ (z : n ≡ 0 → ⊥) where
     t : Stepped s at n
     t = stepped s at n i z
@@ -183,35 +186,79 @@ module _ (s : Str) (at n : ℕ) (i : n ≡ afterAt s at) where
     pub place-small : length s ≤ 32768 → at ≤ 32767
     place-small h = let f = step-found s at (t .command) (t .cursor) (t .step) in let a = f .on in let b = f .within in omega arith
 
-    module _ (x : ℕ) (h : x ≡ getD s at 0) (family : ℕ) where
+    module _ (x : ℕ) (h : x ≡ getD s at 0) where
       number : byteOf (t .command) ≡ x
       number = sym (h ∙ t .number)
 
-      abbrev After : ℕ → List ℕ → Type 0
-      After f l = familiesFrom s family at ≡ l ++ familiesFrom s f n
+      module _ (b : ℕ) where
+        pub place-taken : (j : ℕ) → x ≡ b → j ≡ at → placesOf s Anything b at ≡ j ∷ placesOf s Anything b n
+        place-taken j g q = rw q (places-at s at (t .command) (t .cursor) (t .step) b (number ∙ g) ∙ ap (λ (k : ℕ). at ∷ placesOf s Anything b k) (t .to))
 
-      moved : (f : ℕ) (l : List ℕ) → familiesFrom s family at ≡ l ++ familiesFrom s f (t .cursor .at) → After f l
-      moved f l e = e ∙ ap (λ (k : ℕ). l ++ familiesFrom s f k) (t .to)
+        pub place-passed : (x ≡ b → ⊥) → placesOf s Anything b at ≡ placesOf s Anything b n
+        place-passed g = places-else s at (t .command) (t .cursor) (t .step) b (λ e. g (sym number ∙ e)) ∙ ap (placesOf s Anything b) (t .to)
 
-      pub open-family : (j : ℕ) → x ≡ 9 → j ≡ at → familiesFrom s family at ≡ j ∷ familiesFrom s (j + 1) n
-      open-family j g q = rw q (moved (at + 1) (at ∷ []) (open-nine s at (t .command) (t .cursor) (t .step) family (number ∙ g)))
+      module _ (family : ℕ) where
+        abbrev After : ℕ → List ℕ → Type 0
+        After f l = familiesFrom s family at ≡ l ++ familiesFrom s f n
 
-      pub open-variant : (j : ℕ) → x ≡ 10 → (family ≡ 0 → ⊥) → j ≡ at → familiesFrom s family at ≡ (65536 * family + j) ∷ familiesFrom s family n
-      open-variant j g w q = rw q (moved family ((65536 * family + at) ∷ []) (open-ten s at (t .command) (t .cursor) (t .step) family (number ∙ g) w))
+        moved : (f : ℕ) (l : List ℕ) → familiesFrom s family at ≡ l ++ familiesFrom s f (t .cursor .at) → After f l
+        moved f l e = e ∙ ap (λ (k : ℕ). l ++ familiesFrom s f k) (t .to)
 
-      pub open-unowned : x ≡ 10 → family ≡ 0 → familiesFrom s family at ≡ familiesFrom s family n
-      open-unowned g w = moved family [] (open-closed s at (t .command) (t .cursor) (t .step) family (λ q. let d = number in omega arith) w)
+        pub open-family : (j : ℕ) → x ≡ 9 → j ≡ at → familiesFrom s family at ≡ j ∷ familiesFrom s (j + 1) n
+        open-family j g q = rw q (moved (at + 1) (at ∷ []) (open-nine s at (t .command) (t .cursor) (t .step) family (number ∙ g)))
 
-      module _ (p : x ≡ 9 → ⊥) (q : x ≡ 10 → ⊥) (o : Bool) (v : o ≡ overOf Fields x) where
-        pub open-passed : o ≡ true → familiesFrom s family at ≡ familiesFrom s family n
-        open-passed g =
-            moved family [] (open-between s at (t .command) (t .cursor) (t .step) family (λ e. p (sym number ∙ e)) (λ e. q (sym number ∙ e)) (ap aField number ∙ sym v ∙ g))
+        pub open-variant : (j : ℕ) → x ≡ 10 → (family ≡ 0 → ⊥) → j ≡ at → familiesFrom s family at ≡ (65536 * family + j) ∷ familiesFrom s family n
+        open-variant j g w q = rw q (moved family ((65536 * family + at) ∷ []) (open-ten s at (t .command) (t .cursor) (t .step) family (number ∙ g) w))
 
-        pub open-over : o ≡ false → familiesFrom s family at ≡ familiesFrom s 0 n
-        open-over g =
-            moved 0 [] (open-ends s at (t .command) (t .cursor) (t .step) family (λ e. p (sym number ∙ e)) (λ e. q (sym number ∙ e)) (ap aField number ∙ sym v ∙ g))
+        pub open-unowned : (x ≡ 9 → ⊥) → family ≡ 0 → familiesFrom s family at ≡ familiesFrom s family n
+        open-unowned g w = moved family [] (open-closed s at (t .command) (t .cursor) (t .step) family (λ q. g (sym number ∙ q)) w)
+
+        module _ (p : x ≡ 9 → ⊥) (q : x ≡ 10 → ⊥) (o : Bool) (v : o ≡ overOf Fields x) where
+          pub open-passed : o ≡ true → familiesFrom s family at ≡ familiesFrom s family n
+          open-passed g =
+              moved family [] (open-between s at (t .command) (t .cursor) (t .step) family (λ e. p (sym number ∙ e)) (λ e. q (sym number ∙ e)) (ap aField number ∙ sym v ∙ g))
+
+          pub open-over : o ≡ false → familiesFrom s family at ≡ familiesFrom s 0 n
+          open-over g =
+              moved 0 [] (open-ends s at (t .command) (t .cursor) (t .step) family (λ e. p (sym number ∙ e)) (λ e. q (sym number ∙ e)) (ap aField number ∙ sym v ∙ g))
+
+pub ruleset place-laws = (place-taken, place-passed)
 
 pub ruleset open-laws = (open-family, open-variant, open-unowned, open-passed, open-over)
+
+-- the families while the first of them is sought: those from it on, and where none was met those that are yet to come
+pub record Begun (s : Str) (family at : ℕ) : Type 0 where
+  pub unmet : family ≡ length s → familiesFrom s 0 0 ≡ familiesFrom s 0 at
+  pub met : (family ≡ length s → ⊥) → familiesFrom s 0 0 ≡ familiesFrom s 0 family
+
+pub begun-start : (s : Str) → Begun s (length s) 0
+begun-start s = record { unmet = λ e. refl; met = λ h. absurd (h refl) }
+
+module _ (s : Str) (family at : ℕ) (b : Begun s family at) (n : ℕ) (i : n ≡ afterAt s at) where
+  pub begun-end : n ≡ 0 → familiesFrom s 0 0 ≡ familiesFrom s 0 family
+  begun-end z = go (eqb family (length s)) refl
+    where
+      go : (t : Bool) → eqb family (length s) ≡ t → familiesFrom s 0 0 ≡ familiesFrom s 0 family
+      go true q =
+          let e = eqb-true family (length s) q in
+          b .unmet e ∙ open-stop s at n i z 0 ∙ sym (open-stop s family 0 (after-end s family (omega arith)) refl 0)
+      go false q = b .met (eqb-false family (length s) q)
+
+  pub begun-later : (family ≡ length s → ⊥) → Begun s family n
+  begun-later h = record { unmet = λ e. absurd (h e); met = b .met }
+
+  module _ (z : n ≡ 0 → ⊥) where
+    pub begun-here : family ≡ length s → Begun s at n
+    begun-here e = record { unmet = λ q. let a = after-nearer s at n i z in absurd (omega arith); met = λ q. b .unmet e }
+
+    module _ (x : ℕ) (h : x ≡ getD s at 0) where
+      pub begun-over : (x ≡ 9 → ⊥) → Begun s family n
+      begun-over g = record { unmet = λ e. b .unmet e ∙ open-unowned s at n i z x h 0 g refl; met = b .met }
+
+      pub begun-struct : x ≡ 8 → Begun s family n
+      begun-struct g = begun-over (λ q. omega arith)
+
+pub ruleset begun-laws = (begun-later, begun-here, begun-over, begun-struct)
 
 -- a table while it is filled: what is there of it, what is yet to come, and the old rest ------------------------------------
 
@@ -266,14 +313,18 @@ module _ (s : Str) (all o t : List ℕ) (n : ℕ) where
   pub place-room : (b at : ℕ) (r : Sought) → SoughtFrom s Anything b at r → (a k : ℕ) → r ≡ At a k → Filling all (placesOf s Anything b at) o t n → n < length t
   place-room b at r i a k m f = fill-room all o t n (placesOf s Anything b at) f a (placesOf s Anything b k) (places-here s b at r i a k m a refl)
 
-  module _ (at after : ℕ) (i : after ≡ afterAt s at) (z : after ≡ 0 → ⊥) (x : ℕ) (h : x ≡ getD s at 0) (family : ℕ) (f : Filling all (familiesFrom s family at) o t n) where
-    pub family-room : x ≡ 9 → n < length t
-    family-room g = fill-room all o t n (familiesFrom s family at) f at (familiesFrom s (at + 1) after) (open-family s at after i z x h family at g refl)
+  module _ (at after : ℕ) (i : after ≡ afterAt s at) (z : after ≡ 0 → ⊥) (x : ℕ) (h : x ≡ getD s at 0) where
+    pub taken-room : (b : ℕ) → Filling all (placesOf s Anything b at) o t n → x ≡ b → n < length t
+    taken-room b f g = fill-room all o t n (placesOf s Anything b at) f at (placesOf s Anything b after) (place-taken s at after i z x h b at g refl)
 
-    pub variant-room : x ≡ 10 → (family ≡ 0 → ⊥) → n < length t
-    variant-room g w = fill-room all o t n (familiesFrom s family at) f (65536 * family + at) (familiesFrom s family after) (open-variant s at after i z x h family at g w refl)
+    module _ (family : ℕ) (f : Filling all (familiesFrom s family at) o t n) where
+      pub family-room : x ≡ 9 → n < length t
+      family-room g = fill-room all o t n (familiesFrom s family at) f at (familiesFrom s (at + 1) after) (open-family s at after i z x h family at g refl)
 
-pub ruleset room-laws = (place-room, family-room, variant-room)
+      pub variant-room : x ≡ 10 → (family ≡ 0 → ⊥) → n < length t
+      variant-room g w = fill-room all o t n (familiesFrom s family at) f (65536 * family + at) (familiesFrom s family after) (open-variant s at after i z x h family at g w refl)
+
+pub ruleset room-laws = (family-room, variant-room)
 
 -- the places of one number ------------------------------------------------------------------------------------------------
 
@@ -319,19 +370,20 @@ module _ (s : Str) where
   few : length (placesOf s Anything 8 0) + length (familiesFrom s 0 0) ≤ length s / 4
   few = let a = all-room 0 0 in omega arith
 
-  pub families-fit : (n : ℕ) → n ≡ length (placesOf s Anything 8 0) → n + length (familiesFrom s 0 0) ≤ length s / 4
-  families-fit n i = let a = few in omega arith
+  -- the families' handles are those from a place on
+  module _ (n : ℕ) (i : n ≡ length (placesOf s Anything 8 0)) (family : ℕ) (e : familiesFrom s 0 0 ≡ familiesFrom s 0 family) where
+    pub families-fit : n + length (familiesFrom s 0 family) ≤ length s / 4
+    families-fit = let a = few in let l = ap length e in omega arith
 
-  module _ (o t : List ℕ) (n : ℕ) (i : n ≡ length (placesOf s Anything 8 0)) where
-    pub all-count : (m : ℕ) → m ≡ length (familiesFrom s 0 0) → n + m ≡ length (handlesOf s)
-    all-count m j = rw (← all-are, length-append, i, j)
+    pub all-count : (m : ℕ) → m ≡ length (familiesFrom s 0 family) → n + m ≡ length (handlesOf s)
+    all-count m j = rw (← all-are, length-append, i, j, e)
 
-    pub all-filled : (x : List ℕ) → t ≡ fronted o (placesOf s Anything 8 0) → n ≤ length t → x ≡ fronted (take (length t - n) (drop n t)) (familiesFrom s 0 0)
+    pub all-filled : (o t x : List ℕ) → t ≡ fronted o (placesOf s Anything 8 0) → n ≤ length t → x ≡ fronted (take (length t - n) (drop n t)) (familiesFrom s 0 family)
         → putMid n (length t - n) t x ≡ fronted o (handlesOf s)
     unfolding fronted
-    all-filled x f h g =
+    all-filled o t x f h g =
         let a : take n t ≡ placesOf s Anything 8 0 = ap (take n) f ∙ take-at (placesOf s Anything 8 0) (drop (length (placesOf s Anything 8 0)) o) n (sym i) in
         let b : drop n t ≡ drop n o = ap (drop n) f ∙ drop-at (placesOf s Anything 8 0) (drop (length (placesOf s Anything 8 0)) o) n (sym i) ∙ ap (λ (j : ℕ). drop j o) (sym i) in
         let l : length (drop n t) ≤ length t - n = rw length-drop (omega arith) in
         let d : drop (length t - n) (drop n t) ≡ [] = drop-of-length-le (drop n t) l in
-        rw (d, g, take-all (length t - n) (drop n t) l, append-nil, a, b, drop-drop (length (familiesFrom s 0 0)) n o, i, ← append-assoc (placesOf s Anything 8 0) (familiesFrom s 0 0) (drop (length (placesOf s Anything 8 0) + length (familiesFrom s 0 0)) o), ← length-append (placesOf s Anything 8 0) (familiesFrom s 0 0), all-are)
+        rw (d, g, ← e, take-all (length t - n) (drop n t) l, append-nil, a, b, drop-drop (length (familiesFrom s 0 0)) n o, i, ← append-assoc (placesOf s Anything 8 0) (familiesFrom s 0 0) (drop (length (placesOf s Anything 8 0) + length (familiesFrom s 0 0)) o), ← length-append (placesOf s Anything 8 0) (familiesFrom s 0 0), all-are)

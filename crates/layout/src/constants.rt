@@ -1,6 +1,6 @@
 // The constants of a record in byte order of their names: a sorted table of the places of their commands.
 use crate::handles::fill_places;
-use crate::table::arrange;
+use crate::table::arrange_few;
 use record::command::Constant;
 use record::command::constant_at;
 use record::cut::from;
@@ -17,7 +17,7 @@ fn fill_constants(stream: &[u8], pool: &[u8], table: &mut [u32], scratch: &mut [
     ensures { λ r. ⌜ ConstantsTable (now (stream .entry)) (now (pool .entry)) (take r (now (table .exit))) × (r ≤ length (now (stream .entry)) / 4) ⌝ }
 {
     let n = fill_places(stream, 2, table);
-    arrange(stream, pool, &mut table[..n], &mut scratch[..n])
+    arrange_few(stream, pool, &mut table[..n], &mut scratch[..n])
 }
 
 // The table of a record's constants at the front of `table`; and how many they are.

@@ -39,20 +39,49 @@ pub(crate) fn fill_places(stream: &[u8], number: u8, out: &mut [u32]) -> usize
     }
 }
 
-// The structures' handles at the front of the table, and how many they are; there is room for the families' after them.
-fn fill_structs(stream: &[u8], out: &mut [u32]) -> usize
-    requires { ⌜ (length (now stream) ≤ 32768) × Room (now stream) (now out) ⌝ }
-    ensures { λ r. ⌜ (r ≡ length (placesOf (now (stream .entry)) Anything 8 0)) × (now (out .exit) ≡ fronted (now (out .entry)) (placesOf (now (stream .entry)) Anything 8 0)) × (r + length (familiesFrom (now (stream .entry)) 0 0) ≤ length (now (stream .entry)) / 4) ⌝ }
-{
-    fill_places(stream, 8, out)
+// How many structures a record has, and the place of its first family; where there is none it is the stream's end.
+struct Structs {
+    n: usize,
+    family: usize,
 }
 
-// The families' handles, each followed by its variants'; `family` is one more than the place of the family whose variants may follow.
-fn fill_families(stream: &[u8], out: &mut [u32]) -> usize
-    requires { ⌜ (length (now stream) ≤ 32768) × (length (familiesFrom (now stream) 0 0) ≤ length (now out)) ⌝ }
-    ensures { λ r. ⌜ (r ≡ length (familiesFrom (now (stream .entry)) 0 0)) × (now (out .exit) ≡ fronted (now (out .entry)) (familiesFrom (now (stream .entry)) 0 0)) ⌝ }
+// The structures' handles at the front of the table, and where the families begin; there is room for the families' after them.
+fn fill_structs(stream: &[u8], out: &mut [u32]) -> Structs
+    requires { ⌜ (length (now stream) ≤ 32768) × Room (now stream) (now out) ⌝ }
+    ensures { λ r. ⌜ (r .n ≡ length (placesOf (now (stream .entry)) Anything 8 0)) × (now (out .exit) ≡ fronted (now (out .entry)) (placesOf (now (stream .entry)) Anything 8 0)) × (r .n + length (familiesFrom (now (stream .entry)) 0 (r .family)) ≤ length (now (stream .entry)) / 4) × (familiesFrom (now (stream .entry)) 0 0 ≡ familiesFrom (now (stream .entry)) 0 (r .family)) ⌝ }
 {
     let mut at = 0;
+    let mut family = stream.len();
+    let mut n = 0;
+    loop {
+        let after = after_at(stream, at);
+        if after == 0 {
+            return Structs { n, family };
+        }
+        let byte = byte_at(stream, at);
+        if byte == 8 {
+            out[n] = narrow(at);
+            n += 1;
+            at = after;
+        } else if byte == 9 {
+            if family == stream.len() {
+                family = at;
+                at = after;
+            } else {
+                at = after;
+            }
+        } else {
+            at = after;
+        }
+    }
+}
+
+// The families' handles from a place on, each followed by its variants'; `family` is one more than the place of the family whose variants may follow.
+fn fill_families(stream: &[u8], from: usize, out: &mut [u32]) -> usize
+    requires { ⌜ (length (now stream) ≤ 32768) × (length (familiesFrom (now stream) 0 from) ≤ length (now out)) ⌝ }
+    ensures { λ r. ⌜ (r ≡ length (familiesFrom (now (stream .entry)) 0 from)) × (now (out .exit) ≡ fronted (now (out .entry)) (familiesFrom (now (stream .entry)) 0 from)) ⌝ }
+{
+    let mut at = from;
     let mut family: u32 = 0;
     let mut n = 0;
     loop {
@@ -89,7 +118,8 @@ pub(crate) fn fill_handles(stream: &[u8], out: &mut [u32]) -> usize
     requires { ⌜ (length (now stream) ≤ 32768) × Room (now stream) (now out) ⌝ }
     ensures { λ r. ⌜ (r ≡ length (handlesOf (now (stream .entry)))) × (now (out .exit) ≡ fronted (now (out .entry)) (handlesOf (now (stream .entry)))) × (r ≤ length (now (stream .entry)) / 4) ⌝ }
 {
-    let n = fill_structs(stream, out);
-    let m = fill_families(stream, &mut out[n..]);
+    let structs = fill_structs(stream, out);
+    let n = structs.n;
+    let m = fill_families(stream, structs.family, &mut out[n..]);
     n + m
 }

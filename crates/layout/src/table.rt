@@ -55,7 +55,7 @@ fn arrange_lent(
 }
 
 // The same without fronts: a table of one entry has hardly one.
-pub(crate) fn arrange(stream: &[u8], pool: &[u8], handles: &mut [u32], scratch: &mut [u32]) -> usize
+fn arrange(stream: &[u8], pool: &[u8], handles: &mut [u32], scratch: &mut [u32]) -> usize
     requires { ⌜ (length (now scratch) ≡ length (now handles)) × (length (now handles) ≤ 65536) ⌝ }
     ensures { λ r. ⌜ (take r (now (handles .exit)) ≡ lasts (typeName (now (stream .entry)) (now (pool .entry))) (arranged (typeName (now (stream .entry)) (now (pool .entry))) (now (handles .entry)))) × (r ≤ length (now (handles .entry))) ⌝ }
 {
@@ -72,15 +72,20 @@ fn arrange_many(stream: &[u8], pool: &[u8], handles: &mut [u32], scratch: &mut [
     arrange_lent(stream, pool, &mut fronts, handles, scratch)
 }
 
-// The same for types, which often go up already.
-fn arrange_few(stream: &[u8], pool: &[u8], types: &mut [u32], scratch: &mut [u32]) -> usize
-    requires { ⌜ (length (now scratch) ≡ length (now types)) × (length (now types) ≤ 65536) ⌝ }
-    ensures { λ r. ⌜ (take r (now (types .exit)) ≡ lasts (typeName (now (stream .entry)) (now (pool .entry))) (arranged (typeName (now (stream .entry)) (now (pool .entry))) (now (types .entry)))) × (r ≤ length (now (types .entry))) ⌝ }
+// The same for types and constants, which often go up already.
+pub(crate) fn arrange_few(
+    stream: &[u8],
+    pool: &[u8],
+    handles: &mut [u32],
+    scratch: &mut [u32],
+) -> usize
+    requires { ⌜ (length (now scratch) ≡ length (now handles)) × (length (now handles) ≤ 65536) ⌝ }
+    ensures { λ r. ⌜ (take r (now (handles .exit)) ≡ lasts (typeName (now (stream .entry)) (now (pool .entry))) (arranged (typeName (now (stream .entry)) (now (pool .entry))) (now (handles .entry)))) × (r ≤ length (now (handles .entry))) ⌝ }
 {
-    if ascending(stream, pool, types) {
-        return types.len();
+    if ascending(stream, pool, handles) {
+        return handles.len();
     }
-    arrange(stream, pool, types, scratch)
+    arrange(stream, pool, handles, scratch)
 }
 
 // The same where there may be thousands of them; for a few a table of fronts costs more than it saves.

@@ -30,7 +30,7 @@ same-length c = search needs
 returns : tie.Need-returns
 returns c = (
   search all-count,
-  all-filled _ _ _ _ (c .before .before .before .before .before .before .fill-structs .ensures .0) _ (c .before .before .before .before .before .before .fill-structs .ensures .1) (search needs) (c .before .before .fill-families .ensures .1),
+  all-filled _ _ (c .before .before .before .before .before .before .fill-structs .ensures .0) _ (c .before .before .before .before .before .before .fill-structs .ensures .3) _ _ _ (c .before .before .before .before .before .before .fill-structs .ensures .1) (search needs) (c .before .before .fill-families .ensures .1),
   search needs,
 )
 
