@@ -30,11 +30,12 @@ use Rattle.record.proofs.IndexLaws.{Filling, fill-start, fill-end, fill
 
 -- the walk ---------------------------------------------------------------------------------------------------------------
 
+-- a command further
 reached-next : (s : Str) (m : ℕ) (c : Command) (k : Cursor) → stepAt s m ≡ Next c k → {at : ℕ} → Reached s m at → Reached s (k .at) at
 reached-next s m c k e (there p) = onward (ap (stepAt s) p ∙ e) (there refl)
 reached-next s m c k e (onward f r) = onward f (reached-next s m c k e r)
 
--- the same of a place up to which the commands are seen
+-- as `Before`, of the commands that are seen when the walk is at a place
 pub record BeforeTo (s : Str) (is : ℕ → Bool) (e at : ℕ) : Type 0 where
   reached : Reached s e 0
   same : (b : ℕ) → is b ≡ true → placesOf s Anything b e ≡ placesOf s Anything b at
@@ -89,7 +90,7 @@ module _ (s : Str) (at n : ℕ) (e : n ≡ afterAt s at) where
       keys = seen inKeys (r .keys) (h .reached) (h .keys);
     })
 
--- the same along the walk that fills the index
+-- the same with the index that the walk fills
 pub record Noting (s p : Str) (before x : List ℕ) (r : Ends) (at : ℕ) : Type 0 where
   pub filling : Filling s p before x at
   pub ends : EndsTo s r at

@@ -37,6 +37,7 @@ pub record Before (s : Str) (is : ℕ → Bool) (e : ℕ) : Type 0 where
   pub reached : Reached s e 0
   pub none : (b : ℕ) → is b ≡ true → placesOf s Anything b e ≡ []
 
+-- where each list of a record ends
 pub record EndsOf (s : Str) (r : Ends) : Type 0 where
   pub constants : Before s inConstants (r .constants)
   pub enums : Before s inEnums (r .enums)

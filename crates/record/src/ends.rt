@@ -66,7 +66,7 @@ fn no_ends() -> Ends
 }
 
 // Fills an index that has room for the record, and finds where its lists end.
-fn fill_room(stream: &[u8], pool: &[u8], index: &mut [u16]) -> Ends
+fn fill_both(stream: &[u8], pool: &[u8], index: &mut [u16]) -> Ends
     requires { ⌜ (length (now stream) ≤ 32768) × IndexRoom (now stream) (now index) ⌝ }
     ensures { λ r. ⌜ IndexedTo (now (stream .entry)) (now (pool .entry)) (now (index .exit)) r ⌝ }
 {
@@ -94,5 +94,5 @@ pub fn index_with_ends(stream: &[u8], pool: &[u8], index: &mut [u16]) -> Ends
     if index.len() <= 256 + stream.len() / 7 {
         return no_ends();
     }
-    fill_room(stream, pool, index)
+    fill_both(stream, pool, index)
 }

@@ -4,7 +4,7 @@ use Rattle.record.proofs.ends.index_with_ends.Statement.{statement}
 use Rattle.record.proofs.ends.index_with_ends.Tie as tie
 use Rattle.record.proofs.ends.index_with_ends.Reads as reads
 use Rattle.record.proofs.ends.index_with_ends.Lts as lts
-use Rattle.record.proofs.ends.fill_room.Reads as fill-room-reads
+use Rattle.record.proofs.ends.fill_both.Reads as fill-both-reads
 use Rattle.record.proofs.ends.no_ends.Reads as no-ends-reads
 
 -- src/ends.rt:92:9
@@ -28,8 +28,8 @@ returns-2 : tie.Need-returns-2
 returns-2 c = λ h r. absurd (omega (arith, c .before .if2 .taken))
 
 -- src/ends.rt:97:5
-fill-room-requires : tie.Need-fill-room-requires
-fill-room-requires c κs = search needs
+fill-both-requires : tie.Need-fill-both-requires
+fill-both-requires c κs = search needs
 
 -- src/ends.rt:88:1
 same-length : tie.Need-same-length
@@ -48,6 +48,6 @@ index-with-ends-spec =
     add-if2
     no-ends-requires-2
     returns-2
-    fill-room-requires
+    fill-both-requires
     same-length
     returns-3)

@@ -3,10 +3,10 @@ use lib.ListN.{length}
 use Rattle.record.proofs.SeekLaws.{after-nearer}
 use Rattle.record.proofs.EndLaws.{Noting, noting-on, noting-place, noting-entry, noting-laws}
 use borrow.Author.Needs.{needs}
-use Rattle.record.proofs.ends.fill_room.Statement.{statement}
-use Rattle.record.proofs.ends.fill_room.Tie as tie
-use Rattle.record.proofs.ends.fill_room.Reads as reads
-use Rattle.record.proofs.ends.fill_room.Lts as lts
+use Rattle.record.proofs.ends.fill_both.Statement.{statement}
+use Rattle.record.proofs.ends.fill_both.Tie as tie
+use Rattle.record.proofs.ends.fill_both.Reads as reads
+use Rattle.record.proofs.ends.fill_both.Lts as lts
 use Rattle.record.proofs.ends.no_ends.Reads as no-ends-reads
 use Rattle.record.proofs.ends.noted.Reads as noted-reads
 use Rattle.record.proofs.index.clear.Reads as clear-reads
@@ -66,8 +66,8 @@ loop-again c =
     noting-on _ _ _ _ _ _ _ (c .before .before .before .before .before .before .before .before .loop .inv) (c .before .before .before .before .before .before .before .after-at .ensures) (search needs) (search needs) _
     (c .before .before .before .before .put-declared .ensures) _ (c .before .byte-at .ensures) _ (c .noted .ensures)
 
-pub fill-room-spec : {M : Type 1} → statement M
-fill-room-spec =
+pub fill-both-spec : {M : Type 1} → statement M
+fill-both-spec =
     tie.close
     (tie.spec
     Inv-loop
