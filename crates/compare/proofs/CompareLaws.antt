@@ -41,7 +41,7 @@ use Rattle.definition.specs.Compare.{passList, firstOf, compare}
 use Rattle.verdicts.specs.Meaning.{meaning}
 use Rattle.verdicts.specs.declared.verdict.Verdict.{Verdict}
 
--- streams that are cut off where a list ends have the same list
+-- a stream that is cut off needs no more room
 module _ (r u : Str) (n : ℕ) (f : u ≡ take n r) where
   shorter : length u ≤ length r
   shorter = rw (f, length-take, min-comm) (min-le-left (length r) n)
@@ -52,6 +52,7 @@ module _ (r u : Str) (n : ℕ) (f : u ≡ take n r) where
   pub room-cut : (t : List ℕ) → Room r t → Room u t
   room-cut t h = let e = shorter in omega arith
 
+-- and where it is cut off after a list, it has the same list
 pub constants-cut : (r q : Str) (was : Ends) → EndsOf r was → (u : Str) → u ≡ take (was .constants) r → (p : Str) (v : Verdict) (ts : List Struct) (cs : List Const) → meaning p q v ≡ checkConstants ts cs (constantsAt u q 0)
     → meaning p q v ≡ checkConstants ts cs (constantsAt r q 0)
 constants-cut r q was j u f p v ts cs h = h ∙ ap (checkConstants ts cs) (constants-front r q u was j f)

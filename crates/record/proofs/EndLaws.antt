@@ -2,7 +2,7 @@
 use mathlib.Core.Path.{_≡_, refl, sym, ap, ap₂, subst, _∙_}
 use mathlib.Core.List.{List, [], _∷_, List·Memᴰ, List·Memᴰ·head, List·Memᴰ·not-nil}
 use mathlib.Core.Bool.{Bool, true, false, cond, false≢true}
-use Prim.Native.Nat.{ℕ, _+_, _-_, _≤_, _<_}
+use Prim.Native.Nat.{ℕ, _+_, _-_, _/_, _≤_, _<_}
 use native.Mathlib.Omega.{arith}
 use borrow.Author.Tests.{ne-eqb, eqb-true, eqb-false}
 use lib.Dec.{eqb}
@@ -14,8 +14,9 @@ use Rattle.record.specs.Lists.{listed, anything, nothing, aKey, constant
 use Rattle.record.specs.Steps.{constantsAt, enumsAt, bitfieldsAt, structsAt, unstoredAt}
 use Rattle.record.specs.Schema.{Key, Field, Struct}
 use Rattle.record.specs.Keys.{fieldKeys, pluginKeys}
+use Rattle.record.specs.Index.{putAt, IndexRoom, Headless}
 use Rattle.record.specs.Seek.{afterAt, overOf, placesOf}
-use Rattle.record.specs.Ends.{Reached, there, onward, inConstants, inEnums, inBitfields, inKeys, Before, EndsOf, noted}
+use Rattle.record.specs.Ends.{Reached, there, onward, inConstants, inEnums, inBitfields, inKeys, Before, EndsOf, noted, noEnds, IndexedTo}
 use Rattle.record.specs.declared.command.Cursor.{Cursor}
 use Rattle.record.specs.declared.command.Command.{Command}
 use Rattle.record.specs.declared.command.Step.the-variants.{Next}
@@ -25,14 +26,16 @@ use Rattle.record.proofs.CommandLaws.{step-end, step-next, text-same, o
 use Rattle.record.proofs.Stream.{step-found, along}
 use Rattle.record.proofs.ListLaws.{byteOf, byte-is, listed-stop, listed-here, listed-over, listed-end}
 use Rattle.record.proofs.SeekLaws.{Stepped, stepped, ended-there}
+use Rattle.record.proofs.IndexLaws.{Filling, fill-start, fill-end, fill-place, fill-entry, fill-on}
 
 -- the walk ---------------------------------------------------------------------------------------------------------------
 
+-- a command further
 reached-next : (s : Str) (m : ℕ) (c : Command) (k : Cursor) → stepAt s m ≡ Next c k → {at : ℕ} → Reached s m at → Reached s (k .at) at
 reached-next s m c k e (there p) = onward (ap (stepAt s) p ∙ e) (there refl)
 reached-next s m c k e (onward f r) = onward f (reached-next s m c k e r)
 
--- the same of a place up to which the commands are seen
+-- as `Before`, of the commands that are seen when the walk is at a place
 pub record BeforeTo (s : Str) (is : ℕ → Bool) (e at : ℕ) : Type 0 where
   reached : Reached s e 0
   same : (b : ℕ) → is b ≡ true → placesOf s Anything b e ≡ placesOf s Anything b at
@@ -44,14 +47,14 @@ pub record EndsTo (s : Str) (r : Ends) (at : ℕ) : Type 0 where
   pub bitfields : BeforeTo s inBitfields (r .bitfields) at
   pub keys : BeforeTo s inKeys (r .keys) at
 
-pub ends-start : (s : Str) → EndsTo s (record { constants = 0; enums = 0; bitfields = 0; keys = 0 }) 0
-ends-start s = record { reached = there refl; constants = nowhere inConstants; enums = nowhere inEnums; bitfields = nowhere inBitfields; keys = nowhere inKeys }
+ends-start : (s : Str) (r : Ends) → r ≡ noEnds → EndsTo s r 0
+ends-start s r h = rw h (record { reached = there refl; constants = nowhere inConstants; enums = nowhere inEnums; bitfields = nowhere inBitfields; keys = nowhere inKeys })
   where
     nowhere : (is : ℕ → Bool) → BeforeTo s is 0 0
     nowhere is = record { reached = there refl; same = λ b h. refl }
 
 module _ (s : Str) (at n : ℕ) (e : n ≡ afterAt s at) where
-  pub ends-end : n ≡ 0 → (r : Ends) → EndsTo s r at → EndsOf s r
+  ends-end : n ≡ 0 → (r : Ends) → EndsTo s r at → EndsOf s r
   unfolding placesOf
   ends-end z r h = record { constants = all (h .constants); enums = all (h .enums); bitfields = all (h .bitfields); keys = all (h .keys) }
     where
@@ -77,7 +80,7 @@ module _ (s : Str) (at n : ℕ) (e : n ≡ afterAt s at) where
         go true p = record { reached = reach r; same = λ b h. refl }
         go false p = record { reached = f .reached; same = λ b h. f .same b h ∙ passed b (λ q. false≢true (sym p ∙ ap is q ∙ h)) }
 
-    pub ends-on : (r q : Ends) → EndsTo s r at → q ≡ noted r y n → EndsTo s q n
+    ends-on : (r q : Ends) → EndsTo s r at → q ≡ noted r y n → EndsTo s q n
     unfolding noted
     ends-on r q h j = rw j (record {
       reached = reach (h .reached);
@@ -87,7 +90,30 @@ module _ (s : Str) (at n : ℕ) (e : n ≡ afterAt s at) where
       keys = seen inKeys (r .keys) (h .reached) (h .keys);
     })
 
-pub ruleset ends-laws = (ends-start, ends-end, ends-on)
+-- the same with the index that the walk fills
+pub record Noting (s p : Str) (before x : List ℕ) (r : Ends) (at : ℕ) : Type 0 where
+  pub filling : Filling s p before x at
+  pub ends : EndsTo s r at
+
+module _ (s p : Str) (before x : List ℕ) (r : Ends) where
+  pub noting-start : Headless before x → IndexRoom s before → r ≡ noEnds → Noting s p x x r 0
+  noting-start c h e = record { filling = fill-start s p before x c h; ends = ends-start s r e }
+
+  module _ (at n : ℕ) (f : Noting s p before x r at) (e : n ≡ afterAt s at) where
+    pub noting-end : n ≡ 0 → IndexedTo s p x r
+    noting-end z = record { index = fill-end s p before x at (f .filling) n e z; ends = ends-end s at n e z r (f .ends) }
+
+    module _ (z : n ≡ 0 → ⊥) (small : length s ≤ 32768) where
+      pub noting-place : at < 32768
+      noting-place = fill-place s p before x at (f .filling) n e z small
+
+      pub noting-entry : 256 + at / 7 < length x
+      noting-entry = fill-entry s p before x at (f .filling) n e z small
+
+      pub noting-on : (to : List ℕ) → to ≡ putAt s p x at → (y : ℕ) → y ≡ getD s at 0 → (q : Ends) → q ≡ noted r y n → Noting s p before to q n
+      noting-on to g y i q j = record { filling = fill-on s p before x at (f .filling) n e z small to g; ends = ends-on s at n e z y i r q (f .ends) j }
+
+pub ruleset noting-laws = (noting-start, noting-end, noting-on)
 
 -- noted ------------------------------------------------------------------------------------------------------------------
 

@@ -1,12 +1,13 @@
 -- Where the lists of a record end, as the code keeps it. Assumes nothing.
 use mathlib.Core.Path.{_≡_}
-use mathlib.Core.List.{[]}
+use mathlib.Core.List.{List, []}
 use mathlib.Core.Bool.{Bool, true, _||_, cond}
 use Prim.Native.Nat.{ℕ}
 use lib.Dec.{eqb}
 use Rattle.record.specs.Base.{Str}
 use Rattle.record.specs.Commands.{stepAt}
 use Rattle.record.specs.Seek.{placesOf}
+use Rattle.record.specs.Index.{Indexed}
 use Rattle.record.specs.declared.command.Command.{Command}
 use Rattle.record.specs.declared.command.Cursor.{Cursor}
 use Rattle.record.specs.declared.command.Step.the-variants.{Next}
@@ -36,6 +37,7 @@ pub record Before (s : Str) (is : ℕ → Bool) (e : ℕ) : Type 0 where
   pub reached : Reached s e 0
   pub none : (b : ℕ) → is b ≡ true → placesOf s Anything b e ≡ []
 
+-- where each list of a record ends
 pub record EndsOf (s : Str) (r : Ends) : Type 0 where
   pub constants : Before s inConstants (r .constants)
   pub enums : Before s inEnums (r .enums)
@@ -50,3 +52,12 @@ noted r b k = record {
   bitfields = cond (inBitfields b) k (r .bitfields);
   keys = cond (inKeys b) k (r .keys);
 }
+
+-- the ends where no command is seen
+abbrev pub noEnds : Ends
+noEnds = record { constants = 0; enums = 0; bitfields = 0; keys = 0 }
+
+-- the index of a record and the ends of its lists
+pub record IndexedTo (s p : Str) (x : List ℕ) (r : Ends) : Type 0 where
+  pub index : Indexed s p x
+  pub ends : EndsOf s r

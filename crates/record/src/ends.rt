@@ -1,8 +1,13 @@
 // Where the lists of a record end: a walk over the commands of some numbers need not go on to the end of the stream.
+use crate::index::clear;
+use crate::index::put_declared;
 use crate::le::byte_at;
 use crate::seek::after_at;
 ghost use mathlib.Core.Path.{_≡_};
-ghost use Rattle.record.specs.Ends.{EndsOf, noted};
+ghost use Prim.Native.Nat.{_≤_};
+ghost use lib.ListN.{length};
+ghost use Rattle.record.specs.Index.{IndexRoom};
+ghost use Rattle.record.specs.Ends.{noted, noEnds, IndexedTo};
 
 // The place after the last command of each list; 0 where there is none.
 pub struct Ends {
@@ -48,23 +53,46 @@ fn noted(ends: Ends, number: u8, after: usize) -> Ends
     out
 }
 
-// The ends of a record's lists.
-pub fn ends_of(stream: &[u8]) -> Ends
-    ensures { λ r. ⌜ EndsOf (now (stream .entry)) r ⌝ }
+// The ends where no command is seen.
+fn no_ends() -> Ends
+    ensures { λ r. ⌜ r ≡ noEnds ⌝ }
 {
-    let mut ends = Ends {
+    Ends {
         constants: 0,
         enums: 0,
         bitfields: 0,
         keys: 0,
-    };
+    }
+}
+
+// Fills an index that has room for the record, and finds where its lists end.
+fn fill_both(stream: &[u8], pool: &[u8], index: &mut [u16]) -> Ends
+    requires { ⌜ (length (now stream) ≤ 32768) × IndexRoom (now stream) (now index) ⌝ }
+    ensures { λ r. ⌜ IndexedTo (now (stream .entry)) (now (pool .entry)) (now (index .exit)) r ⌝ }
+{
+    clear(index);
+    let mut ends = no_ends();
     let mut at = 0;
     loop {
         let after = after_at(stream, at);
         if after == 0 {
             return ends;
         }
+        put_declared(stream, pool, index, at);
         ends = noted(ends, byte_at(stream, at), after);
         at = after;
     }
+}
+
+// Fills the index of a record, and finds where its lists end in the same walk: a check needs both.
+pub fn index_with_ends(stream: &[u8], pool: &[u8], index: &mut [u16]) -> Ends
+    ensures { λ r. ⌜ (length (now (stream .entry)) ≤ 32768 → IndexRoom (now (stream .entry)) (now (index .entry)) → IndexedTo (now (stream .entry)) (now (pool .entry)) (now (index .exit)) r) ⌝ }
+{
+    if 32768 < stream.len() {
+        return no_ends();
+    }
+    if index.len() <= 256 + stream.len() / 7 {
+        return no_ends();
+    }
+    fill_both(stream, pool, index)
 }

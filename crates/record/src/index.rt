@@ -100,7 +100,7 @@ fn link_before(index: &[u16], place: usize) -> usize
 }
 
 // Takes every number's place away.
-fn clear(index: &mut [u16])
+pub(crate) fn clear(index: &mut [u16])
     requires { ⌜ 256 ≤ length (now index) ⌝ }
     ensures { λ _. ⌜ Headless (now (index .entry)) (now (index .exit)) ⌝ }
 {
@@ -121,7 +121,7 @@ fn put(index: &mut [u16], hash: usize, place: usize)
 }
 
 // Puts the command at a place into the index, where it declares a name.
-fn put_declared(stream: &[u8], pool: &[u8], index: &mut [u16], at: usize)
+pub(crate) fn put_declared(stream: &[u8], pool: &[u8], index: &mut [u16], at: usize)
     requires { ⌜ (at < 32768) × (256 + at / 7 < length (now index)) ⌝ }
     ensures { λ _. ⌜ now (index .exit) ≡ putAt (now (stream .entry)) (now (pool .entry)) (now (index .entry)) at ⌝ }
 {

@@ -7,15 +7,6 @@ use Rattle.compare.proofs.compare.check_declared.Lts as lts
 use Rattle.compare.proofs.compare.check_bits.Reads as check-bits-reads
 use Rattle.compare.proofs.compare.check_numbers.Reads as check-numbers-reads
 use Rattle.compare.proofs.first_releases.check_first_releases.Reads as check-first-releases-reads
-use Rattle.record.proofs.ends.ends_of.Reads as ends-of-reads
-
--- src/compare.rt:119:9
-ends-of-requires : tie.Need-ends-of-requires
-ends-of-requires c κs = search needs
-
--- src/compare.rt:120:9
-ends-of-requires-2 : tie.Need-ends-of-requires-2
-ends-of-requires-2 c κs = search needs
 
 -- src/compare.rt:111:9
 check-first-releases-requires : tie.Need-check-first-releases-requires
@@ -67,8 +58,6 @@ pub check-declared-spec : {M : Type 1} → statement M
 check-declared-spec =
     tie.close
     (tie.spec
-    ends-of-requires
-    ends-of-requires-2
     check-first-releases-requires
     enum-told
     returns

@@ -9,7 +9,7 @@ use Rattle.compare.proofs.compare.check_tables.Reads as check-tables-re
 
 -- src/compare.rt:232:9
 check-declared-requires : tie.Need-check-declared-requires
-check-declared-requires c κs = search needs
+check-declared-requires c κs = (search needs, search needs, search needs, search needs, search needs, search needs, search needs)
 
 -- src/compare.rt:250:13
 enum-told : tie.Need-enum-told

@@ -5,21 +5,21 @@ use Rattle.compare.proofs.compare.check_lent.Tie as tie
 use Rattle.compare.proofs.compare.check_lent.Reads as reads
 use Rattle.compare.proofs.compare.check_lent.Lts as lts
 use Rattle.compare.proofs.compare.check_indexed.Reads as check-indexed-reads
-use Rattle.record.proofs.index.fill_index.Reads as fill-index-reads
+use Rattle.record.proofs.ends.index_with_ends.Reads as index-with-ends-reads
 
 -- src/compare.rt:287:5
-fill-index-requires : tie.Need-fill-index-requires
-fill-index-requires c κs = search needs
+index-with-ends-requires : tie.Need-index-with-ends-requires
+index-with-ends-requires c κs = search needs
 
 -- src/compare.rt:288:5
-fill-index-requires-2 : tie.Need-fill-index-requires-2
-fill-index-requires-2 c κs = search needs
+index-with-ends-requires-2 : tie.Need-index-with-ends-requires-2
+index-with-ends-requires-2 c κs = search needs
 
 -- src/compare.rt:289:5
 check-indexed-requires : tie.Need-check-indexed-requires
 check-indexed-requires c κs =
     let pre = c .before .before .before .before .before .before .before .before .before .before .before .before .before .before .before .before .before .before .before .before .before .before .before .before .before .before .before .before .before .pre in
-    (search needs, search needs, search needs, search needs, search needs, search needs, search needs, search needs, search needs, search needs, search needs, search needs, c .before .before .before .before .before .before .before .before .before .before .before .before .before .before .fill-index .ensures (pre .0) (omega (arith, pre .12)), c .before .before .before .before .before .before .before .before .before .before .fill-index2 .ensures (pre .2) (omega (arith, pre .13)))
+    (search needs, search needs, search needs, search needs, search needs, search needs, search needs, search needs, search needs, search needs, search needs, search needs, c .before .before .before .before .before .before .before .before .before .before .before .before .before .before .index-with-ends .ensures (pre .0) (omega (arith, pre .12)) .index, c .before .before .before .before .before .before .before .before .before .before .index-with-ends2 .ensures (pre .2) (omega (arith, pre .13)) .index, c .before .before .before .before .before .before .before .before .before .before .before .before .before .before .index-with-ends .ensures (pre .0) (omega (arith, pre .12)) .ends, c .before .before .before .before .before .before .before .before .before .before .index-with-ends2 .ensures (pre .2) (omega (arith, pre .13)) .ends)
 
 -- src/compare.rt:267:1
 same-length : tie.Need-same-length
@@ -61,8 +61,8 @@ pub check-lent-spec : {M : Type 1} → statement M
 check-lent-spec =
     tie.close
     (tie.spec
-    fill-index-requires
-    fill-index-requires-2
+    index-with-ends-requires
+    index-with-ends-requires-2
     check-indexed-requires
     same-length
     same-length-2
