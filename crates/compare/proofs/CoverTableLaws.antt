@@ -1,6 +1,6 @@
 -- The table of what covers each type: how it is read, and that it says what the definition does. Assumes nothing.
 use Prim.Native.Nat.{ℕ, suc, _+_, _-_, _≤_, _<_, _/_, _%_}
-use mathlib.Core.Path.{_≡_, refl, sym, ap, subst, _∙_}
+use mathlib.Core.Path.{_≡_, refl, sym, ap, _∙_}
 use mathlib.Core.List.{List, [], _∷_, map}
 use mathlib.Core.Option.{Option, none, some}
 use mathlib.Core.Bool.{Bool, true, false, _&&_, not, cond}
@@ -25,19 +25,15 @@ use Rattle.record.proofs.LeadLaws.{led-none}
 use Rattle.layout.specs.Layout.{TypeLayout, types, typeIn}
 use Rattle.layout.specs.Handles.{typeName, layoutOf}
 use Rattle.layout.specs.Names.{nameOf, stretchesOf}
-use Rattle.layout.specs.Table.{Typed, FoundType}
-use Rattle.layout.specs.Tables.{Tables}
+use Rattle.layout.specs.Table.{TypesTable}
 use Rattle.layout.specs.declared.names.TypeName.{TypeName}
-use Rattle.layout.specs.declared.table.TypeFound.{TypeFound}
-use Rattle.layout.specs.declared.table.TypeFound.the-variants.{NoType, At}
 use Rattle.layout.proofs.NameLaws.{stretches-read}
 use Rattle.definition.specs.Verdicts as D
 use Rattle.definition.specs.Verdicts.{uncovered}
 use Rattle.definition.specs.Pass.{_then_, ensure, each, onFound}
-use Rattle.definition.specs.Fields.{eqPlaces, sameAs, changed}
+use Rattle.definition.specs.Fields.{sameAs, changed}
 use Rattle.definition.specs.Coverage.{owning, standsAlone, checkCovered, checkAllCovered, under, firstUnder}
-use Rattle.compare.proofs.FieldLaws.{found-typed}
-use Rattle.compare.specs.CoverTable.{coverIn, coverFor, stretchIn, coverMeant, Owners, Knows, changedTypes, Unchanged, Changes, Entered, CoverTable, firstUncovered, isUnder, firstTouched, touchedName, touchedBy}
+use Rattle.compare.specs.CoverTable.{coverIn, coverFor, stretchIn, coverMeant, Owners, Knows, changedTypes, Changes, Entered, CoverTable, firstUncovered, isUnder, firstTouched, touchedName, touchedBy}
 use Rattle.verdicts.specs.Meaning.{meaning}
 use Rattle.verdicts.specs.declared.verdict.Verdict.{Verdict}
 use Rattle.verdicts.specs.declared.verdict.Verdict.the-variants.{Passed, Uncovered}
@@ -218,70 +214,6 @@ module _ (s p : Str) (w : List Scalar) (was : List TypeLayout) where
 
 -- the table is filled -----------------------------------------------------------------------------------------------------
 
--- a type against the released one of its name
-module _ (s p b q : Str) (w : List Scalar) (h : ℕ) (t z₀ : List ℕ) (o : TypeFound) (y : Tables (rec b q w) t z₀) (f : FoundType b q t (typeName s p h) o) where
-  pub same-typed : (i g : ℕ) → o ≡ At i → g ≡ getD t i 0 → Typed b g
-  same-typed i g e d = subst (λ (x : ℕ). Typed b x) (sym d) (found-typed b q (typeName s p h) t o i (y .types) f e)
-
-  pub same-none : o ≡ NoType → false ≡ sameAs (typeIn (typeName s p h) (types (schemaOf (rec b q w)))) (layoutOf (rec s p w) h)
-  unfolding sameAs
-  same-none e = rw (f .layout (y .types) w, e)
-
-  pub same-found : (i g : ℕ) (r : Bool) → o ≡ At i → g ≡ getD t i 0 → r ≡ eqPlaces (layoutOf (rec b q w) g .fields) (layoutOf (rec s p w) h .fields)
-      → r ≡ sameAs (typeIn (typeName s p h) (types (schemaOf (rec b q w)))) (layoutOf (rec s p w) h)
-  unfolding sameAs
-  same-found i g r e d k = rw (f .layout (y .types) w, e, ← d) k
-
--- the table's handles are of types
-pub handle-typed : (s p : Str) (w : List Scalar) (t z : List ℕ) (i h : ℕ) → Tables (rec s p w) t z → i < length t → h ≡ getD t i 0 → Typed s h
-handle-typed s p w t z i h o l e = subst (λ (x : ℕ). Typed s x) (sym e) (o .types .typed i l)
-
--- below an index 0 stands for each type that is as it was
-pub record Changing (r r₀ : Rec) (t m₀ m : List ℕ) (i : ℕ) : Type 0 where
-  pub below : (j : ℕ) → j < i → eqb (getD m j 0) 0 ≡ sameAs (typeIn (typeName (r .stream) (r .pool) (getD t j 0)) (types (schemaOf r₀))) (layoutOf r (getD t j 0))
-  pub above : (j : ℕ) → i ≤ j → getD m j 0 ≡ getD m₀ j 0
-  pub room : length t ≤ length m
-  pub long : length m ≡ length m₀
-
-pub changing-start : (r r₀ : Rec) (t m : List ℕ) → length t ≤ length m → Changing r r₀ t m m 0
-changing-start r r₀ t m l = record { below = λ j h. absurd (omega arith); above = λ j h. refl; room = l; long = refl }
-
-module _ (r r₀ : Rec) (t m₀ m : List ℕ) (i : ℕ) (c : Changing r r₀ t m₀ m i) where
-  pub changing-end : length t ≤ i → Changes r r₀ t m
-  changing-end l = record { same = λ j h. c .below j (omega arith) }
-
-  module _ (l : i < length t) (h : ℕ) (e : h ≡ getD t i 0) (y : Bool) (f : y ≡ sameAs (typeIn (typeName (r .stream) (r .pool) h) (types (schemaOf r₀))) (layoutOf r h)) where
-    changing-next : (n : ℕ) → eqb n 0 ≡ y → Changing r r₀ t m₀ (set m i n) (i + 1)
-    changing-next n g = record {
-      below = λ j k. go j k (eqb j i) refl;
-      above = λ j k. getD-set-other m i j n 0 (λ d. omega arith) ∙ c .above j (omega arith);
-      room = let o = c .room in rw length-set (omega arith);
-      long = rw length-set (c .long);
-    }
-      where
-        go : (j : ℕ) → j < i + 1 → (v : Bool) → eqb j i ≡ v → eqb (getD (set m i n) j 0) 0 ≡ sameAs (typeIn (typeName (r .stream) (r .pool) (getD t j 0)) (types (schemaOf r₀))) (layoutOf r (getD t j 0))
-        go j k true d =
-            let o = c .room in
-            rw (eqb-true j i d, getD-set-same m i n 0 (omega arith), ← e) (g ∙ f)
-        go j k false d =
-            let a : j ≡ i → ⊥ = eqb-false j i d in
-            rw (getD-set-other m i j n 0 a) (c .below j (omega arith))
-
-    -- an entry that stays
-    pub changing-same : getD m i 0 ≡ 0 → y ≡ true → Changing r r₀ t m₀ m (i + 1)
-    changing-same z g = record { below = λ j k. go j k (eqb j i) refl; above = λ j k. c .above j (omega arith); room = c .room; long = c .long }
-      where
-        go : (j : ℕ) → j < i + 1 → (v : Bool) → eqb j i ≡ v → eqb (getD m j 0) 0 ≡ sameAs (typeIn (typeName (r .stream) (r .pool) (getD t j 0)) (types (schemaOf r₀))) (layoutOf r (getD t j 0))
-        go j k true d = rw (eqb-true j i d, z, ← e) (sym g ∙ f)
-        go j k false d = let a : j ≡ i → ⊥ = eqb-false j i d in c .below j (omega arith)
-
-    pub changing-other : y ≡ false → Changing r r₀ t m₀ (set m i 1) (i + 1)
-    changing-other g = changing-next 1 (sym g)
-
-  -- an entry that is not reached yet says what it said
-  pub changing-known : i < length t → Unchanged r r₀ t m₀ → (getD m i 0 ≡ 0 → ⊥) → Changing r r₀ t m₀ (set m i 0) (i + 1)
-  changing-known l u z = changing-next l (getD t i 0) refl true (u .same i l (λ k. z (c .above i (omega arith) ∙ k))) 0 refl
-
 -- below an index the entries are filled, and the last that was found is known
 pub record Entering (s p : Str) (t m₀ m : List ℕ) (i : ℕ) (last : Last) : Type 0 where
   pub none : (j : ℕ) → j < i → getD m₀ j 0 ≡ 0 → getD m j 0 ≡ 0
@@ -361,14 +293,14 @@ cover-filled s p b q w t m n c e = record { entries = λ i l. go i l (eqb (getD 
 
 -- the pass asks the table ----------------------------------------------------------------------------------------------------
 
-module _ (s p b q : Str) (w : List Scalar) (t z m : List ℕ) (o : Tables (rec s p w) t z) (c : CoverTable (rec s p w) (rec b q w) t m) where
+module _ (s p b q : Str) (w : List Scalar) (t m : List ℕ) (o : TypesTable s p t) (c : CoverTable (rec s p w) (rec b q w) t m) where
   pub covered-table : meaning p q (firstUncovered s t m) ≡ checkAllCovered (typesAt s p) (changedTypes (rec s p w) (rec b q w))
   covered-table =
       covered-are s p w (types (schemaOf (rec b q w))) q t m (c .entries)
-      ∙ ap (λ (l : List TypeLayout). checkAllCovered (typesAt s p) (changed l (types (schemaOf (rec b q w))))) (o .types .layouts w)
+      ∙ ap (λ (l : List TypeLayout). checkAllCovered (typesAt s p) (changed l (types (schemaOf (rec b q w))))) (o .layouts w)
 
   pub touched-table : touchedBy s p t m ≡ firstUnder (typesAt s p) (changedTypes (rec s p w) (rec b q w))
   unfolding touchedBy firstUnder
   touched-table =
       (λ i root. touched-are s p w (types (schemaOf (rec b q w))) root t m (c .entries) i)
-      ∙ ap (λ (l : List TypeLayout). firstUnder (typesAt s p) (changed l (types (schemaOf (rec b q w))))) (o .types .layouts w)
+      ∙ ap (λ (l : List TypeLayout). firstUnder (typesAt s p) (changed l (types (schemaOf (rec b q w))))) (o .layouts w)

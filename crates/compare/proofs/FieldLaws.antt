@@ -2,9 +2,8 @@
 use Prim.Native.Nat.{ℕ, suc, _+_, _≤_, _<_}
 use mathlib.Core.Path.{_≡_, refl, sym, ap, subst, _∙_}
 use mathlib.Core.List.{List, [], map}
-use mathlib.Core.Option.{some}
 use mathlib.Core.Bool.{Bool, true, false}
-use mathlib.Core.Logic.{_⊎_, inl, inr, ⊎-elim}
+use mathlib.Core.Logic.{_⊎_, inl, inr}
 use native.Mathlib.Omega.{arith}
 use lib.Dec.{eqb}
 use lib.ListN.{length, getD, set, drop, drop-of-length-le}
@@ -32,22 +31,22 @@ use Rattle.layout.specs.declared.spots.SpotStep.the-variants.{NoSpot, ASpot}
 use Rattle.layout.specs.declared.table.TypeFound.{TypeFound}
 use Rattle.layout.specs.declared.table.TypeFound.the-variants.{NoType, At}
 use Rattle.layout.proofs.NameLaws.{stretches-read}
-use Rattle.layout.proofs.TableLaws.{own-type, found-name}
+use Rattle.layout.proofs.TableLaws.{own-type, no-type, one-name, found-name}
 use Rattle.layout.proofs.SpotLaws.{spots-over-now, spots-now, spots-sound}
 use Rattle.layout.proofs.LineLaws.{drop-next}
-use Rattle.definition.specs.Verdicts.{moved, resized}
+use Rattle.definition.specs.Verdicts.{moved, resized, uncovered}
 use Rattle.definition.specs.Pass.{_then_, ensure, onFound}
 use Rattle.definition.specs.Fields.{placeIn, checkKept, checkPlace, checkPlaces, checkType, checkFields, eqPlaces, sameAs}
 use Rattle.definition.proofs.Same.{eqPlaces→eq}
-use Rattle.compare.proofs.LayoutLaws.{fields-same, bare-both}
+use Rattle.compare.proofs.LayoutLaws.{fields-same}
 use Rattle.compare.specs.Layouts.{typesOf, spotFound}
 use Rattle.compare.specs.Alike.{AlikePassed}
 use Rattle.compare.specs.Kept.{Kept}
-use Rattle.compare.specs.CoverTable.{Unchanged, Blank, Marked}
+use Rattle.compare.specs.CoverTable.{entryOf, Ones, TypeNoted, Changes}
 use Rattle.verdicts.specs.Meaning.{meaning}
 use Rattle.verdicts.specs.declared.verdict.Verdict.{Verdict}
 use Rattle.verdicts.specs.declared.verdict.Verdict.the-variants.{Passed, TypeGone, FieldGone, Moved, Resized, Redescribed}
-use Rattle.verdicts.proofs.VerdictLaws.{violated}
+use Rattle.verdicts.proofs.VerdictLaws.{violated, stays}
 use Rattle.verdicts.proofs.Each.{each-end, each-on, each-stop}
 
 -- a field against the one of its name
@@ -124,42 +123,35 @@ cursor-sound s p w z h c y x e k = k .sound y p w z x e
 
 -- entries of a table that are put
 
-pub blank-start : (m : List ℕ) → Blank 0 m
-blank-start m = record { none = λ j h. absurd (omega arith) }
+pub ones-start : (m : List ℕ) → Ones 0 m
+ones-start m = record { one = λ j h. absurd (omega arith) }
 
-module _ (i : ℕ) (m : List ℕ) (b : Blank i m) where
-  pub blank-on : (n : ℕ) → i < n → n ≤ length m → Blank (i + 1) (set m i 0)
-  blank-on n k l = record { none = λ j h. go j h (eqb j i) refl }
+module _ (i : ℕ) (m : List ℕ) (b : Ones i m) where
+  pub ones-on : (n : ℕ) → i < n → n ≤ length m → Ones (i + 1) (set m i 1)
+  ones-on n k l = record { one = λ j h. go j h (eqb j i) refl }
     where
-      go : (j : ℕ) → j < i + 1 → (v : Bool) → eqb j i ≡ v → getD (set m i 0) j 0 ≡ 0
-      go j h true e = ap (λ (k : ℕ). getD (set m i 0) k 0) (eqb-true j i e) ∙ getD-set-same m i 0 0 (omega arith)
-      go j h false e = let a : j ≡ i → ⊥ = eqb-false j i e in getD-set-other m i j 0 0 a ∙ b .none j (omega arith)
+      go : (j : ℕ) → j < i + 1 → (v : Bool) → eqb j i ≡ v → getD (set m i 1) j 0 ≡ 1
+      go j h true e = ap (λ (k : ℕ). getD (set m i 1) k 0) (eqb-true j i e) ∙ getD-set-same m i 1 0 (omega arith)
+      go j h false e = let a : j ≡ i → ⊥ = eqb-false j i e in getD-set-other m i j 1 0 a ∙ b .one j (omega arith)
 
-  pub blank-end : (n : ℕ) → n ≤ i → Blank n m
-  blank-end n h = record { none = λ j k. b .none j (omega arith) }
+  pub ones-end : (n : ℕ) → n ≤ i → Ones n m
+  ones-end n h = record { one = λ j k. b .one j (omega arith) }
 
-pub marked-not : (i : ℕ) (m : List ℕ) (P : Type 0) → Marked i m m P
-marked-not i m P = record { entries = λ j z. inl z }
+module _ (m : List ℕ) (i : ℕ) (t v : Bool) (e : t ≡ v) where
+  pub noted-same : t ≡ true → set m i 0 ≡ set m i (entryOf v)
+  noted-same h = ap (λ (x : Bool). set m i (entryOf x)) (sym h ∙ e)
 
-marked-put : (i : ℕ) (m : List ℕ) (P : Type 0) → P → Marked i m (set m i 1) P
-marked-put i m P x = record { entries = λ j z. go j z (eqb j i) refl }
-  where
-    go : (j : ℕ) → (getD (set m i 1) j 0 ≡ 0 → ⊥) → (v : Bool) → eqb j i ≡ v → (getD m j 0 ≡ 0 → ⊥) ⊎ ((j ≡ i) × P)
-    go j z true e = inr (eqb-true j i e, x)
-    go j z false e = inl (λ k. z (getD-set-other m i j 1 0 (eqb-false j i e) ∙ k))
+  pub noted-other : t ≡ false → set m i 1 ≡ set m i (entryOf v)
+  noted-other h = ap (λ (x : Bool). set m i (entryOf x)) (sym h ∙ e)
 
-marked-so : (i : ℕ) (m n : List ℕ) (P Q : Type 0) → (P → Q) → Marked i m n P → Marked i m n Q
-marked-so i m n P Q f k = record { entries = λ j z. ⊎-elim (λ a. inl a) (λ a. inr (a .0, f (a .1))) (k .entries j z) }
+pub noted-bare : (s p b q : Str) (w : List Scalar) (c c₀ : SpotCursor) (t : Bool) (m : List ℕ) (i : ℕ)
+    → (t ≡ true → (p₀ q₀ : Str) (w₀ : List Scalar) → eqPlaces (placesFrom (rec s p₀ w₀) c) (placesFrom (rec b q₀ w₀) c₀) ≡ true) → t ≡ true
+    → set m i 0 ≡ set m i (entryOf (eqPlaces (placesFrom (rec s p w) c) (placesFrom (rec b q w) c₀)))
+noted-bare s p b q w c c₀ t m i f e = ap (λ (x : Bool). set m i (entryOf x)) (sym (f e p q w))
 
-marked-then : (i : ℕ) (l m n : List ℕ) (P : Type 0) → Marked i l m P → Marked i m n P → Marked i l n P
-marked-then i l m n P j k = record { entries = λ a z. ⊎-elim (λ y. j .entries a y) (λ y. inr y) (k .entries a z) }
+pub ruleset note-laws = (noted-bare, noted-same, noted-other)
 
--- types whose fields are all passed over
-
-pub bare-marked : (s b : Str) (c c₀ : SpotCursor) (t u : Bool) (i : ℕ) (m : List ℕ) → (t ≡ true → (p : Str) (w : List Scalar) → placesFrom (rec s p w) c ≡ []) → t ≡ true
-    → (u ≡ true → (p : Str) (w : List Scalar) → placesFrom (rec b p w) c₀ ≡ []) → u ≡ true
-    → Marked i m (set m i 1) ((p q : Str) (w : List Scalar) → eqPlaces (placesFrom (rec s p w) c) (placesFrom (rec b q w) c₀) ≡ true)
-bare-marked s b c c₀ t u i m f e g h = marked-put i m _ (bare-both s b c c₀ t u f e g h)
+-- fields that are passed over
 
 module _ (s p b q : Str) (w : List Scalar) (z y : List ℕ) (c c₀ d d₀ : SpotCursor) (f : Sound (rec s p w) z c) (f₀ : Sound (rec b q w) y c₀) where
   pub rest-bare : (n : Str) (t : Bool) → Kept s p z c b q y c₀ d₀ → (t ≡ true → (q₀ : Str) (w₀ : List Scalar) → placesFrom (rec b q₀ w₀) d₀ ≡ []) → t ≡ true
@@ -167,19 +159,13 @@ module _ (s p b q : Str) (w : List Scalar) (z y : List ℕ) (c c₀ d d₀ : Spo
   unfolding checkPlaces
   rest-bare n t k g e = sym (k .same w f f₀ n ∙ each-end _ _ p q (g e q w))
 
-  pub rest-marked : (i : ℕ) (m n : List ℕ) → AlikePassed s p z b q y c c₀ d d₀
-      → Marked i m n ((p₀ q₀ : Str) (w₀ : List Scalar) → eqPlaces (placesFrom (rec s p₀ w₀) d) (placesFrom (rec b q₀ w₀) d₀) ≡ true)
-      → Marked i m n (eqPlaces (placesFrom (rec s p w) c) (placesFrom (rec b q w) c₀) ≡ true)
-  rest-marked i m n o k = marked-so i m n _ _ (λ g. o .same w f f₀ ∙ g p q w) k
+  pub rest-noted : (i : ℕ) (m n : List ℕ) → AlikePassed s p z b q y c c₀ d d₀ → n ≡ set m i (entryOf (eqPlaces (placesFrom (rec s p w) d) (placesFrom (rec b q w) d₀)))
+      → n ≡ set m i (entryOf (eqPlaces (placesFrom (rec s p w) c) (placesFrom (rec b q w) c₀)))
+  rest-noted i m n o e = e ∙ ap (λ (x : Bool). set m i (entryOf x)) (sym (o .same w f f₀))
 
-module _ (s p b q : Str) (w : List Scalar) (h h₀ : ℕ) (c c₀ : SpotCursor) (y : Typed s h) (y₀ : Typed b h₀) (k : TypeSpots s h c) (k₀ : TypeSpots b h₀ c₀) (i : ℕ) (l m : List ℕ)
-    (j : Marked i l m ((p₀ q₀ : Str) (w₀ : List Scalar) → eqPlaces (placesFrom (rec s p₀ w₀) c) (placesFrom (rec b q₀ w₀) c₀) ≡ true)) where
-  pub layout-bare : Marked i l m (eqPlaces (layoutOf (rec s p w) h .fields) (layoutOf (rec b q w) h₀ .fields) ≡ true)
-  layout-bare = marked-so i l m _ _ (λ g. sym (fields-same s p b q w h h₀ c c₀ true y y₀ k k₀ (sym (g p q w)))) j
-
-  pub layout-marked : (n : List ℕ) → Marked i m n (eqPlaces (placesFrom (rec s p w) c) (placesFrom (rec b q w) c₀) ≡ true)
-      → Marked i l n (eqPlaces (layoutOf (rec s p w) h .fields) (layoutOf (rec b q w) h₀ .fields) ≡ true)
-  layout-marked n g = marked-then i l m n _ layout-bare (marked-so i m n _ _ (λ e. sym (fields-same s p b q w h h₀ c c₀ true y y₀ k k₀ (sym e))) g)
+pub layout-noted : (s p b q : Str) (w : List Scalar) (h h₀ : ℕ) (c c₀ : SpotCursor) (i : ℕ) (m n : List ℕ) → Typed s h → Typed b h₀ → TypeSpots s h c → TypeSpots b h₀ c₀
+    → n ≡ set m i (entryOf (eqPlaces (placesFrom (rec s p w) c) (placesFrom (rec b q w) c₀))) → n ≡ set m i (entryOf (eqPlaces (layoutOf (rec s p w) h .fields) (layoutOf (rec b q w) h₀ .fields)))
+layout-noted s p b q w h h₀ c c₀ i m n y y₀ k k₀ e = e ∙ ap (λ (x : Bool). set m i (entryOf x)) (fields-same s p b q w h h₀ c c₀ _ y y₀ k k₀ refl)
 
 -- a type without fields
 pub bare-passed : (s p b q : Str) (w : List Scalar) (h h₀ : ℕ) (c₀ : SpotCursor) (t : Bool) → Typed b h₀ → TypeSpots b h₀ c₀ → (t ≡ true → (p₀ : Str) (w₀ : List Scalar) → placesFrom (rec b p₀ w₀) c₀ ≡ [])
@@ -227,32 +213,113 @@ module _ (s p b q : Str) (w : List Scalar) (h : ℕ) (t : List ℕ) (r : TypeFou
     unfolding checkType onFound
     type-there v g = rw (laid-name, f .layout y w, m) g
 
--- the table says of types that they are as they were
-pub unchanged-blank : (r r₀ : Rec) (t m : List ℕ) → Blank (length t) m → Unchanged r r₀ t m
-unchanged-blank r r₀ t m b = record { same = λ i l z. absurd (z (b .none i l)) }
+-- a violation is not what passes
+pub gone-passed : (n : TypeName) → TypeGone n ≡ Passed → ⊥
+gone-passed n e = let z : _≡_ {A = ℕ} 0 1 = cc in omega arith
 
-pub unchanged-marked : (s p b q : Str) (w : List Scalar) (t : List ℕ) (h : ℕ) (r : TypeFound) (i : ℕ) (m n : List ℕ) → TypesTable s p t → FoundType s p t (typeName b q h) r → r ≡ At i
-    → typeIn (typeName b q h) (typesOf (rec b q w)) ≡ some (layoutOf (rec b q w) h) → Unchanged (rec s p w) (rec b q w) t m
-    → Marked i m n (eqPlaces (layoutOf (rec s p w) (getD t i 0) .fields) (layoutOf (rec b q w) h .fields) ≡ true) → Unchanged (rec s p w) (rec b q w) t n
-unfolding sameAs
-unchanged-marked s p b q w t h r i m n y f e g u k = record { same = λ j l z. ⊎-elim (λ a. u .same j l a) (λ a. go j (a .0) (a .1)) (k .entries j z) }
+pub violated-passed : (v : Verdict) → violated v → v ≡ Passed → ⊥
+unfolding meaning _then_ uncovered
+violated-passed v h e =
+    let w : (meaning [] [] Passed then uncovered []) ≡ meaning [] [] Passed = stays [] [] Passed (uncovered []) (subst violated e h) in
+    let z : _≡_ {A = ℕ} 0 1 = cc in
+    omega arith
+
+-- the type has its entry
+pub type-noted : (s p b q : Str) (w : List Scalar) (t : List ℕ) (h : ℕ) (r : TypeFound) (i : ℕ) (m n : List ℕ) → TypesTable s p t → FoundType s p t (typeName b q h) r → r ≡ At i
+    → n ≡ set m i (entryOf (eqPlaces (layoutOf (rec s p w) (getD t i 0) .fields) (layoutOf (rec b q w) h .fields))) → TypeNoted (rec s p w) (rec b q w) t h m n
+type-noted s p b q w t h r i m n y f e g = record { index = i; inside = found-inside s p (typeName b q h) t r i f e; named = found-name s p t y (typeName b q h) r i f e; entry = g }
+
+-- whether a type is as the released one of its name
+unfoldable sameOf : Rec → Rec → List ℕ → ℕ → Bool
+sameOf r r₀ t j = sameAs (typeIn (typeName (r .stream) (r .pool) (getD t j 0)) (typesOf r₀)) (layoutOf r (getD t j 0))
+
+-- each type has its entry, or none of the first k released types has its name
+pub record Visited (r r₀ : Rec) (t t₀ m : List ℕ) (k : ℕ) : Type 0 where
+  state : (j : ℕ) → j < length t → (eqb (getD m j 0) 0 ≡ sameOf r r₀ t j)
+      ⊎ ((getD m j 0 ≡ 1) × ((i : ℕ) → i < k → typeName (r₀ .stream) (r₀ .pool) (getD t₀ i 0) ≡ typeName (r .stream) (r .pool) (getD t j 0) → ⊥))
+
+same-either : (a b : List Place) → eqPlaces a b ≡ eqPlaces b a
+same-either a b = go (eqPlaces a b) (eqPlaces b a) refl refl
   where
-    is : TypeLayout
-    is = layoutOf (rec s p w) (getD t i 0)
+    turned : (x y : List Place) → eqPlaces x y ≡ true → eqPlaces y x ≡ true
+    turned x y h =
+        let e : x ≡ y = eqPlaces→eq x y h in
+        subst (λ (v : List Place). eqPlaces v x ≡ true) e (subst (λ (v : List Place). eqPlaces x v ≡ true) (sym e) h)
 
-    was : TypeLayout
-    was = layoutOf (rec b q w) h
+    go : (u v : Bool) → eqPlaces a b ≡ u → eqPlaces b a ≡ v → u ≡ v
+    go true true e f = refl
+    go true false e f = sym (sym f ∙ turned a b e)
+    go false true e f = sym e ∙ turned b a f
+    go false false e f = refl
 
-    go : (j : ℕ) → j ≡ i → eqPlaces (is .fields) (was .fields) ≡ true
-        → true ≡ sameAs (typeIn (typeName s p (getD t j 0)) (typesOf (rec b q w))) (layoutOf (rec s p w) (getD t j 0))
-    go j a d =
-        let x : is .fields ≡ was .fields = eqPlaces→eq (is .fields) (was .fields) d in
-        rw (a, found-name s p t y (typeName b q h) r i f e, g)
-        (sym (subst (λ (v : List Place). eqPlaces v (is .fields) ≡ true) x (subst (λ (v : List Place). eqPlaces (is .fields) v ≡ true) (sym x) d)))
+entry-zero : (v : Bool) → eqb (entryOf v) 0 ≡ v
+entry-zero true = refl
+entry-zero false = refl
 
-pub released-type : (b q : Str) (w : List Scalar) (t z : List ℕ) (i : ℕ) → Tables (rec b q w) t z → i < length t
-    → typeIn (typeName b q (getD t i 0)) (typesOf (rec b q w)) ≡ some (layoutOf (rec b q w) (getD t i 0))
-released-type b q w t z i o l = own-type b q t (o .types) w i l
+module _ (s p b q : Str) (w : List Scalar) (t t₀ m : List ℕ) where
+  pub visited-start : Ones (length t) m → Visited (rec s p w) (rec b q w) t t₀ m 0
+  visited-start o = record { state = λ j h. inr (o .one j h, λ i l. absurd (omega arith)) }
+
+  module _ (y₀ : TypesTable b q t₀) (k : ℕ) (v : Visited (rec s p w) (rec b q w) t t₀ m k) where
+    pub visited-end : length t₀ ≤ k → Changes (rec s p w) (rec b q w) t m
+    unfolding sameAs sameOf
+    visited-end h = record { same = λ j l. go j (v .state j l) }
+      where
+        go : (j : ℕ) → (eqb (getD m j 0) 0 ≡ sameOf (rec s p w) (rec b q w) t j)
+            ⊎ ((getD m j 0 ≡ 1) × ((i : ℕ) → i < k → typeName b q (getD t₀ i 0) ≡ typeName s p (getD t j 0) → ⊥))
+            → eqb (getD m j 0) 0 ≡ sameOf (rec s p w) (rec b q w) t j
+        go j (inl e) = e
+        go j (inr a) = rw (a .0, no-type b q t₀ y₀ w (typeName s p (getD t j 0)) (λ i l. a .1 i (omega arith)))
+
+    pub visited-on : (n : List ℕ) (u : Verdict) → TypesTable s p t → k < length t₀ → length t ≤ length m → u ≡ Passed → (u ≡ Passed → TypeNoted (rec s p w) (rec b q w) t (getD t₀ k 0) m n) → Visited (rec s p w) (rec b q w) t t₀ n (k + 1)
+    unfolding sameAs sameOf
+    visited-on n u y l room passed noted = record { state = λ j h. go j h (eqb j at) refl }
+      where
+        d : TypeNoted (rec s p w) (rec b q w) t (getD t₀ k 0) m n
+        d = noted passed
+
+        at : ℕ
+        at = d .index
+
+        is : TypeLayout
+        is = layoutOf (rec s p w) (getD t at 0)
+
+        was : TypeLayout
+        was = layoutOf (rec b q w) (getD t₀ k 0)
+
+        inside : at < length m
+        inside = let a = d .inside in omega arith
+
+        here : eqb (getD n at 0) 0 ≡ sameOf (rec s p w) (rec b q w) t at
+        here =
+            ap (λ (x : List ℕ). eqb (getD x at 0) 0) (d .entry)
+            ∙ ap (λ (x : ℕ). eqb x 0) (getD-set-same m at (entryOf (eqPlaces (is .fields) (was .fields))) 0 inside)
+            ∙ entry-zero (eqPlaces (is .fields) (was .fields))
+            ∙ same-either (is .fields) (was .fields)
+            ∙ sym (rw (d .named, own-type b q t₀ y₀ w k l))
+
+        old : (j : ℕ) → (j ≡ at → ⊥) → getD n j 0 ≡ getD m j 0
+        old j a = ap (λ (x : List ℕ). getD x j 0) (d .entry) ∙ getD-set-other m at j (entryOf (eqPlaces (is .fields) (was .fields))) 0 a
+
+        other : (j : ℕ) → j < length t → (j ≡ at → ⊥) → ((i : ℕ) → i < k → typeName b q (getD t₀ i 0) ≡ typeName s p (getD t j 0) → ⊥)
+            → (i : ℕ) → i < k + 1 → typeName b q (getD t₀ i 0) ≡ typeName s p (getD t j 0) → ⊥
+        other j h a f i g e = go (eqb i k) refl
+          where
+            go : (c : Bool) → eqb i k ≡ c → ⊥
+            go true x = a (sym (one-name s p t y at j (d .inside) h (d .named ∙ ap (λ (z : ℕ). typeName b q (getD t₀ z 0)) (sym (eqb-true i k x)) ∙ e)))
+            go false x = let z : i ≡ k → ⊥ = eqb-false i k x in f i (omega arith) e
+
+        keep : (j : ℕ) → j < length t → (j ≡ at → ⊥) → (eqb (getD m j 0) 0 ≡ sameOf (rec s p w) (rec b q w) t j)
+            ⊎ ((getD m j 0 ≡ 1) × ((i : ℕ) → i < k → typeName b q (getD t₀ i 0) ≡ typeName s p (getD t j 0) → ⊥))
+            → (eqb (getD n j 0) 0 ≡ sameOf (rec s p w) (rec b q w) t j)
+            ⊎ ((getD n j 0 ≡ 1) × ((i : ℕ) → i < k + 1 → typeName b q (getD t₀ i 0) ≡ typeName s p (getD t j 0) → ⊥))
+        keep j h a (inl e) = inl (ap (λ (x : ℕ). eqb x 0) (old j a) ∙ e)
+        keep j h a (inr e) = inr (old j a ∙ e .0, other j h a (e .1))
+
+        go : (j : ℕ) → j < length t → (c : Bool) → eqb j at ≡ c → (eqb (getD n j 0) 0 ≡ sameOf (rec s p w) (rec b q w) t j)
+            ⊎ ((getD n j 0 ≡ 1) × ((i : ℕ) → i < k + 1 → typeName b q (getD t₀ i 0) ≡ typeName s p (getD t j 0) → ⊥))
+        go j h true e = inl (subst (λ (x : ℕ). eqb (getD n x 0) 0 ≡ sameOf (rec s p w) (rec b q w) t x) (sym (eqb-true j at e)) here)
+        go j h false e = keep j h (eqb-false j at e) (v .state j h)
 
 -- the types of a record: those so far stand as they were
 pub record TypesOn (r : Rec) (t : List ℕ) (is was : List TypeLayout) (i : ℕ) : Type 0 where

@@ -41,14 +41,14 @@ use Rattle.record.specs.declared.versioned.Versioned.{Versioned}
 use Rattle.record.proofs.StepLaws.{versions-over-now, versions-now}
 use Rattle.record.proofs.VersionedLaws.{versioned-are-roots}
 use Rattle.layout.specs.Names.{nameOf, stretchesOf}
-use Rattle.layout.specs.Tables.{Tables}
+use Rattle.layout.specs.Table.{TypesTable}
 use Rattle.layout.specs.declared.names.TypeName.{TypeName}
 use Rattle.layout.proofs.NameLaws.{stretches-read}
 use Rattle.definition.specs.Verdicts as D
 use Rattle.definition.specs.Verdicts.{noGeneration, unraised}
 use Rattle.definition.specs.Pass.{_then_, ensure, each, onFound}
 use Rattle.definition.specs.Generations.{isListed, checkStill, checkRise, checkFrom, checkAgainst, checkGeneration, checkRoots, checkGenerations}
-use Rattle.compare.specs.CoverTable.{changedTypes, CoverTable, firstUncovered, firstTouched, touchedName, touchedBy}
+use Rattle.compare.specs.CoverTable.{changedTypes, Changes, Entered, firstUncovered, firstTouched, touchedName, touchedBy}
 use Rattle.verdicts.specs.Meaning.{meaning}
 use Rattle.verdicts.specs.declared.verdict.Verdict.{Verdict}
 use Rattle.verdicts.specs.declared.verdict.Verdict.the-variants.{Passed, NoConstant, NoGeneration, Unraised, Unlisted, Leapt, Fell}
@@ -56,7 +56,7 @@ use Rattle.compare.specs.declared.cover_table.Touched.{Touched}
 use Rattle.compare.specs.declared.cover_table.Touched.the-variants.{Untouched, Changed}
 use Rattle.verdicts.proofs.VerdictLaws.{violated, stays}
 use Rattle.compare.proofs.AnyLaws.{any-end, any-hit, any-miss}
-use Rattle.compare.proofs.CoverTableLaws.{covered-table, touched-table}
+use Rattle.compare.proofs.CoverTableLaws.{cover-filled, covered-table, touched-table}
 
 -- version entries ---------------------------------------------------------------------------------------------------------
 
@@ -271,11 +271,12 @@ module _ (p q : Str) (f v : Verdict) (x : D.Verdict) (e : v ≡ f) where
 
 pub ruleset filled-laws = (filled-stop, filled-on)
 
-pub generations-are : (s p b q now : Str) (copy : Option Str) (vs : List M.Version) (cs cs₀ : List Const) (w : List Scalar) (t z m : List ℕ) (v : Verdict) → Tables (rec s p w) t z
-    → CoverTable (rec s p w) (rec b q w) t m
+pub generations-are : (s p b q now : Str) (copy : Option Str) (vs : List M.Version) (cs cs₀ : List Const) (w : List Scalar) (t l m : List ℕ) (v : Verdict) → TypesTable s p t
+    → Entered s p t l m
     → meaning p q v ≡ (meaning p q (firstUncovered s t m) then checkRoots now copy vs (structsAt s p 0) cs cs₀ (touchedBy s p t m) (versioned (structsAt s p 0)))
-    → meaning p q v ≡ checkGenerations now copy vs (typesAt s p) cs cs₀ (changedTypes (rec s p w) (rec b q w))
+    → Changes (rec s p w) (rec b q w) t l → meaning p q v ≡ checkGenerations now copy vs (typesAt s p) cs cs₀ (changedTypes (rec s p w) (rec b q w))
 unfolding checkGenerations
-generations-are s p b q now copy vs cs cs₀ w t z m v o c e =
+generations-are s p b q now copy vs cs cs₀ w t l m v o f e g =
+    let c = cover-filled s p b q w t l m g f in
     e ∙ ap₂ (λ (x : D.Verdict) (touched : Str → Option Str). x then checkRoots now copy vs (structsAt s p 0) cs cs₀ touched (versioned (structsAt s p 0)))
-    (covered-table s p b q w t z m o c) (touched-table s p b q w t z m o c)
+    (covered-table s p b q w t m o c) (touched-table s p b q w t m o c)

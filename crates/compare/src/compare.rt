@@ -45,7 +45,7 @@ ghost use Rattle.compare.specs.Layouts.{typesOf};
 ghost use Rattle.definition.specs.Fields.{checkFields};
 ghost use Rattle.definition.specs.Standalone.{checkStandalone};
 ghost use Rattle.definition.specs.Generations.{checkGenerations};
-ghost use Rattle.compare.specs.CoverTable.{changedTypes, Unchanged};
+ghost use Rattle.compare.specs.CoverTable.{changedTypes, Changes};
 ghost use Rattle.definition.specs.Compare.{compare};
 ghost use Rattle.verdicts.specs.Meaning.{meaning};
 
@@ -133,10 +133,10 @@ fn check_types(
     old: &[u8],
     shipped: &[u32],
     widths: &[u64],
-    kept: &mut [u32],
+    cover: &mut [u32],
 ) -> Verdict
-    requires { ⌜ Tables (rec (now stream) (now pool) (scalarsOf (now rows))) (now types) (now sizes) × Tables (rec (now past) (now old) (scalarsOf (now rows))) (now shipped) (now widths) × (length (now types) ≤ length (now kept)) ⌝ }
-    ensures { λ r. ⌜ (meaning (now (pool .entry)) (now (old .entry)) r ≡ (checkFields (typesOf (rec (now (stream .entry)) (now (pool .entry)) (scalarsOf (now (rows .entry))))) (typesOf (rec (now (past .entry)) (now (old .entry)) (scalarsOf (now (rows .entry))))) then checkStandalone (familiesAt (now (stream .entry)) (now (pool .entry)) 0) (familiesAt (now (past .entry)) (now (old .entry)) 0) (typesOf (rec (now (stream .entry)) (now (pool .entry)) (scalarsOf (now (rows .entry))))) (typesOf (rec (now (past .entry)) (now (old .entry)) (scalarsOf (now (rows .entry))))))) × Unchanged (rec (now (stream .entry)) (now (pool .entry)) (scalarsOf (now (rows .entry)))) (rec (now (past .entry)) (now (old .entry)) (scalarsOf (now (rows .entry)))) (now (types .entry)) (now (kept .exit)) ⌝ }
+    requires { ⌜ Tables (rec (now stream) (now pool) (scalarsOf (now rows))) (now types) (now sizes) × Tables (rec (now past) (now old) (scalarsOf (now rows))) (now shipped) (now widths) × (length (now types) ≤ length (now cover)) ⌝ }
+    ensures { λ r. ⌜ (meaning (now (pool .entry)) (now (old .entry)) r ≡ (checkFields (typesOf (rec (now (stream .entry)) (now (pool .entry)) (scalarsOf (now (rows .entry))))) (typesOf (rec (now (past .entry)) (now (old .entry)) (scalarsOf (now (rows .entry))))) then checkStandalone (familiesAt (now (stream .entry)) (now (pool .entry)) 0) (familiesAt (now (past .entry)) (now (old .entry)) 0) (typesOf (rec (now (stream .entry)) (now (pool .entry)) (scalarsOf (now (rows .entry))))) (typesOf (rec (now (past .entry)) (now (old .entry)) (scalarsOf (now (rows .entry))))))) × (r ≡ Verdict.Passed → Changes (rec (now (stream .entry)) (now (pool .entry)) (scalarsOf (now (rows .entry)))) (rec (now (past .entry)) (now (old .entry)) (scalarsOf (now (rows .entry)))) (now (types .entry)) (now (cover .exit))) ⌝ }
 {
     let verdict = check_fields(
         rows,
@@ -148,7 +148,7 @@ fn check_types(
         old,
         shipped,
         widths,
-        kept,
+        cover,
     );
     if let Verdict::Passed = verdict {
         return check_standalone(rows, stream, pool, types, sizes, past, old, shipped, widths);
@@ -191,17 +191,13 @@ fn check_layouts(
     );
     if let Verdict::Passed = verdict {
         return check_generations(
-            rows,
             stream,
             pool,
             index,
             types,
-            sizes,
             past,
             old,
             old_index,
-            shipped,
-            widths,
             marks,
             cover,
             current,

@@ -1,10 +1,8 @@
-// The table of what covers each type: an entry for each handle of the table of types, filled in two walks: which types changed, then what covers those.
+// The table of what covers each type: an entry for each handle of the table of types. The pass over the fields puts which types changed, and what
+// covers those is put here.
 use crate::coverage::Last;
 use crate::coverage::entry_after;
-use crate::layouts::same_fields;
 use layout::names::type_name;
-use layout::table::TypeFound;
-use layout::table::find_same;
 use record::leads::fill_leads;
 use record::text::Text;
 use record::text::bytes_of;
@@ -14,18 +12,9 @@ use verdicts::verdict::Verdict;
 ghost use Prim.Native.Nat.{_≤_};
 ghost use mathlib.Core.Path.{_≡_};
 ghost use lib.ListN.{length, getD};
-ghost use Rattle.record.specs.Scalars.{scalarsOf};
 ghost use Rattle.record.specs.Ownership.{Known};
 ghost use Rattle.record.specs.Versioned.{InSlots};
-ghost use Rattle.record.specs.Reading.{rec, schemaOf};
-ghost use Rattle.record.specs.Read.{Exact};
-ghost use Rattle.layout.specs.Layout.{types, typeIn};
-ghost use Rattle.layout.specs.Handles.{typeName, layoutOf};
-ghost use Rattle.layout.specs.Table.{Typed};
-ghost use Rattle.layout.specs.FieldSizes.{SizesTable};
-ghost use Rattle.layout.specs.Tables.{Tables};
-ghost use Rattle.definition.specs.Fields.{sameAs};
-ghost use Rattle.compare.specs.CoverTable.{Owners, Unchanged, Changes, Entered, CoverTable, firstUncovered, isUnder, firstTouched};
+ghost use Rattle.compare.specs.CoverTable.{Owners, Entered, firstUncovered, isUnder, firstTouched};
 
 // A number of a table; past its end 0.
 fn entry_at(table: &[u32], i: usize) -> u32
@@ -34,71 +23,21 @@ fn entry_at(table: &[u32], i: usize) -> u32
     if i < table.len() { table[i] } else { 0 }
 }
 
-// Whether a type has the fields that the released type of its name had, which is thought to stand near an index of the released types.
-fn unchanged(
-    rows: &[u8],
-    stream: &[u8],
-    pool: &[u8],
-    sizes: &[u64],
-    handle: u32,
-    past: &[u8],
-    old: &[u8],
-    shipped: &[u32],
-    widths: &[u64],
-    near: usize,
-) -> bool
-    requires { ⌜ Typed (now stream) handle × SizesTable (rec (now stream) (now pool) (scalarsOf (now rows))) (now sizes) × Exact (rec (now stream) (now pool) (scalarsOf (now rows))) × Tables (rec (now past) (now old) (scalarsOf (now rows))) (now shipped) (now widths) ⌝ }
-    ensures { λ r. ⌜ r ≡ sameAs (typeIn (typeName (now (stream .entry)) (now (pool .entry)) handle) (types (schemaOf (rec (now (past .entry)) (now (old .entry)) (scalarsOf (now (rows .entry))))))) (layoutOf (rec (now (stream .entry)) (now (pool .entry)) (scalarsOf (now (rows .entry)))) handle) ⌝ }
+// How many types changed.
+fn count_changed(types: &[u32], cover: &[u32]) -> usize
+    ensures { λ r. ⌜ r ≤ length (now (types .entry)) ⌝ }
 {
-    let TypeFound::At(i) = find_same(past, old, shipped, stream, pool, handle, near) else {
-        return false;
-    };
-    same_fields(
-        rows,
-        past,
-        old,
-        widths,
-        entry_at(shipped, i),
-        stream,
-        pool,
-        sizes,
-        handle,
-    )
-}
-
-// Puts 0 for each type that is as it was and 1 for each other, and counts the latter; what is not 0 before is of a type that is known
-// to be as it was, so its fields are not looked at again.
-fn fill_changed(
-    rows: &[u8],
-    stream: &[u8],
-    pool: &[u8],
-    types: &[u32],
-    sizes: &[u64],
-    past: &[u8],
-    old: &[u8],
-    shipped: &[u32],
-    widths: &[u64],
-    cover: &mut [u32],
-) -> usize
-    requires { ⌜ Tables (rec (now stream) (now pool) (scalarsOf (now rows))) (now types) (now sizes) × Tables (rec (now past) (now old) (scalarsOf (now rows))) (now shipped) (now widths) × (length (now types) ≤ length (now cover)) × Unchanged (rec (now stream) (now pool) (scalarsOf (now rows))) (rec (now past) (now old) (scalarsOf (now rows))) (now types) (now cover) ⌝ }
-    ensures { λ _. ⌜ Changes (rec (now (stream .entry)) (now (pool .entry)) (scalarsOf (now (rows .entry)))) (rec (now (past .entry)) (now (old .entry)) (scalarsOf (now (rows .entry)))) (now (types .entry)) (now (cover .exit)) ⌝ }
-{
-    let mut changed = 0;
+    let mut n = 0;
     let mut i = 0;
     while i < types.len() {
-        let h = types[i];
-        if cover[i] != 0 {
-            cover[i] = 0;
-            i += 1;
-        } else if unchanged(rows, stream, pool, sizes, h, past, old, shipped, widths, i) {
+        if entry_at(cover, i) == 0 {
             i += 1;
         } else {
-            cover[i] = 1;
-            changed += 1;
+            n += 1;
             i += 1;
         }
     }
-    changed
+    n
 }
 
 // Puts the entry of each type that is not as it was.
@@ -173,38 +112,20 @@ fn fill_many(
     fill_entries(stream, pool, types, roots, marks, index, &leads, cover);
 }
 
-// Fills the table, where the marks are those of the owners and the index is the record's; what is not 0 in it before is of a
-// type that is known to be as it was.
+// Puts the entry of each type that is not as it was, where the marks are those of the owners and the index is the record's.
 pub(crate) fn fill_cover(
-    rows: &[u8],
     stream: &[u8],
     pool: &[u8],
     types: &[u32],
-    sizes: &[u64],
-    past: &[u8],
-    old: &[u8],
-    shipped: &[u32],
-    widths: &[u64],
     roots: Versioned,
     marks: &[u8],
     index: &[u16],
     cover: &mut [u32],
 )
-    requires { ⌜ Tables (rec (now stream) (now pool) (scalarsOf (now rows))) (now types) (now sizes) × Tables (rec (now past) (now old) (scalarsOf (now rows))) (now shipped) (now widths) × Known (now stream) (now pool) (now marks) (now index) × InSlots (now stream) (now pool) roots × (length (now types) ≤ length (now cover)) × Unchanged (rec (now stream) (now pool) (scalarsOf (now rows))) (rec (now past) (now old) (scalarsOf (now rows))) (now types) (now cover) ⌝ }
-    ensures { λ _. ⌜ CoverTable (rec (now (stream .entry)) (now (pool .entry)) (scalarsOf (now (rows .entry)))) (rec (now (past .entry)) (now (old .entry)) (scalarsOf (now (rows .entry)))) (now (types .entry)) (now (cover .exit)) ⌝ }
+    requires { ⌜ Known (now stream) (now pool) (now marks) (now index) × InSlots (now stream) (now pool) roots × (length (now types) ≤ length (now cover)) ⌝ }
+    ensures { λ _. ⌜ Entered (now (stream .entry)) (now (pool .entry)) (now (types .entry)) (now (cover .entry)) (now (cover .exit)) ⌝ }
 {
-    let n = fill_changed(
-        rows,
-        stream,
-        pool,
-        types,
-        sizes,
-        past,
-        old,
-        shipped,
-        widths,
-        cover,
-    );
+    let n = count_changed(types, cover);
     if n < 8 {
         fill_few(stream, pool, types, roots, marks, index, cover);
         return;

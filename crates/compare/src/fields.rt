@@ -1,8 +1,11 @@
 // The pass over the fields: a released field keeps its place, its size and how it reads.
+use crate::alike::Both;
 use crate::kept::pass_kept;
+use crate::layouts::both_bare;
 use crate::layouts::find_spot;
 use crate::layouts::is_bare;
 use crate::layouts::same_description;
+use crate::layouts::same_rest;
 use crate::near::are_many;
 use crate::near::fill_near;
 use crate::near::near_spot;
@@ -19,16 +22,11 @@ use record::text::bytes_of;
 use verdicts::verdict::Verdict;
 ghost use Prim.Native.Nat.{_≤_, _<_};
 ghost use mathlib.Core.Path.{_≡_};
-ghost use mathlib.Core.Bool.{true};
-ghost use mathlib.Core.List.{List, []};
-ghost use mathlib.Core.Option.{some};
-ghost use lib.ListN.{length};
-ghost use Rattle.record.specs.Base.{Str};
-ghost use Rattle.record.specs.Scalars.{Scalar, scalarsOf};
+ghost use lib.ListN.{length, set};
+ghost use Rattle.record.specs.Scalars.{scalarsOf};
 ghost use Rattle.record.specs.Marks.{Clear};
 ghost use Rattle.record.specs.Reading.{rec};
 ghost use Rattle.record.specs.Read.{Exact};
-ghost use Rattle.layout.specs.Layout.{typeIn};
 ghost use Rattle.layout.specs.Handles.{typeName, layoutOf};
 ghost use Rattle.layout.specs.Names.{nameOf};
 ghost use Rattle.layout.specs.Table.{Typed};
@@ -38,7 +36,7 @@ ghost use Rattle.layout.specs.Tables.{Tables};
 ghost use Rattle.definition.specs.Fields.{placeIn, checkKept, checkPlace, checkPlaces, checkType, checkFields, eqPlaces};
 ghost use Rattle.compare.specs.Layouts.{typesOf, spotFound};
 ghost use Rattle.compare.specs.Near.{Near};
-ghost use Rattle.compare.specs.CoverTable.{Unchanged, Blank, Marked};
+ghost use Rattle.compare.specs.CoverTable.{entryOf, Ones, TypeNoted, Changes};
 ghost use Rattle.verdicts.specs.Meaning.{meaning};
 
 // A released field against the one of its name.
@@ -116,27 +114,6 @@ fn check_place(
         return Verdict::FieldGone { owner, name };
     };
     check_kept(pool, old, owner, was, x)
-}
-
-// Whether it is seen that no released field is ahead; where no current one is either, the type's entry becomes 1.
-fn note_bare(
-    stream: &[u8],
-    is: SpotCursor,
-    past: &[u8],
-    was: SpotCursor,
-    kept: &mut [u32],
-    i: usize,
-) -> bool
-    requires { ⌜ i < length (now kept) ⌝ }
-    ensures { λ r. ⌜ (r ≡ true → (q : Str) (w : List Scalar) → placesFrom (rec (now (past .entry)) q w) was ≡ []) × Marked i (now (kept .entry)) (now (kept .exit)) ((p q : Str) (w : List Scalar) → eqPlaces (placesFrom (rec (now (stream .entry)) p w) is) (placesFrom (rec (now (past .entry)) q w) was) ≡ true) ⌝ }
-{
-    if is_bare(past, was) {
-        if is_bare(stream, is) {
-            kept[i] = 1;
-        }
-        return true;
-    }
-    false
 }
 
 // The released fields of a type from a cursor on against those that are now, from another on.
@@ -269,7 +246,36 @@ fn check_any(
     )
 }
 
-// The same without the released fields that are seen to be kept; where all fields are alike to the end, the type's entry becomes 1.
+// Puts the entry of a type: 0 where the fields from two cursors on are the same, else 1.
+fn note_rest(
+    rows: &[u8],
+    stream: &[u8],
+    pool: &[u8],
+    sizes: &[u64],
+    past: &[u8],
+    old: &[u8],
+    widths: &[u64],
+    both: Both,
+    cover: &mut [u32],
+    i: usize,
+)
+    requires { ⌜ Sound (rec (now stream) (now pool) (scalarsOf (now rows))) (now sizes) (both .is) × Sound (rec (now past) (now old) (scalarsOf (now rows))) (now widths) (both .was) × (i < length (now cover)) ⌝ }
+    ensures { λ _. ⌜ now (cover .exit) ≡ set (now (cover .entry)) i (entryOf (eqPlaces (placesFrom (rec (now (stream .entry)) (now (pool .entry)) (scalarsOf (now (rows .entry)))) (both .is)) (placesFrom (rec (now (past .entry)) (now (old .entry)) (scalarsOf (now (rows .entry)))) (both .was)))) ⌝ }
+{
+    let is = both.is;
+    let was = both.was;
+    if both_bare(stream, is, past, was) {
+        cover[i] = 0;
+        return;
+    }
+    if same_rest(rows, stream, pool, sizes, is, past, old, widths, was) {
+        cover[i] = 0;
+    } else {
+        cover[i] = 1;
+    }
+}
+
+// The same without the released fields that are seen to be kept; the entry of the type says whether all its fields are the same.
 fn check_changed(
     rows: &[u8],
     stream: &[u8],
@@ -281,16 +287,16 @@ fn check_changed(
     widths: &[u64],
     owner: TypeName,
     was: SpotCursor,
-    kept: &mut [u32],
+    cover: &mut [u32],
     i: usize,
 ) -> Verdict
-    requires { ⌜ Sound (rec (now stream) (now pool) (scalarsOf (now rows))) (now sizes) is × Sound (rec (now past) (now old) (scalarsOf (now rows))) (now widths) was × (i < length (now kept)) ⌝ }
-    ensures { λ r. ⌜ (meaning (now (pool .entry)) (now (old .entry)) r ≡ checkPlaces (nameOf (now (old .entry)) owner) (placesFrom (rec (now (stream .entry)) (now (pool .entry)) (scalarsOf (now (rows .entry)))) is) (placesFrom (rec (now (past .entry)) (now (old .entry)) (scalarsOf (now (rows .entry)))) was)) × Marked i (now (kept .entry)) (now (kept .exit)) (eqPlaces (placesFrom (rec (now (stream .entry)) (now (pool .entry)) (scalarsOf (now (rows .entry)))) is) (placesFrom (rec (now (past .entry)) (now (old .entry)) (scalarsOf (now (rows .entry)))) was) ≡ true) ⌝ }
+    requires { ⌜ Sound (rec (now stream) (now pool) (scalarsOf (now rows))) (now sizes) is × Sound (rec (now past) (now old) (scalarsOf (now rows))) (now widths) was × (i < length (now cover)) ⌝ }
+    ensures { λ r. ⌜ (meaning (now (pool .entry)) (now (old .entry)) r ≡ checkPlaces (nameOf (now (old .entry)) owner) (placesFrom (rec (now (stream .entry)) (now (pool .entry)) (scalarsOf (now (rows .entry)))) is) (placesFrom (rec (now (past .entry)) (now (old .entry)) (scalarsOf (now (rows .entry)))) was)) × (now (cover .exit) ≡ set (now (cover .entry)) i (entryOf (eqPlaces (placesFrom (rec (now (stream .entry)) (now (pool .entry)) (scalarsOf (now (rows .entry)))) is) (placesFrom (rec (now (past .entry)) (now (old .entry)) (scalarsOf (now (rows .entry)))) was)))) ⌝ }
 {
     let both = pass_kept(stream, pool, sizes, is, past, old, widths, was);
-    let ahead = both.is;
+    note_rest(rows, stream, pool, sizes, past, old, widths, both, cover, i);
     let rest = both.was;
-    if note_bare(stream, ahead, past, rest, kept, i) {
+    if is_bare(past, rest) {
         return Verdict::Passed;
     }
     check_any(
@@ -318,15 +324,17 @@ fn check_layout(
     old: &[u8],
     widths: &[u64],
     other: u32,
-    kept: &mut [u32],
+    cover: &mut [u32],
     i: usize,
 ) -> Verdict
-    requires { ⌜ (Typed (now stream) handle × SizesTable (rec (now stream) (now pool) (scalarsOf (now rows))) (now sizes) × Exact (rec (now stream) (now pool) (scalarsOf (now rows)))) × (Typed (now past) other × SizesTable (rec (now past) (now old) (scalarsOf (now rows))) (now widths) × Exact (rec (now past) (now old) (scalarsOf (now rows)))) × (i < length (now kept)) ⌝ }
-    ensures { λ r. ⌜ (meaning (now (pool .entry)) (now (old .entry)) r ≡ checkPlaces (typeName (now (past .entry)) (now (old .entry)) other) (layoutOf (rec (now (stream .entry)) (now (pool .entry)) (scalarsOf (now (rows .entry)))) handle .fields) (layoutOf (rec (now (past .entry)) (now (old .entry)) (scalarsOf (now (rows .entry)))) other .fields)) × Marked i (now (kept .entry)) (now (kept .exit)) (eqPlaces (layoutOf (rec (now (stream .entry)) (now (pool .entry)) (scalarsOf (now (rows .entry)))) handle .fields) (layoutOf (rec (now (past .entry)) (now (old .entry)) (scalarsOf (now (rows .entry)))) other .fields) ≡ true) ⌝ }
+    requires { ⌜ (Typed (now stream) handle × SizesTable (rec (now stream) (now pool) (scalarsOf (now rows))) (now sizes) × Exact (rec (now stream) (now pool) (scalarsOf (now rows)))) × (Typed (now past) other × SizesTable (rec (now past) (now old) (scalarsOf (now rows))) (now widths) × Exact (rec (now past) (now old) (scalarsOf (now rows)))) × (i < length (now cover)) ⌝ }
+    ensures { λ r. ⌜ (meaning (now (pool .entry)) (now (old .entry)) r ≡ checkPlaces (typeName (now (past .entry)) (now (old .entry)) other) (layoutOf (rec (now (stream .entry)) (now (pool .entry)) (scalarsOf (now (rows .entry)))) handle .fields) (layoutOf (rec (now (past .entry)) (now (old .entry)) (scalarsOf (now (rows .entry)))) other .fields)) × (now (cover .exit) ≡ set (now (cover .entry)) i (entryOf (eqPlaces (layoutOf (rec (now (stream .entry)) (now (pool .entry)) (scalarsOf (now (rows .entry)))) handle .fields) (layoutOf (rec (now (past .entry)) (now (old .entry)) (scalarsOf (now (rows .entry)))) other .fields)))) ⌝ }
 {
     let was = first_spot(past, other);
     let is = first_spot(stream, handle);
-    if note_bare(stream, is, past, was, kept, i) {
+    if is_bare(past, was) {
+        let both = Both { is, was };
+        note_rest(rows, stream, pool, sizes, past, old, widths, both, cover, i);
         return Verdict::Passed;
     }
     let owner = type_name(past, other);
@@ -341,7 +349,7 @@ fn check_layout(
         widths,
         owner,
         was,
-        kept,
+        cover,
         i,
     )
 }
@@ -358,10 +366,10 @@ fn check_type(
     widths: &[u64],
     other: u32,
     near: usize,
-    kept: &mut [u32],
+    cover: &mut [u32],
 ) -> Verdict
-    requires { ⌜ Tables (rec (now stream) (now pool) (scalarsOf (now rows))) (now types) (now sizes) × (Typed (now past) other × SizesTable (rec (now past) (now old) (scalarsOf (now rows))) (now widths) × Exact (rec (now past) (now old) (scalarsOf (now rows)))) × (typeIn (typeName (now past) (now old) other) (typesOf (rec (now past) (now old) (scalarsOf (now rows)))) ≡ some (layoutOf (rec (now past) (now old) (scalarsOf (now rows))) other)) × Unchanged (rec (now stream) (now pool) (scalarsOf (now rows))) (rec (now past) (now old) (scalarsOf (now rows))) (now types) (now kept) × (length (now types) ≤ length (now kept)) ⌝ }
-    ensures { λ r. ⌜ (meaning (now (pool .entry)) (now (old .entry)) r ≡ checkType (typesOf (rec (now (stream .entry)) (now (pool .entry)) (scalarsOf (now (rows .entry))))) (layoutOf (rec (now (past .entry)) (now (old .entry)) (scalarsOf (now (rows .entry)))) other)) × Unchanged (rec (now (stream .entry)) (now (pool .entry)) (scalarsOf (now (rows .entry)))) (rec (now (past .entry)) (now (old .entry)) (scalarsOf (now (rows .entry)))) (now (types .entry)) (now (kept .exit)) ⌝ }
+    requires { ⌜ Tables (rec (now stream) (now pool) (scalarsOf (now rows))) (now types) (now sizes) × (Typed (now past) other × SizesTable (rec (now past) (now old) (scalarsOf (now rows))) (now widths) × Exact (rec (now past) (now old) (scalarsOf (now rows)))) × (length (now types) ≤ length (now cover)) ⌝ }
+    ensures { λ r. ⌜ (meaning (now (pool .entry)) (now (old .entry)) r ≡ checkType (typesOf (rec (now (stream .entry)) (now (pool .entry)) (scalarsOf (now (rows .entry))))) (layoutOf (rec (now (past .entry)) (now (old .entry)) (scalarsOf (now (rows .entry)))) other)) × (r ≡ Verdict.Passed → TypeNoted (rec (now (stream .entry)) (now (pool .entry)) (scalarsOf (now (rows .entry)))) (rec (now (past .entry)) (now (old .entry)) (scalarsOf (now (rows .entry)))) (now (types .entry)) other (now (cover .entry)) (now (cover .exit))) ⌝ }
 {
     let found = find_same(stream, pool, types, past, old, other, near);
     let TypeFound::At(i) = found else {
@@ -380,25 +388,25 @@ fn check_type(
         old,
         widths,
         other,
-        kept,
+        cover,
         i,
     )
 }
 
-// Puts 0 for the first entries of a table, as many as n.
-fn clear(table: &mut [u32], n: usize)
+// Puts 1 for the first entries of a table, as many as n.
+fn fill_ones(table: &mut [u32], n: usize)
     requires { ⌜ n ≤ length (now table) ⌝ }
-    ensures { λ _. ⌜ Blank n (now (table .exit)) ⌝ }
+    ensures { λ _. ⌜ Ones n (now (table .exit)) ⌝ }
 {
     let mut i = 0;
     while i < n {
-        table[i] = 0;
+        table[i] = 1;
         i += 1;
     }
 }
 
-// The first type or field of the release that does not stand as it was, types in byte order of their names; kept has an entry for each current
-// type, which becomes 1 where all its fields are seen to be as they were.
+// The first type or field of the release that does not stand as it was, types in byte order of their names. Where there is none, each current type
+// has its entry: 0 where it is as it was, else 1, as a type has that was not released.
 pub(crate) fn check_fields(
     rows: &[u8],
     stream: &[u8],
@@ -409,12 +417,12 @@ pub(crate) fn check_fields(
     old: &[u8],
     shipped: &[u32],
     widths: &[u64],
-    kept: &mut [u32],
+    cover: &mut [u32],
 ) -> Verdict
-    requires { ⌜ Tables (rec (now stream) (now pool) (scalarsOf (now rows))) (now types) (now sizes) × Tables (rec (now past) (now old) (scalarsOf (now rows))) (now shipped) (now widths) × (length (now types) ≤ length (now kept)) ⌝ }
-    ensures { λ r. ⌜ (meaning (now (pool .entry)) (now (old .entry)) r ≡ checkFields (typesOf (rec (now (stream .entry)) (now (pool .entry)) (scalarsOf (now (rows .entry))))) (typesOf (rec (now (past .entry)) (now (old .entry)) (scalarsOf (now (rows .entry)))))) × Unchanged (rec (now (stream .entry)) (now (pool .entry)) (scalarsOf (now (rows .entry)))) (rec (now (past .entry)) (now (old .entry)) (scalarsOf (now (rows .entry)))) (now (types .entry)) (now (kept .exit)) ⌝ }
+    requires { ⌜ Tables (rec (now stream) (now pool) (scalarsOf (now rows))) (now types) (now sizes) × Tables (rec (now past) (now old) (scalarsOf (now rows))) (now shipped) (now widths) × (length (now types) ≤ length (now cover)) ⌝ }
+    ensures { λ r. ⌜ (meaning (now (pool .entry)) (now (old .entry)) r ≡ checkFields (typesOf (rec (now (stream .entry)) (now (pool .entry)) (scalarsOf (now (rows .entry))))) (typesOf (rec (now (past .entry)) (now (old .entry)) (scalarsOf (now (rows .entry)))))) × (r ≡ Verdict.Passed → Changes (rec (now (stream .entry)) (now (pool .entry)) (scalarsOf (now (rows .entry)))) (rec (now (past .entry)) (now (old .entry)) (scalarsOf (now (rows .entry)))) (now (types .entry)) (now (cover .exit))) ⌝ }
 {
-    clear(kept, types.len());
+    fill_ones(cover, types.len());
     let mut i = 0;
     while i < shipped.len() {
         let verdict = check_type(
@@ -428,7 +436,7 @@ pub(crate) fn check_fields(
             widths,
             shipped[i],
             i,
-            kept,
+            cover,
         );
         if let Verdict::Passed = verdict {
             i += 1;

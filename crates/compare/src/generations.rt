@@ -25,13 +25,13 @@ use record::versioned::versioned_structs;
 use verdicts::verdict::Verdict;
 ghost use Prim.Native.Nat.{_≤_};
 ghost use mathlib.Core.Path.{_≡_};
-ghost use mathlib.Core.List.{[]};
+ghost use mathlib.Core.List.{List, []};
 ghost use mathlib.Core.Bool.{_&&_};
 ghost use lib.Dec.{eqb};
 ghost use lib.ListN.{length};
 ghost use Rattle.record.specs.Base.{Str, eqs};
 ghost use Rattle.record.specs.Stretch.{textOf};
-ghost use Rattle.record.specs.Scalars.{scalarsOf};
+ghost use Rattle.record.specs.Scalars.{Scalar};
 ghost use Rattle.record.specs.Lists.{optOf, constantOf};
 ghost use Rattle.record.specs.Steps.{constantsAt, constantIn, structsAt, structFound, versionsAt};
 ghost use Rattle.record.specs.Index.{Indexed};
@@ -39,10 +39,10 @@ ghost use Rattle.record.specs.Owner.{withName};
 ghost use Rattle.record.specs.References.{typesAt};
 ghost use Rattle.record.specs.Reading.{rec};
 ghost use Rattle.record.specs.Versioned.{versioned, InSlots};
-ghost use Rattle.layout.specs.Tables.{Tables};
+ghost use Rattle.layout.specs.Table.{TypesTable};
 ghost use Rattle.definition.specs.Pass.{_then_};
 ghost use Rattle.definition.specs.Generations.{isListed, checkStill, checkRise, checkFrom, checkAgainst, checkGeneration, checkRoots, checkGenerations};
-ghost use Rattle.compare.specs.CoverTable.{changedTypes, Unchanged, firstUncovered, touchedBy};
+ghost use Rattle.compare.specs.CoverTable.{changedTypes, Changes, firstUncovered, touchedBy};
 ghost use Rattle.verdicts.specs.Meaning.{meaning};
 
 // Whether a version entry is of this structure and number.
@@ -391,42 +391,24 @@ fn check_filled(
 // The pass; the marks of the owners and the table of what covers each type are lent to it, the table as the
 // pass over the fields filled it.
 pub(crate) fn check_generations(
-    rows: &[u8],
     stream: &[u8],
     pool: &[u8],
     index: &[u16],
     types: &[u32],
-    sizes: &[u64],
     past: &[u8],
     old: &[u8],
     old_index: &[u16],
-    shipped: &[u32],
-    widths: &[u64],
     marks: &mut [u8],
     cover: &mut [u32],
     current: Text,
     copy: OptText,
 ) -> Verdict
-    requires { ⌜ Tables (rec (now stream) (now pool) (scalarsOf (now rows))) (now types) (now sizes) × Tables (rec (now past) (now old) (scalarsOf (now rows))) (now shipped) (now widths) × (length (now stream) ≤ length (now marks)) × (length (now types) ≤ length (now cover)) × Indexed (now stream) (now pool) (now index) × Indexed (now past) (now old) (now «old_index») × Unchanged (rec (now stream) (now pool) (scalarsOf (now rows))) (rec (now past) (now old) (scalarsOf (now rows))) (now types) (now cover) ⌝ }
-    ensures { λ r. ⌜ meaning (now (pool .entry)) (now (old .entry)) r ≡ checkGenerations (textOf (now (pool .entry)) current) (optOf (now (old .entry)) copy) (versionsAt (now (stream .entry)) (now (pool .entry)) 0) (typesAt (now (stream .entry)) (now (pool .entry))) (constantsAt (now (stream .entry)) (now (pool .entry)) 0) (constantsAt (now (past .entry)) (now (old .entry)) 0) (changedTypes (rec (now (stream .entry)) (now (pool .entry)) (scalarsOf (now (rows .entry)))) (rec (now (past .entry)) (now (old .entry)) (scalarsOf (now (rows .entry))))) ⌝ }
+    requires { ⌜ TypesTable (now stream) (now pool) (now types) × (length (now stream) ≤ length (now marks)) × (length (now types) ≤ length (now cover)) × Indexed (now stream) (now pool) (now index) × Indexed (now past) (now old) (now «old_index») ⌝ }
+    ensures { λ r. ⌜ ((w : List Scalar) → Changes (rec (now (stream .entry)) (now (pool .entry)) w) (rec (now (past .entry)) (now (old .entry)) w) (now (types .entry)) (now (cover .entry)) → meaning (now (pool .entry)) (now (old .entry)) r ≡ checkGenerations (textOf (now (pool .entry)) current) (optOf (now (old .entry)) copy) (versionsAt (now (stream .entry)) (now (pool .entry)) 0) (typesAt (now (stream .entry)) (now (pool .entry))) (constantsAt (now (stream .entry)) (now (pool .entry)) 0) (constantsAt (now (past .entry)) (now (old .entry)) 0) (changedTypes (rec (now (stream .entry)) (now (pool .entry)) w) (rec (now (past .entry)) (now (old .entry)) w))) ⌝ }
 {
     let slots = versioned_structs(stream, pool);
     mark_owners(stream, pool, slots, index, marks);
-    fill_cover(
-        rows,
-        stream,
-        pool,
-        types,
-        sizes,
-        past,
-        old,
-        shipped,
-        widths,
-        slots,
-        marks,
-        index,
-        cover,
-    );
+    fill_cover(stream, pool, types, slots, marks, index, cover);
     check_filled(
         stream,
         pool,

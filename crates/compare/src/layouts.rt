@@ -120,7 +120,7 @@ pub fn same_spot(pool: &[u8], x: Spot, old: &[u8], y: Spot) -> bool
 }
 
 // Whether the fields from two cursors on are the same in the same order, padding included.
-fn same_rest(
+pub(crate) fn same_rest(
     rows: &[u8],
     stream: &[u8],
     pool: &[u8],
@@ -193,7 +193,7 @@ pub(crate) fn is_bare(stream: &[u8], c: SpotCursor) -> bool
 }
 
 // Whether the fields from two cursors on are seen to be the same since there are none.
-fn both_bare(stream: &[u8], is: SpotCursor, past: &[u8], was: SpotCursor) -> bool
+pub(crate) fn both_bare(stream: &[u8], is: SpotCursor, past: &[u8], was: SpotCursor) -> bool
     ensures { λ r. ⌜ (r ≡ true → (p q : Str) (w : List Scalar) → eqPlaces (placesFrom (rec (now (stream .entry)) p w) is) (placesFrom (rec (now (past .entry)) q w) was) ≡ true) ⌝ }
 {
     if is_bare(stream, is) {

@@ -209,6 +209,29 @@ module _ (s p : Str) (t : List ℕ) (y : TypesTable s p t) where
       ap (typeIn (typeName s p (getD t i 0))) (sym (y .layouts w))
       ∙ one-found s p w _ t i h (λ j k. apart-before _ _ (y .upward j i k h)) (eqs-refl (typeName s p (getD t i 0)))
 
+  -- a name that the table has not is no type's
+  pub no-type : (w : List Scalar) (n : Str) → ((i : ℕ) → i < length t → typeName s p (getD t i 0) ≡ n → ⊥) → typeIn n (types (schemaOf (rec s p w))) ≡ none
+  no-type w n f = ap (typeIn n) (sym (y .layouts w)) ∙ none-found s p w n t (λ i h. go i h (eqs (typeName s p (getD t i 0)) n) refl)
+    where
+      go : (i : ℕ) → i < length t → (b : Bool) → eqs (typeName s p (getD t i 0)) n ≡ b → b ≡ false
+      go i h true e = absurd (f i h (eqs→eq (typeName s p (getD t i 0)) n e))
+      go i h false e = refl
+
+  -- no name stands twice
+  pub one-name : (i j : ℕ) → i < length t → j < length t → typeName s p (getD t i 0) ≡ typeName s p (getD t j 0) → i ≡ j
+  one-name i j h k e = go (ltb i j) (ltb j i) refl refl
+    where
+      apart : (a b : ℕ) → a < b → b < length t → typeName s p (getD t a 0) ≡ typeName s p (getD t b 0) → ⊥
+      apart a b l n d = false≢true (sym (not-self (typeName s p (getD t a 0)) (typeName s p (getD t b 0)) d) ∙ y .upward a b l n)
+
+      go : (c d : Bool) → ltb i j ≡ c → ltb j i ≡ d → i ≡ j
+      go true d f g = absurd (apart i j (ltb-true i j f) k e)
+      go false true f g = absurd (apart j i (ltb-true j i g) h (sym e))
+      go false false f g =
+          let a = ltb-false i j f in
+          let b = ltb-false j i g in
+          omega arith
+
   -- what is found has the name that was sought
   pub found-name : (n : Str) (r : TypeFound) (i : ℕ) → FoundType s p t n r → r ≡ At i → typeName s p (getD t i 0) ≡ n
   unfolding typeIn layoutOf

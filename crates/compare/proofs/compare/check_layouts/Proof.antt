@@ -12,7 +12,7 @@ enum-told c = search needs
 check-generations-requires : tie.Need-check-generations-requires
 check-generations-requires c κs =
     let pre = c .before .before .before .before .before .before .before .before .before .before .before .before .before .before .before .before .before .before .before .before .before .pre in
-    (pre .0, pre .1, pre .2, search needs, pre .4, pre .5, c .before .before .before .before .before .before .check-types .ensures .1)
+    (pre .0 .types, pre .2, search needs, pre .4, pre .5)
 
 same-length : tie.Need-same-length
 same-length c = search needs
@@ -21,7 +21,9 @@ same-length-2 : tie.Need-same-length-2
 same-length-2 c = search needs
 
 returns : tie.Need-returns
-returns c = search (then-on, c .before .before .before .before .before .before .before .before .before .before .before .check-types .ensures .0)
+returns c =
+    let types = c .before .before .before .before .before .before .before .before .before .before .before .check-types .ensures in
+    search (then-on, types .0, c .before .before .before .before .check-generations .ensures _ (types .1 (search needs)))
 
 same-length-3 : tie.Need-same-length-3
 same-length-3 c = search needs

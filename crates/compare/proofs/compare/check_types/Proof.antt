@@ -16,7 +16,7 @@ same-length : tie.Need-same-length
 same-length c = search needs
 
 returns : tie.Need-returns
-returns c = let fields = c .before .before .before .before .before .check-fields .ensures in (search (then-on, fields .0), fields .1)
+returns c = let fields = c .before .before .before .before .before .check-fields .ensures in (search (then-on, fields .0), λ e. fields .1 (search needs))
 
 same-length-2 : tie.Need-same-length-2
 same-length-2 c = search needs

@@ -1,45 +1,60 @@
-use Rattle.compare.proofs.FieldLaws.{cursor-sound, bare-passed, layout-fields, layout-bare, layout-marked}
+use Rattle.compare.proofs.FieldLaws.{cursor-sound, bare-passed, layout-fields, layout-noted}
 use borrow.Author.Needs.{needs}
 use Rattle.compare.proofs.fields.check_layout.Statement.{statement}
 use Rattle.compare.proofs.fields.check_layout.Tie as tie
+use Rattle.compare.proofs.fields.check_layout.Reads as reads
+use Rattle.compare.proofs.fields.check_layout.Lts as lts
+use Rattle.compare.proofs.fields.check_changed.Reads as check-changed-reads
+use Rattle.compare.proofs.fields.note_rest.Reads as note-rest-reads
+use Rattle.compare.proofs.layouts.is_bare.Reads as is-bare-reads
+use Rattle.layout.proofs.names.type_name.Reads as type-name-reads
+use Rattle.layout.proofs.spots.first_spot.Reads as first-spot-reads
 
+-- src/fields.rt:344:9
 first-spot-requires : tie.Need-first-spot-requires
 first-spot-requires c κs = search needs
 
+-- src/fields.rt:345:9
 first-spot-requires-2 : tie.Need-first-spot-requires-2
 first-spot-requires-2 c κs = search needs
 
-note-bare-requires : tie.Need-note-bare-requires
-note-bare-requires c κs = search needs
+-- src/fields.rt:346:8
+is-bare-requires : tie.Need-is-bare-requires
+is-bare-requires c κs = search needs
 
+-- src/fields.rt:347:9
+note-rest-requires : tie.Need-note-rest-requires
+note-rest-requires c κs = (search cursor-sound, search cursor-sound, search needs)
+
+-- src/fields.rt:360:9
 same-length : tie.Need-same-length
 same-length c = search needs
 
+-- src/fields.rt:360:9
 returns : tie.Need-returns
-returns c = (search bare-passed, search layout-bare)
+returns c = (search bare-passed, search layout-noted)
 
+-- src/fields.rt:362:9
 type-name-requires : tie.Need-type-name-requires
 type-name-requires c κs = search needs
 
+-- src/fields.rt:363:5
 check-changed-requires : tie.Need-check-changed-requires
-check-changed-requires c κs =
-    let pre = c .before .before .before .before .before .before .before .before .before .before .before .before .before .before .before .before .before .pre in (
-      cursor-sound _ _ _ _ _ _ (pre .0 .0) (pre .0 .1) (pre .0 .2) (c .before .before .before .before .before .before .before .first-spot2 .ensures),
-      cursor-sound _ _ _ _ _ _ (pre .1 .0) (pre .1 .1) (pre .1 .2) (c .before .before .before .before .before .before .before .before .first-spot .ensures),
-      search needs,
-    )
+check-changed-requires c κs = (search cursor-sound, search cursor-sound, search needs)
 
+-- src/fields.rt:328:1
 same-length-2 : tie.Need-same-length-2
 same-length-2 c = search needs
 
+-- src/fields.rt:328:1
 returns-2 : tie.Need-returns-2
 returns-2 c =
-    let pre = c .before .before .before .before .before .before .before .before .before .before .before .before .before .before .before .before .before .before .before .before .pre in
-    let spot = c .before .before .before .before .before .before .before .before .before .before .before .first-spot .ensures in
-    let spot2 = c .before .before .before .before .before .before .before .before .before .before .first-spot2 .ensures in
+    let pre = c .before .before .before .before .before .before .before .before .before .before .before .before .before .before .before .before .before .pre in
+    let spot = c .before .before .before .before .before .before .before .before .first-spot .ensures in
+    let spot2 = c .before .before .before .before .before .before .before .first-spot2 .ensures in
     let changed = c .before .before .check-changed .ensures in (
       layout-fields _ _ _ _ _ _ _ _ _ _ _ (pre .0 .0) (pre .1 .0) spot2 spot (c .before .before .before .before .type-name .ensures) (changed .0),
-      layout-marked _ _ _ _ _ _ _ _ _ (pre .0 .0) (pre .1 .0) spot2 spot _ _ _ (c .before .before .before .before .before .before .before .before .note-bare .ensures .1) _ (changed .1),
+      layout-noted _ _ _ _ _ _ _ _ _ (c .before .before .before .before .before .before .before .before .before .before .before .before .before .before .before .before .before .args .i) (c .before .before .before .before .before .before .before .before .before .before .before .before .before .before .before .before .before .args .cover .now) _ (pre .0 .0) (pre .1 .0) spot2 spot (changed .1),
     )
 
 pub check-layout-spec : {M : Type 1} → statement M
@@ -48,7 +63,8 @@ check-layout-spec =
     (tie.spec
     first-spot-requires
     first-spot-requires-2
-    note-bare-requires
+    is-bare-requires
+    note-rest-requires
     same-length
     returns
     type-name-requires

@@ -1,4 +1,4 @@
-use Rattle.compare.proofs.FieldLaws.{found-inside, found-room, found-typed, type-gone, type-there, unchanged-marked}
+use Rattle.compare.proofs.FieldLaws.{gone-passed, found-inside, found-room, found-typed, type-gone, type-there, type-noted}
 use borrow.Author.Needs.{needs}
 use Rattle.compare.proofs.fields.check_type.Statement.{statement}
 use Rattle.compare.proofs.fields.check_type.Tie as tie
@@ -16,7 +16,7 @@ type-name-requires : tie.Need-type-name-requires
 type-name-requires c κs = search needs
 
 returns : tie.Need-returns
-returns c = (search type-gone, search needs)
+returns c = (search type-gone, λ e. absurd (gone-passed _ e))
 
 mul-handle : tie.Need-mul-handle
 mul-handle c = search (needs, found-inside)
@@ -31,7 +31,7 @@ same-length : tie.Need-same-length
 same-length c = search needs
 
 returns-2 : tie.Need-returns-2
-returns-2 c = (search type-there, search unchanged-marked)
+returns-2 c = (search type-there, λ e. search type-noted)
 
 pub check-type-spec : {M : Type 1} → statement M
 check-type-spec =
