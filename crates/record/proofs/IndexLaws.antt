@@ -10,6 +10,7 @@ use borrow.Author.Tests.{eq-eqb, ne-eqb, eqb-true, eqb-false, lt-ltb, le-ltb, lt
 use lib.Dec.{eqb, ltb}
 use lib.ListN.{length, getD, set, drop, length-set, List·getD-eq-default}
 use lib.Seq.{getD-set-same, getD-set-other}
+use Rattle.record.specs.Le.{u32At}
 use Rattle.record.specs.Base.{Str, bytes, eqs, find, lastOr, findLast, any, isSome}
 use Rattle.record.specs.Stretch.{textOf}
 use Rattle.record.specs.Operands.{textAt, flagAt}
@@ -18,7 +19,7 @@ use Rattle.record.specs.Commands.{operands, wide, widths, widthWith, wid
 use Rattle.record.specs.Lists.{anything, listed, constants, unstored, aliases, enums, bitfields, structs, families}
 use Rattle.record.specs.Steps.{valuesAt, membersAt, fieldsAt, variantsAt, constantsAt, aliasesAt, enumsAt, bitfieldsAt, structsAt, familiesAt, unstoredAt, constantIn, aliasIn, enumIn, bitfieldIn, structIn, familyIn}
 use Rattle.record.specs.Seek.{afterAt, SoughtFrom}
-use Rattle.record.specs.Index.{hashOf, declaredName, declares, isNamed, isFlagged, counts, onto, declaring, declaredPlaces, keyAt, putAt, latest, Linked, IndexRoom, Chained, Indexed, hitIn, firstIn, linkBefore, Headless, FirstNamed, LastNamed, soughtAt, constantPlaced, unstoredPlaced, aliasPlaced, enumPlaced, bitfieldPlaced, structPlaced, familyPlaced, PlaceNamed, Declared, LastDeclared, Alone, Findable, Looked}
+use Rattle.record.specs.Index.{mixed, hashOf, declaredName, declares, isNamed, isFlagged, counts, onto, declaring, declaredPlaces, keyAt, putAt, latest, Linked, IndexRoom, Chained, Indexed, hitIn, firstIn, linkBefore, Headless, FirstNamed, LastNamed, soughtAt, constantPlaced, unstoredPlaced, aliasPlaced, enumPlaced, bitfieldPlaced, structPlaced, familyPlaced, PlaceNamed, Declared, LastDeclared, Alone, Findable, Looked}
 use Rattle.record.specs.declared.text.Text.{Text}
 use Rattle.record.specs.declared.command.Cursor.{Cursor}
 use Rattle.record.specs.declared.command.Command.{Command}
@@ -34,21 +35,25 @@ use Rattle.record.proofs.SeekLaws.{Stepped, stepped, ended-there, liste
 -- names ------------------------------------------------------------------------------------------------------------------
 
 module _ (x : Str) where
-  pub hash-short : (a b : ℕ) → length x < 3 → a ≡ getD x 0 0 → b ≡ getD x 1 0 → (length x + a + 10 * b) % 256 ≡ hashOf x
-  unfolding hashOf
-  hash-short a b h e f = rw (lt-ltb (length x) 3 h, e, f)
+  pub mixed-is : (at n : ℕ) → n ≡ u32At x at → n * 2246822519 / 268435456 ≡ mixed x at
+  unfolding mixed
+  mixed-is at n e = rw e
 
-  pub hash-long : (a b c : ℕ) → 3 ≤ length x → a ≡ getD x (length x - 1) 0 → b ≡ getD x (length x - 2) 0 → c ≡ getD x (length x - 3) 0 → (a + 10 * b + 100 * c) % 256 ≡ hashOf x
+  pub hash-short : (a b c : ℕ) → length x < 4 → a ≡ getD x 0 0 → b ≡ getD x 1 0 → c ≡ getD x 2 0 → (195 * (length x % 256) + 142 * a + 20 * b + 205 * c) % 256 ≡ hashOf x
   unfolding hashOf
-  hash-long a b c h e f g = rw (le-ltb (length x) 3 h, e, f, g)
+  hash-short a b c h e f g = rw (lt-ltb (length x) 4 h, e, f, g)
+
+  pub hash-long : (a n : ℕ) → 4 ≤ length x → a ≡ getD x 0 0 → n ≡ mixed x (length x - 4) → (195 * (length x % 256) + 142 * a + n) % 256 ≡ hashOf x
+  unfolding hashOf
+  hash-long a n h e f = rw (le-ltb (length x) 4 h, e, f)
 
   pub hash-below : hashOf x < 256
   unfolding hashOf
-  hash-below = go (ltb (length x) 3)
+  hash-below = go (ltb (length x) 4) (195 * (length x % 256) + 142 * getD x 0 0 + 20 * getD x 1 0 + 205 * getD x 2 0) (195 * (length x % 256) + 142 * getD x 0 0 + mixed x (length x - 4))
     where
-      go : (t : Bool) → cond t ((length x + getD x 0 0 + 10 * getD x 1 0) % 256) ((getD x (length x - 1) 0 + 10 * getD x (length x - 2) 0 + 100 * getD x (length x - 3) 0) % 256) < 256
-      go true = omega arith
-      go false = omega arith
+      go : (t : Bool) (m n : ℕ) → cond t (m % 256) (n % 256) < 256
+      go true m n = omega arith
+      go false m n = omega arith
 
 pub ruleset hash-laws = (hash-short, hash-long)
 

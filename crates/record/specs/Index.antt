@@ -8,6 +8,7 @@ use mathlib.Core.Bool.{Bool, true, _&&_, cond}
 use Prim.Native.Nat.{ℕ, zero, suc, _+_, _-_, _*_, _/_, _%_, _≤_, _<_}
 use lib.ListN.{length, getD, set, drop}
 use lib.Dec.{eqb, ltb}
+use Rattle.record.specs.Le.{u32At}
 use Rattle.record.specs.Base.{Str, eqs, findLast, any}
 use Rattle.record.specs.Stretch.{textOf}
 use Rattle.record.specs.Operands.{textAt, flagAt}
@@ -22,11 +23,15 @@ use Rattle.record.specs.declared.seek.Sought.the-variants.{Nowhere, At}
 
 -- names ------------------------------------------------------------------------------------------------------------------
 
+-- four bytes as one number that each of them changes much
+unfoldable pub mixed : Str → ℕ → ℕ
+mixed x at = u32At x at * 2246822519 / 268435456
+
 -- the number by which a name is kept
 unfoldable pub hashOf : Str → ℕ
 hashOf x =
-    cond (ltb (length x) 3) ((length x + getD x 0 0 + 10 * getD x 1 0) % 256)
-    ((getD x (length x - 1) 0 + 10 * getD x (length x - 2) 0 + 100 * getD x (length x - 3) 0) % 256)
+    cond (ltb (length x) 4) ((195 * (length x % 256) + 142 * getD x 0 0 + 20 * getD x 1 0 + 205 * getD x 2 0) % 256)
+    ((195 * (length x % 256) + 142 * getD x 0 0 + mixed x (length x - 4)) % 256)
 
 -- the name that the command at a place begins with
 unfoldable pub declaredName : Str → Str → ℕ → Str

@@ -3,6 +3,7 @@
 // more than it is, and 0 is none. A declaring command takes seven bytes at least, so no two have one entry: their place divided by seven.
 use crate::cut;
 use crate::le::byte_at;
+use crate::le::u32_at;
 use crate::operands::flag_at;
 use crate::operands::text_at;
 use crate::seek::Between;
@@ -14,7 +15,7 @@ use crate::text::same;
 ghost use mathlib.Core.Path.{_≡_};
 ghost use Prim.Native.Nat.{_+_, _/_, _≤_, _<_};
 ghost use lib.ListN.{length, getD, set};
-ghost use Rattle.record.specs.Index.{hashOf, declaredName, declares, isNamed, linkBefore, putAt, IndexRoom, Indexed, Headless, FirstNamed, PlaceNamed, Declared, isFlagged, counts, LastNamed, LastDeclared, Alone, Looked};
+ghost use Rattle.record.specs.Index.{mixed, hashOf, declaredName, declares, isNamed, linkBefore, putAt, IndexRoom, Indexed, Headless, FirstNamed, PlaceNamed, Declared, isFlagged, counts, LastNamed, LastDeclared, Alone, Looked};
 
 // A byte of a text as a larger number; 0 past its end.
 fn size_at(name: &[u8], at: usize) -> usize
@@ -23,20 +24,26 @@ fn size_at(name: &[u8], at: usize) -> usize
     byte_at(name, at) as usize
 }
 
-// The number by which a name is kept.
+// Four bytes of a text as one number that each of them changes much.
+fn mixed(name: &[u8], at: usize) -> usize
+    ensures { λ r. ⌜ (r ≡ mixed (now (name .entry)) at) × (r ≤ 68719476735) ⌝ }
+{
+    let bytes = u32_at(name, at) as usize;
+    bytes * 2246822519 / 268435456
+}
+
+// The number by which a name is kept. Names of one record are often alike at their front or at their end, so both count, and the length.
 fn hash_of(name: &[u8]) -> usize
     ensures { λ r. ⌜ r ≡ hashOf (now (name .entry)) ⌝ }
 {
     let n = name.len();
-    if n < 3 {
-        let first = size_at(name, 0);
+    let front = 195 * (n % 256) + 142 * size_at(name, 0);
+    if n < 4 {
         let second = size_at(name, 1);
-        return (n + first + 10 * second) % 256;
+        let third = size_at(name, 2);
+        return (front + 20 * second + 205 * third) % 256;
     }
-    let last = size_at(name, n - 1);
-    let before = size_at(name, n - 2);
-    let third = size_at(name, n - 3);
-    (last + 10 * before + 100 * third) % 256
+    (front + mixed(name, n - 4)) % 256
 }
 
 // The name that the command at a place begins with.
