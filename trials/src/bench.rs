@@ -64,11 +64,20 @@ fn check(input: &Input, number: u32) -> Row {
     row("check", input, &pair.current, [ours, theirs, build])
 }
 
+/// The room for a record's list: the programs', or as much as the list asks for.
+fn room_for(now: Record) -> Vec<u8> {
+    let mut out = room();
+    let asked = menqachu::list(now, menqachu::Side::Current, &mut out);
+    out.resize(out.len().max(asked.len), 0);
+    out
+}
+
 /// The list call beside the Rust's flattening, which writes no lines.
 fn list(input: &Input) -> Row {
     let pair = input.records();
-    let mut out = room();
-    let now: Record = record(&pair.current);
+    let now = record(&pair.current);
+    let mut out = room_for(now);
+    assert_eq!(menqachu::list(now, menqachu::Side::Current, &mut out).number, 0, "{}", input.name);
     let schema = values::schema(&input.current);
     let [ours, theirs, build] = least([
         &mut || timed(|| menqachu::list(now, menqachu::Side::Current, &mut out)),
@@ -82,19 +91,37 @@ fn list(input: &Input) -> Row {
 fn owner(input: &Input) -> Row {
     let pair = input.records();
     let now = record(&pair.current);
-    let asked = input.asked.as_str();
     assert!(
-        matches!(menqachu::owner(now, asked.as_bytes()), menqachu::Owner::Named { .. }),
+        matches!(menqachu::owner(now, input.asked.as_bytes()), menqachu::Owner::Named { .. }),
         "{}",
         input.name
     );
+    asked(input, &pair.current)
+}
+
+/// The same on a record that has a byte after its end: it is read from the front to the end and refused, so this is the time
+/// of reading, but for number 9.
+fn reading(input: &Input) -> Row {
+    let mut given = input.clone();
+    given.name = format!("{}, refused at its end", input.name);
+    let mut current = input.records().current;
+    current.stream.push(0);
+    let answer = menqachu::owner(record(&current), input.asked.as_bytes());
+    let place = current.stream.len() - 1;
+    assert!(matches!(answer, menqachu::Owner::Refused { place: at, .. } if at == place), "{}", given.name);
+    asked(&given, &current)
+}
+
+/// A line of the owner call on this record.
+fn asked(input: &Input, current: &Encoded) -> Row {
+    let (now, name) = (record(current), input.asked.as_str());
     let schema = values::schema(&input.current);
     let [ours, theirs, build] = least([
-        &mut || timed(|| menqachu::owner(now, asked.as_bytes())),
-        &mut || timed(|| schema.ownership().get(asked).map(|root| root.len())),
+        &mut || timed(|| menqachu::owner(now, name.as_bytes())),
+        &mut || timed(|| schema.ownership().get(name).map(|root| root.len())),
         &mut || timed(|| values::schema(&input.current)),
     ]);
-    row("owner", input, &pair.current, [ours, theirs, build])
+    row("owner", input, current, [ours, theirs, build])
 }
 
 fn row(call: &'static str, input: &Input, current: &Encoded, [ours, theirs, build]: [f64; 3]) -> Row {
@@ -120,7 +147,7 @@ fn accepted(input: &Input) -> Row {
 
 pub fn run() {
     println!("{HEAD}");
-    for measure in [accepted, list, owner] {
+    for measure in [accepted, list, owner, reading] {
         inputs::named().iter().for_each(|input| println!("{}", measure(input)));
     }
     for input in inputs::named() {
@@ -151,7 +178,7 @@ pub fn repeat(call: &str, name: &str, turns: u64) -> Option<bool> {
     let input = all.find(|input| input.name == name)?;
     let pair = input.records();
     let (now, was) = (record(&pair.current), record(&pair.released));
-    let mut out = room();
+    let mut out = room_for(now);
     for _ in 0..turns {
         let number = match call {
             "check" => menqachu::check(now, was, &mut out).number,
