@@ -42,7 +42,8 @@ use Rattle.compare.proofs.LayoutLaws.{fields-same}
 use Rattle.compare.specs.Layouts.{typesOf, spotFound}
 use Rattle.compare.specs.Alike.{AlikePassed}
 use Rattle.compare.specs.Kept.{Kept}
-use Rattle.compare.specs.CoverTable.{entryOf, Ones, TypeNoted, Changes}
+use Rattle.compare.specs.Fields.{entryOf, Ones, TypeNoted}
+use Rattle.compare.specs.CoverTable.{Changes}
 use Rattle.verdicts.specs.Meaning.{meaning}
 use Rattle.verdicts.specs.declared.verdict.Verdict.{Verdict}
 use Rattle.verdicts.specs.declared.verdict.Verdict.the-variants.{Passed, TypeGone, FieldGone, Moved, Resized, Redescribed}

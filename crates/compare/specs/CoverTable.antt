@@ -5,7 +5,7 @@ use mathlib.Core.Option.{Option, none, some}
 use mathlib.Core.Bool.{Bool, false, _&&_, not, cond}
 use Prim.Native.Nat.{ℕ, _-_, _≤_, _<_, _/_, _%_}
 use lib.Dec.{eqb, ltb}
-use lib.ListN.{length, getD, set, drop}
+use lib.ListN.{length, getD, drop}
 use Rattle.record.specs.Base.{Str, eqs}
 use Rattle.record.specs.Stretch.{textOf}
 use Rattle.record.specs.Owner.{Types, ownerOf}
@@ -19,7 +19,7 @@ use Rattle.record.specs.declared.versioned.Versioned.{Versioned}
 use Rattle.layout.specs.Layout.{TypeLayout, types, typeIn}
 use Rattle.layout.specs.Handles.{familyPart, typeName, layoutOf}
 use Rattle.layout.specs.Names.{stretchesOf}
-use Rattle.definition.specs.Fields.{eqPlaces, sameAs, changed}
+use Rattle.definition.specs.Fields.{sameAs, changed}
 use Rattle.definition.specs.Coverage.{owning, standsAlone}
 use Rattle.verdicts.specs.declared.verdict.Verdict.{Verdict}
 use Rattle.verdicts.specs.declared.verdict.Verdict.the-variants.{Passed, Uncovered}
@@ -79,21 +79,6 @@ Knows s p (Entry h n) = coverMeant p n ≡ coverIn (typesAt s p) (owning (typeNa
 -- the types of a record whose layout is not the released one
 abbrev pub changedTypes : Rec → Rec → List TypeLayout
 changedTypes r r₀ = changed (types (schemaOf r)) (types (schemaOf r₀))
-
--- the entry of a type by whether it is as it was
-abbrev pub entryOf : Bool → ℕ
-entryOf same = cond same 0 1
-
--- the numbers are 1 below an index
-pub record Ones (n : ℕ) (m : List ℕ) : Type 0 where
-  pub one : (i : ℕ) → i < n → getD m i 0 ≡ 1
-
--- the type of a released one's name has its entry, and no other has another than before
-pub record TypeNoted (r r₀ : Rec) (t : List ℕ) (h : ℕ) (m n : List ℕ) : Type 0 where
-  pub index : ℕ
-  pub inside : index < length t
-  pub named : typeName (r .stream) (r .pool) (getD t index 0) ≡ typeName (r₀ .stream) (r₀ .pool) h
-  pub entry : n ≡ set m index (entryOf (eqPlaces (layoutOf r (getD t index 0) .fields) (layoutOf r₀ h .fields)))
 
 -- a number for each type of a record, against a released one: 0 just where the type is as it was
 pub record Changes (r r₀ : Rec) (t m : List ℕ) : Type 0 where

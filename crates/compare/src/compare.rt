@@ -122,7 +122,7 @@ fn check_declared(
     check_bits(stream, pool, ends, past, old, old_ends, current)
 }
 
-// Fields, then standalone families; kept is the table that the pass over the fields fills.
+// Fields, then standalone families; cover is the table that the pass over the fields fills.
 fn check_types(
     rows: &[u8],
     stream: &[u8],

@@ -23,7 +23,7 @@ fn entry_at(table: &[u32], i: usize) -> u32
     if i < table.len() { table[i] } else { 0 }
 }
 
-// How many types changed.
+// How many types changed. Only the time depends on it, so that no more than a bound is promised.
 fn count_changed(types: &[u32], cover: &[u32]) -> usize
     ensures { λ r. ⌜ r ≤ length (now (types .entry)) ⌝ }
 {

@@ -1,4 +1,5 @@
-// The pass over the fields: a released field keeps its place, its size and how it reads.
+// The pass over the fields: a released field keeps its place, its size and how it reads. It also
+// notes which current types are as they were.
 use crate::alike::Both;
 use crate::kept::pass_kept;
 use crate::layouts::both_bare;
@@ -36,7 +37,8 @@ ghost use Rattle.layout.specs.Tables.{Tables};
 ghost use Rattle.definition.specs.Fields.{placeIn, checkKept, checkPlace, checkPlaces, checkType, checkFields, eqPlaces};
 ghost use Rattle.compare.specs.Layouts.{typesOf, spotFound};
 ghost use Rattle.compare.specs.Near.{Near};
-ghost use Rattle.compare.specs.CoverTable.{entryOf, Ones, TypeNoted, Changes};
+ghost use Rattle.compare.specs.Fields.{entryOf, Ones, TypeNoted};
+ghost use Rattle.compare.specs.CoverTable.{Changes};
 ghost use Rattle.verdicts.specs.Meaning.{meaning};
 
 // A released field against the one of its name.

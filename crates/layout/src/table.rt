@@ -151,7 +151,7 @@ fn less_one(n: usize) -> usize {
     if n == 0 { 0 } else { n - 1 }
 }
 
-// The type of a name in parts. It is thought to be near an index: there and beside it is looked first, so a right thought takes two looks.
+// The type of a name in parts. It is thought to be near an index: there and beside it is looked first.
 fn find_parts(
     stream: &[u8],
     pool: &[u8],

@@ -148,7 +148,7 @@ pub is-entered : (t : Types) (o : Option Str) (n : Str) → o ≡ some n → has
 unfolding entered
 is-entered t o n e h = rw (e, h)
 
-pub not-entered : (t : Types) (n : Str) → hasSlot t n ≡ true → entered t (some n) ≡ none
+not-entered : (t : Types) (n : Str) → hasSlot t n ≡ true → entered t (some n) ≡ none
 unfolding entered
 not-entered t n h = rw h
 

@@ -1,5 +1,5 @@
--- The index of the names that a record declares: for each number that a name's last bytes give, the places of its commands from the last to the first,
--- each place one more than it is. Assumes nothing.
+-- The index of the names that a record declares: for each number that a name's length, first and last bytes give, the places of its commands from the
+-- last to the first, each place one more than it is. Assumes nothing.
 use mathlib.Core.Path.{_≡_}
 use mathlib.Core.List.{List, [], _∷_}
 use mathlib.Core.Option.{Option, none, some}

@@ -13,10 +13,9 @@ use Rattle.record.specs.Steps.{structsAt}
 use Rattle.record.specs.Index.{Indexed}
 use Rattle.record.specs.Owner.{structInSlot, ownershipOrder, ownerOf, Edge, Leads}
 use Rattle.record.specs.References.{typesAt}
-use Rattle.record.specs.Versioned.{structCommandsAt, commandInSlot, InSlot}
+use Rattle.record.specs.Versioned.{structCommandsAt, commandInSlot, InSlot, InSlots}
 use Rattle.record.specs.Marks.{targetAt, referenceAt, Full, Walked}
 use Rattle.record.specs.Leads.{LeadsTo}
-use Rattle.record.specs.Versioned.{InSlots}
 use Rattle.record.specs.declared.text.Text.{Text}
 use Rattle.record.specs.declared.command as D
 use Rattle.record.specs.declared.command.Cursor.{Cursor}

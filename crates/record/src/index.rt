@@ -1,6 +1,6 @@
-// An index of the names that a record declares, in a slice that the caller lends. Names are kept by a number below 256 that their last bytes give:
-// first the place of the last command of each number, then for each command the place of the one before it of its number. Every place is one
-// more than it is, and 0 is none. A declaring command takes seven bytes at least, so no two have one entry: their place divided by seven.
+// An index of the names that a record declares, in a slice that the caller lends. Names are kept by a number below 256 that their length, their
+// first and their last bytes give: first the place of the last command of each number, then for each command the place of the one before it of its
+// number. Every place is one more than it is, and 0 is none. A declaring command takes seven bytes at least, so no two have one entry: their place divided by seven.
 use crate::cut;
 use crate::le::byte_at;
 use crate::le::u32_at;

@@ -27,7 +27,7 @@ struct Body {
     family: bool,
 }
 
-// The fields of the first family of a name. A name that nobody declares has none: its fields begin where the stream ends.
+// The fields of the first family of a name that no structure has. A name that nobody declares has none: its fields begin where the stream ends.
 fn family_fields(stream: &[u8], pool: &[u8], index: &[u16], name: &[u8]) -> Body
     ensures { λ r. ⌜ (Indexed (now (stream .entry)) (now (pool .entry)) (now (index .entry)) → Declared (now (stream .entry)) (now (pool .entry)) (now (index .entry)) 8 (now (name .entry)) Sought.Nowhere → IsBody (now (stream .entry)) (now (pool .entry)) (now (name .entry)) r) ⌝ }
 {

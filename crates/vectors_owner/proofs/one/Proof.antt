@@ -11,75 +11,57 @@ use Rattle.parts.proofs.read_number.Reads as read-number-reads
 use Rattle.parts.proofs.read_part.Reads as read-part-reads
 use Rattle.vectors_owner.proofs.judge.Reads as judge-reads
 
--- src/main.rt:89:27
 slice-aggregate-read-part : tie.Need-slice-aggregate-read-part
 slice-aggregate-read-part c = search needs
 
--- src/main.rt:89:9
 read-part-requires : tie.Need-read-part-requires
 read-part-requires c κs = search needs
 
--- src/main.rt:90:27
 slice-aggregate-read-part-2 : tie.Need-slice-aggregate-read-part-2
 slice-aggregate-read-part-2 c = search needs
 
--- src/main.rt:90:9
 read-part-requires-2 : tie.Need-read-part-requires-2
 read-part-requires-2 c κs = search needs
 
--- src/main.rt:91:27
 slice-aggregate-read-part-3 : tie.Need-slice-aggregate-read-part-3
 slice-aggregate-read-part-3 c = search needs
 
--- src/main.rt:91:9
 read-part-requires-3 : tie.Need-read-part-requires-3
 read-part-requires-3 c κs = search needs
 
--- src/main.rt:92:9
 read-byte-requires : tie.Need-read-byte-requires
 read-byte-requires c κs = search needs
 
--- src/main.rt:93:9
 read-number-requires : tie.Need-read-number-requires
 read-number-requires c κs = search needs
 
--- src/main.rt:94:9
 read-number-requires-2 : tie.Need-read-number-requires-2
 read-number-requires-2 c κs = search needs
 
--- src/main.rt:96:9
 returns : tie.Need-returns
 returns c = search needs
 
--- src/main.rt:102:9
 array-share-prefix-stream : tie.Need-array-share-prefix-stream
 array-share-prefix-stream c = search needs
 
--- src/main.rt:102:9
 slice-aggregate-judge : tie.Need-slice-aggregate-judge
 slice-aggregate-judge c = let r = c .before .before .before .before .before .before .before .before .before .before .before .before .before .read-part in sym (length-take-le (r .result .len) (r .last .1 .0) (omega (arith, r .ensures)))
 
--- src/main.rt:103:9
 array-share-prefix-pool : tie.Need-array-share-prefix-pool
 array-share-prefix-pool c = search needs
 
--- src/main.rt:103:9
 slice-aggregate-judge-2 : tie.Need-slice-aggregate-judge-2
 slice-aggregate-judge-2 c = let r = c .before .before .before .before .before .before .before .before .before .before .before .read-part2 in sym (length-take-le (r .result .len) (r .last .1 .0) (omega (arith, r .ensures)))
 
--- src/main.rt:104:9
 array-share-prefix-name : tie.Need-array-share-prefix-name
 array-share-prefix-name c = search needs
 
--- src/main.rt:104:9
 slice-aggregate-judge-3 : tie.Need-slice-aggregate-judge-3
 slice-aggregate-judge-3 c = let r = c .before .before .before .before .before .before .before .before .before .read-part3 in sym (length-take-le (r .result .len) (r .last .1 .0) (omega (arith, r .ensures)))
 
--- src/main.rt:101:5
 judge-requires : tie.Need-judge-requires
 judge-requires c κs = search needs
 
--- src/main.rt:85:1
 returns-2 : tie.Need-returns-2
 returns-2 c = search needs
 

@@ -11,59 +11,45 @@ use Rattle.parts.proofs.read_number.Reads as read-number-reads
 use Rattle.parts.proofs.read_part.Reads as read-part-reads
 use Rattle.vectors_record.proofs.judge.Reads as judge-reads
 
--- src/main.rt:54:27
 slice-aggregate-read-part : tie.Need-slice-aggregate-read-part
 slice-aggregate-read-part c = search needs
 
--- src/main.rt:54:9
 read-part-requires : tie.Need-read-part-requires
 read-part-requires c κs = search needs
 
--- src/main.rt:55:27
 slice-aggregate-read-part-2 : tie.Need-slice-aggregate-read-part-2
 slice-aggregate-read-part-2 c = search needs
 
--- src/main.rt:55:9
 read-part-requires-2 : tie.Need-read-part-requires-2
 read-part-requires-2 c κs = search needs
 
--- src/main.rt:56:9
 read-byte-requires : tie.Need-read-byte-requires
 read-byte-requires c κs = search needs
 
--- src/main.rt:57:9
 read-byte-requires-2 : tie.Need-read-byte-requires-2
 read-byte-requires-2 c κs = search needs
 
--- src/main.rt:58:9
 read-number-requires : tie.Need-read-number-requires
 read-number-requires c κs = search needs
 
--- src/main.rt:60:9
 returns : tie.Need-returns
 returns c = search needs
 
--- src/main.rt:64:11
 array-share-prefix-stream : tie.Need-array-share-prefix-stream
 array-share-prefix-stream c = search needs
 
--- src/main.rt:64:11
 slice-aggregate-judge : tie.Need-slice-aggregate-judge
 slice-aggregate-judge c = let r = c .before .before .before .before .before .before .before .before .before .before .read-part in sym (length-take-le (r .result .len) (r .last .1 .0) (omega (arith, r .ensures)))
 
--- src/main.rt:64:25
 array-share-prefix-pool : tie.Need-array-share-prefix-pool
 array-share-prefix-pool c = search needs
 
--- src/main.rt:64:25
 slice-aggregate-judge-2 : tie.Need-slice-aggregate-judge-2
 slice-aggregate-judge-2 c = let r = c .before .before .before .before .before .before .before .before .read-part2 in sym (length-take-le (r .result .len) (r .last .1 .0) (omega (arith, r .ensures)))
 
--- src/main.rt:64:5
 judge-requires : tie.Need-judge-requires
 judge-requires c κs = search needs
 
--- src/main.rt:51:1
 returns-2 : tie.Need-returns-2
 returns-2 c = search needs
 

@@ -9,31 +9,24 @@ use Rattle.compare.proofs.bitfield_releases.check_bitfield_releases.Rea
 use Rattle.compare.proofs.bitfields.check_bitfields.Reads as check-bitfields-reads
 use Rattle.record.proofs.cut.upto.Reads as upto-reads
 
--- src/compare.rt:86:9
 upto-requires : tie.Need-upto-requires
 upto-requires c κs = search needs
 
--- src/compare.rt:87:9
 upto-requires-2 : tie.Need-upto-requires-2
 upto-requires-2 c κs = search needs
 
--- src/compare.rt:88:9
 check-bitfields-requires : tie.Need-check-bitfields-requires
 check-bitfields-requires c κs = search needs
 
--- src/compare.rt:90:9
 enum-told : tie.Need-enum-told
 enum-told c = search needs
 
--- src/compare.rt:90:9
 check-bitfield-releases-requires : tie.Need-check-bitfield-releases-requires
 check-bitfield-releases-requires c κs = search needs
 
--- src/compare.rt:90:9
 returns : tie.Need-returns
 returns c = search (then-on, bits-cut, bit-releases-cut)
 
--- src/compare.rt:74:1
 returns-2 : tie.Need-returns-2
 returns-2 c = search (then-stop, bits-cut)
 

@@ -8,49 +8,39 @@ use Rattle.compare.proofs.compare.check_bits.Reads as check-bits-reads
 use Rattle.compare.proofs.compare.check_numbers.Reads as check-numbers-reads
 use Rattle.compare.proofs.first_releases.check_first_releases.Reads as check-first-releases-reads
 
--- src/compare.rt:111:9
 check-first-releases-requires : tie.Need-check-first-releases-requires
 check-first-releases-requires c κs = search needs
 
 enum-told : tie.Need-enum-told
 enum-told c = search needs
 
--- src/compare.rt:113:9
 returns : tie.Need-returns
 returns c = search three-first
 
--- src/compare.rt:115:9
 check-numbers-requires : tie.Need-check-numbers-requires
 check-numbers-requires c κs = search needs
 
 enum-told-2 : tie.Need-enum-told-2
 enum-told-2 c = search needs
 
--- src/compare.rt:117:9
 same-length : tie.Need-same-length
 same-length c = search needs
 
--- src/compare.rt:117:9
 same-length-2 : tie.Need-same-length-2
 same-length-2 c = search needs
 
--- src/compare.rt:117:9
 returns-2 : tie.Need-returns-2
 returns-2 c = search three-second
 
--- src/compare.rt:121:5
 check-bits-requires : tie.Need-check-bits-requires
 check-bits-requires c κs = search needs
 
--- src/compare.rt:96:1
 same-length-3 : tie.Need-same-length-3
 same-length-3 c = search needs
 
--- src/compare.rt:96:1
 same-length-4 : tie.Need-same-length-4
 same-length-4 c = search needs
 
--- src/compare.rt:96:1
 returns-3 : tie.Need-returns-3
 returns-3 c = search three-third
 

@@ -7,55 +7,42 @@ use Rattle.compare.proofs.compare.check_indexed.Lts as lts
 use Rattle.compare.proofs.compare.check_declared.Reads as check-declared-reads
 use Rattle.compare.proofs.compare.check_tables.Reads as check-tables-reads
 
--- src/compare.rt:232:9
 check-declared-requires : tie.Need-check-declared-requires
 check-declared-requires c κs = (search needs, search needs, search needs, search needs, search needs, search needs, search needs)
 
--- src/compare.rt:250:13
 enum-told : tie.Need-enum-told
 enum-told c = search needs
 
--- src/compare.rt:245:9
 check-tables-requires : tie.Need-check-tables-requires
 check-tables-requires c κs = (search needs, search needs, search needs, search needs, search needs, search needs, search needs, search needs, search needs, search needs, search needs, search needs, search needs)
 
--- src/compare.rt:245:9
 same-length : tie.Need-same-length
 same-length c = search needs
 
--- src/compare.rt:245:9
 same-length-2 : tie.Need-same-length-2
 same-length-2 c = search needs
 
--- src/compare.rt:245:9
 same-length-3 : tie.Need-same-length-3
 same-length-3 c = search needs
 
--- src/compare.rt:245:9
 same-length-4 : tie.Need-same-length-4
 same-length-4 c = search needs
 
--- src/compare.rt:245:9
 same-length-5 : tie.Need-same-length-5
 same-length-5 c = search needs
 
--- src/compare.rt:245:9
 same-length-6 : tie.Need-same-length-6
 same-length-6 c = search needs
 
--- src/compare.rt:245:9
 returns : tie.Need-returns
 returns c = search then-on
 
--- src/compare.rt:212:1
 same-length-7 : tie.Need-same-length-7
 same-length-7 c = search needs
 
--- src/compare.rt:212:1
 same-length-8 : tie.Need-same-length-8
 same-length-8 c = search needs
 
--- src/compare.rt:212:1
 returns-2 : tie.Need-returns-2
 returns-2 c = search then-stop
 

@@ -5,43 +5,33 @@ use Rattle.compare.proofs.compare.check_long.Reads as reads
 use Rattle.compare.proofs.compare.check_long.Lts as lts
 use Rattle.compare.proofs.compare.check_lent.Reads as check-lent-reads
 
--- src/compare.rt:333:9
 slice-aggregate-check-lent : tie.Need-slice-aggregate-check-lent
 slice-aggregate-check-lent c = search needs
 
--- src/compare.rt:334:9
 slice-aggregate-check-lent-2 : tie.Need-slice-aggregate-check-lent-2
 slice-aggregate-check-lent-2 c = search needs
 
--- src/compare.rt:335:9
 slice-aggregate-check-lent-3 : tie.Need-slice-aggregate-check-lent-3
 slice-aggregate-check-lent-3 c = search needs
 
--- src/compare.rt:338:9
 slice-aggregate-check-lent-4 : tie.Need-slice-aggregate-check-lent-4
 slice-aggregate-check-lent-4 c = search needs
 
--- src/compare.rt:339:9
 slice-aggregate-check-lent-5 : tie.Need-slice-aggregate-check-lent-5
 slice-aggregate-check-lent-5 c = search needs
 
--- src/compare.rt:340:9
 slice-aggregate-check-lent-6 : tie.Need-slice-aggregate-check-lent-6
 slice-aggregate-check-lent-6 c = search needs
 
--- src/compare.rt:341:9
 slice-aggregate-check-lent-7 : tie.Need-slice-aggregate-check-lent-7
 slice-aggregate-check-lent-7 c = search needs
 
--- src/compare.rt:342:9
 slice-aggregate-check-lent-8 : tie.Need-slice-aggregate-check-lent-8
 slice-aggregate-check-lent-8 c = search needs
 
--- src/compare.rt:329:5
 check-lent-requires : tie.Need-check-lent-requires
 check-lent-requires c κs = (search needs, search needs, search needs, search needs, search needs, search needs, search needs, search needs, search needs, search needs, search needs, search needs, search needs, search needs)
 
--- src/compare.rt:309:1
 returns : tie.Need-returns
 returns c = search needs
 

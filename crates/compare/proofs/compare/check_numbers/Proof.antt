@@ -12,43 +12,33 @@ use Rattle.record.proofs.cut.upto.Reads as upto-reads
 upto-requires : tie.Need-upto-requires
 upto-requires c κs = search needs
 
--- src/compare.rt:67:9
 check-constants-requires : tie.Need-check-constants-requires
 check-constants-requires c κs = (search short-cut, search room-cut, search room-cut, search needs)
 
--- src/compare.rt:69:49
 enum-told : tie.Need-enum-told
 enum-told c = search needs
 
--- src/compare.rt:69:49
 upto-requires-2 : tie.Need-upto-requires-2
 upto-requires-2 c κs = search needs
 
--- src/compare.rt:69:9
 check-enums-requires : tie.Need-check-enums-requires
 check-enums-requires c κs = search needs
 
--- src/compare.rt:69:9
 same-length : tie.Need-same-length
 same-length c = search needs
 
--- src/compare.rt:69:9
 same-length-2 : tie.Need-same-length-2
 same-length-2 c = search needs
 
--- src/compare.rt:69:9
 returns : tie.Need-returns
 returns c = search (then-on, constants-cut, enums-cut)
 
--- src/compare.rt:54:1
 same-length-3 : tie.Need-same-length-3
 same-length-3 c = search needs
 
--- src/compare.rt:54:1
 same-length-4 : tie.Need-same-length-4
 same-length-4 c = search needs
 
--- src/compare.rt:54:1
 returns-2 : tie.Need-returns-2
 returns-2 c = search (then-stop, constants-cut)
 

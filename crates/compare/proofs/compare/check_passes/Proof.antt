@@ -8,30 +8,24 @@ use Rattle.compare.proofs.compare.check_long.Reads as check-long-reads
 use Rattle.compare.proofs.compare.check_short.Reads as check-short-reads
 use Rattle.compare.proofs.release_order.check_release_order.Reads as check-release-order-reads
 
--- src/compare.rt:401:9
 check-release-order-requires : tie.Need-check-release-order-requires
 check-release-order-requires c κs = search needs
 
 enum-told : tie.Need-enum-told
 enum-told c = search needs
 
--- src/compare.rt:403:9
 returns : tie.Need-returns
 returns c = search then-stop
 
--- src/compare.rt:407:13
 check-short-requires : tie.Need-check-short-requires
 check-short-requires c κs = search needs
 
--- src/compare.rt:407:13
 returns-2 : tie.Need-returns-2
 returns-2 c = search then-on
 
--- src/compare.rt:410:5
 check-long-requires : tie.Need-check-long-requires
 check-long-requires c κs = search needs
 
--- src/compare.rt:389:1
 returns-3 : tie.Need-returns-3
 returns-3 c = search then-on
 

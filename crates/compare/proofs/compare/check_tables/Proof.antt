@@ -8,31 +8,24 @@ use Rattle.compare.proofs.compare.check_tables.Lts as lts
 use Rattle.compare.proofs.compare.check_layouts.Reads as check-layouts-reads
 use Rattle.layout.proofs.tables.fill_tables.Reads as fill-tables-reads
 
--- src/compare.rt:201:9
 fill-tables-requires : tie.Need-fill-tables-requires
 fill-tables-requires c κs = search needs
 
--- src/compare.rt:202:9
 fill-tables-requires-2 : tie.Need-fill-tables-requires-2
 fill-tables-requires-2 c κs = search needs
 
--- src/compare.rt:207:9
 slice-reshare-prefix-check-layouts : tie.Need-slice-reshare-prefix-check-layouts
 slice-reshare-prefix-check-layouts c = search needs
 
--- src/compare.rt:207:9
 slice-aggregate-check-layouts : tie.Need-slice-aggregate-check-layouts
 slice-aggregate-check-layouts c = cut-long _ _ (search needs)
 
--- src/compare.rt:211:9
 slice-reshare-prefix-check-layouts-2 : tie.Need-slice-reshare-prefix-check-layouts-2
 slice-reshare-prefix-check-layouts-2 c = search needs
 
--- src/compare.rt:211:9
 slice-aggregate-check-layouts-2 : tie.Need-slice-aggregate-check-layouts-2
 slice-aggregate-check-layouts-2 c = cut-long _ _ (search needs)
 
--- src/compare.rt:203:5
 check-layouts-requires : tie.Need-check-layouts-requires
 check-layouts-requires c κs =
     let pre = c .before .before .before .before .before .before .before .before .before .before .before .before .before .before .before .before .before .before .before .before .before .before .before .before .before .before .before .before .before .before .before .before .before .before .before .before .before .before .before .pre in
@@ -40,31 +33,24 @@ check-layouts-requires c κs =
     let was = c .before .before .before .before .before .before .before .before .before .before .before .before .fill-tables2 .ensures .0 (pre .12) (pre .2) (omega (arith, pre .7)) (omega (arith, pre .8)) (omega (arith, pre .9)) (pre .3) in
     (is, was, omega (arith, pre .10), omega (arith, is .few, pre .5), pre .11, pre .12)
 
--- src/compare.rt:183:1
 same-length : tie.Need-same-length
 same-length c = search needs
 
--- src/compare.rt:183:1
 same-length-2 : tie.Need-same-length-2
 same-length-2 c = search needs
 
--- src/compare.rt:183:1
 same-length-3 : tie.Need-same-length-3
 same-length-3 c = search needs
 
--- src/compare.rt:183:1
 same-length-4 : tie.Need-same-length-4
 same-length-4 c = search needs
 
--- src/compare.rt:183:1
 same-length-5 : tie.Need-same-length-5
 same-length-5 c = search needs
 
--- src/compare.rt:183:1
 same-length-6 : tie.Need-same-length-6
 same-length-6 c = search needs
 
--- src/compare.rt:183:1
 returns : tie.Need-returns
 returns c = search needs
 

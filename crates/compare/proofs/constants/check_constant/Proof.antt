@@ -10,55 +10,42 @@ use Rattle.compare.proofs.constants.value_of.Reads as value-of-reads
 use Rattle.record.proofs.named.last_constant.Reads as last-constant-reads
 use Rattle.record.proofs.text.bytes_of.Reads as bytes-of-reads
 
--- src/constants.rt:132:51
 bytes-of-requires : tie.Need-bytes-of-requires
 bytes-of-requires c κs = search needs
 
--- src/constants.rt:132:9
 last-constant-requires : tie.Need-last-constant-requires
 last-constant-requires c κs = search needs
 
--- src/constants.rt:133:33
 enum-known-last : tie.Need-enum-known-last
 enum-known-last c = search needs
 
--- src/constants.rt:134:9
 enum-told : tie.Need-enum-told
 enum-told c = search needs
 
--- src/constants.rt:134:9
 returns : tie.Need-returns
 returns c = search constant-gone
 
--- src/constants.rt:136:9
 value-of-requires : tie.Need-value-of-requires
 value-of-requires c κs = search needs
 
--- src/constants.rt:137:9
 value-of-requires-2 : tie.Need-value-of-requires-2
 value-of-requires-2 c κs = search needs
 
--- src/constants.rt:138:8
 same-value-requires : tie.Need-same-value-requires
 same-value-requires c κs = search needs
 
--- src/constants.rt:139:9
 returns-2 : tie.Need-returns-2
 returns-2 c = search constant-same
 
--- src/constants.rt:141:43
 bytes-of-requires-2 : tie.Need-bytes-of-requires-2
 bytes-of-requires-2 c κs = search needs
 
--- src/constants.rt:141:8
 is-generation-requires : tie.Need-is-generation-requires
 is-generation-requires c κs = search needs
 
--- src/constants.rt:142:9
 returns-3 : tie.Need-returns-3
 returns-3 c = search (constant-exempt, c .before .before .before .before .before .before .before .before .before .before .before .before .before .before .before .before .before .pre)
 
--- src/constants.rt:127:1
 returns-4 : tie.Need-returns-4
 returns-4 c = search (constant-changed, c .before .before .before .before .before .before .before .before .before .before .before .before .before .before .before .before .before .pre)
 

@@ -13,43 +13,33 @@ Inv-loop types cover n₀ i₀ n i = (n ≤ i) × (i ≤ length types)
 abbrev μ-loop : tie.MeasureT-loop
 μ-loop types cover n₀ i₀ n i = length types - i
 
--- src/cover_table.rt:33:5
 loop-holds : tie.Need-loop-holds Inv-loop μ-loop
 loop-holds c = search needs
 
--- src/cover_table.rt:34:12
 entry-at-requires : tie.Need-entry-at-requires Inv-loop μ-loop
 entry-at-requires c κs = search needs
 
--- src/cover_table.rt:35:13
 add-i : tie.Need-add-i Inv-loop μ-loop
 add-i c = search needs
 
--- src/cover_table.rt:33:5
 loop-less : tie.Need-loop-less Inv-loop μ-loop
 loop-less c = search needs
 
--- src/cover_table.rt:33:5
 loop-again : tie.Need-loop-again Inv-loop μ-loop
 loop-again c = search needs
 
--- src/cover_table.rt:37:13
 add-n : tie.Need-add-n Inv-loop μ-loop
 add-n c = search needs
 
--- src/cover_table.rt:38:13
 add-i-2 : tie.Need-add-i-2 Inv-loop μ-loop
 add-i-2 c = search needs
 
--- src/cover_table.rt:33:5
 loop-less-2 : tie.Need-loop-less-2 Inv-loop μ-loop
 loop-less-2 c = search needs
 
--- src/cover_table.rt:33:5
 loop-again-2 : tie.Need-loop-again-2 Inv-loop μ-loop
 loop-again-2 c = search needs
 
--- src/cover_table.rt:28:1
 returns : tie.Need-returns Inv-loop μ-loop
 returns c = search needs
 

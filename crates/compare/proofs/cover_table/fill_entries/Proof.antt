@@ -14,67 +14,51 @@ Inv-loop stream pool types roots marks index leads cover₀ last₀ i₀ cover l
 abbrev μ-loop : tie.MeasureT-loop
 μ-loop stream pool types roots marks index leads cover₀ last₀ i₀ cover last i = length types - i
 
--- src/cover_table.rt:117:5
 loop-holds : tie.Need-loop-holds Inv-loop μ-loop
 loop-holds c = search entering-start
 
--- src/cover_table.rt:118:12
 mul-if1 : tie.Need-mul-if1 Inv-loop μ-loop
 mul-if1 c = search needs
 
--- src/cover_table.rt:118:12
 slice-read-if1 : tie.Need-slice-read-if1 Inv-loop μ-loop
 slice-read-if1 c = search needs
 
--- src/cover_table.rt:119:13
 add-i : tie.Need-add-i Inv-loop μ-loop
 add-i c = search needs
 
--- src/cover_table.rt:117:5
 loop-less : tie.Need-loop-less Inv-loop μ-loop
 loop-less c = search needs
 
--- src/cover_table.rt:117:5
 loop-again : tie.Need-loop-again Inv-loop μ-loop
 loop-again c = search entering-over
 
--- src/cover_table.rt:121:21
 mul-h : tie.Need-mul-h Inv-loop μ-loop
 mul-h c = search needs
 
--- src/cover_table.rt:121:21
 shared-slice-read-h : tie.Need-shared-slice-read-h Inv-loop μ-loop
 shared-slice-read-h c = search needs
 
--- src/cover_table.rt:122:17
 entry-after-requires : tie.Need-entry-after-requires Inv-loop μ-loop
 entry-after-requires c κs = search needs
 
--- src/cover_table.rt:123:13
 mul-cover : tie.Need-mul-cover Inv-loop μ-loop
 mul-cover c = search needs
 
--- src/cover_table.rt:123:13
 slice-write-cover : tie.Need-slice-write-cover Inv-loop μ-loop
 slice-write-cover c = search needs
 
--- src/cover_table.rt:125:13
 add-i-2 : tie.Need-add-i-2 Inv-loop μ-loop
 add-i-2 c = search needs
 
--- src/cover_table.rt:117:5
 loop-less-2 : tie.Need-loop-less-2 Inv-loop μ-loop
 loop-less-2 c = search needs
 
--- src/cover_table.rt:117:5
 loop-again-2 : tie.Need-loop-again-2 Inv-loop μ-loop
 loop-again-2 c = search entering-put
 
--- src/cover_table.rt:102:1
 same-length : tie.Need-same-length Inv-loop μ-loop
 same-length c = search needs
 
--- src/cover_table.rt:102:1
 returns : tie.Need-returns Inv-loop μ-loop
 returns c = search entering-end
 

@@ -7,27 +7,21 @@ use Rattle.compare.proofs.cover_table.fill_many.Lts as lts
 use Rattle.compare.proofs.cover_table.fill_entries.Reads as fill-entries-reads
 use Rattle.record.proofs.leads.fill_leads.Reads as fill-leads-reads
 
--- src/cover_table.rt:169:44
 slice-aggregate-fill-leads : tie.Need-slice-aggregate-fill-leads
 slice-aggregate-fill-leads c = search needs
 
--- src/cover_table.rt:169:5
 fill-leads-requires : tie.Need-fill-leads-requires
 fill-leads-requires c κs = search needs
 
--- src/cover_table.rt:170:60
 slice-aggregate-fill-entries : tie.Need-slice-aggregate-fill-entries
 slice-aggregate-fill-entries c = search needs
 
--- src/cover_table.rt:170:5
 fill-entries-requires : tie.Need-fill-entries-requires
 fill-entries-requires c κs = (search owners-many, search needs)
 
--- src/cover_table.rt:156:1
 same-length : tie.Need-same-length
 same-length c = search needs
 
--- src/cover_table.rt:156:1
 returns : tie.Need-returns
 returns c = search needs
 

@@ -11,35 +11,27 @@ use Rattle.compare.proofs.fields.note_rest.Reads as note-rest-reads
 use Rattle.compare.proofs.kept.pass_kept.Reads as pass-kept-reads
 use Rattle.compare.proofs.layouts.is_bare.Reads as is-bare-reads
 
--- src/fields.rt:294:9
 pass-kept-requires : tie.Need-pass-kept-requires
 pass-kept-requires c κs = search needs
 
--- src/fields.rt:297:5
 note-rest-requires : tie.Need-note-rest-requires
 note-rest-requires c κs = (search ahead-sound, search ahead-sound₀, search needs)
 
--- src/fields.rt:310:8
 is-bare-requires : tie.Need-is-bare-requires
 is-bare-requires c κs = search needs
 
--- src/fields.rt:311:9
 same-length : tie.Need-same-length
 same-length c = search needs
 
--- src/fields.rt:311:9
 returns : tie.Need-returns
 returns c = (search rest-bare, search rest-noted)
 
--- src/fields.rt:313:5
 check-any-requires : tie.Need-check-any-requires
 check-any-requires c κs = let pre = c .before .before .before .before .before .before .before .before .before .before .before .before .before .before .before .before .pre in (pre .0, kept-sound _ _ _ _ _ _ _ _ _ _ (pre .0) (pre .1) (c .before .before .before .before .before .before .before .pass-kept .ensures .0))
 
--- src/fields.rt:277:1
 same-length-2 : tie.Need-same-length-2
 same-length-2 c = search needs
 
--- src/fields.rt:277:1
 returns-2 : tie.Need-returns-2
 returns-2 c =
     let pre = c .before .before .before .before .before .before .before .before .before .before .before .before .before .before .before .before .before .pre in

@@ -10,43 +10,33 @@ use Rattle.compare.proofs.layouts.is_bare.Reads as is-bare-reads
 use Rattle.layout.proofs.names.type_name.Reads as type-name-reads
 use Rattle.layout.proofs.spots.first_spot.Reads as first-spot-reads
 
--- src/fields.rt:344:9
 first-spot-requires : tie.Need-first-spot-requires
 first-spot-requires c κs = search needs
 
--- src/fields.rt:345:9
 first-spot-requires-2 : tie.Need-first-spot-requires-2
 first-spot-requires-2 c κs = search needs
 
--- src/fields.rt:346:8
 is-bare-requires : tie.Need-is-bare-requires
 is-bare-requires c κs = search needs
 
--- src/fields.rt:347:9
 note-rest-requires : tie.Need-note-rest-requires
 note-rest-requires c κs = (search cursor-sound, search cursor-sound, search needs)
 
--- src/fields.rt:360:9
 same-length : tie.Need-same-length
 same-length c = search needs
 
--- src/fields.rt:360:9
 returns : tie.Need-returns
 returns c = (search bare-passed, search layout-noted)
 
--- src/fields.rt:362:9
 type-name-requires : tie.Need-type-name-requires
 type-name-requires c κs = search needs
 
--- src/fields.rt:363:5
 check-changed-requires : tie.Need-check-changed-requires
 check-changed-requires c κs = (search cursor-sound, search cursor-sound, search needs)
 
--- src/fields.rt:328:1
 same-length-2 : tie.Need-same-length-2
 same-length-2 c = search needs
 
--- src/fields.rt:328:1
 returns-2 : tie.Need-returns-2
 returns-2 c =
     let pre = c .before .before .before .before .before .before .before .before .before .before .before .before .before .before .before .before .before .pre in

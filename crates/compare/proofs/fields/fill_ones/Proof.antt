@@ -1,7 +1,7 @@
 use Prim.Native.Nat.{_-_, _≤_}
 use mathlib.Core.Path.{_≡_}
 use lib.ListN.{length}
-use Rattle.compare.specs.CoverTable.{Ones}
+use Rattle.compare.specs.Fields.{Ones}
 use Rattle.compare.proofs.FieldLaws.{ones-start, ones-on, ones-end}
 use borrow.Author.Needs.{needs}
 use Rattle.compare.proofs.fields.fill_ones.Statement.{statement}

@@ -7,59 +7,45 @@ use Rattle.compare.proofs.fields.note_rest.Lts as lts
 use Rattle.compare.proofs.layouts.both_bare.Reads as both-bare-reads
 use Rattle.compare.proofs.layouts.same_rest.Reads as same-rest-reads
 
--- src/fields.rt:267:8
 both-bare-requires : tie.Need-both-bare-requires
 both-bare-requires c κs = search needs
 
--- src/fields.rt:268:9
 mul-cover : tie.Need-mul-cover
 mul-cover c = search needs
 
--- src/fields.rt:268:9
 slice-write-cover : tie.Need-slice-write-cover
 slice-write-cover c = search needs
 
--- src/fields.rt:269:9
 same-length : tie.Need-same-length
 same-length c = search needs
 
--- src/fields.rt:269:9
 returns : tie.Need-returns
 returns c = search note-laws
 
--- src/fields.rt:271:8
 same-rest-requires : tie.Need-same-rest-requires
 same-rest-requires c κs = search needs
 
--- src/fields.rt:272:9
 mul-cover-2 : tie.Need-mul-cover-2
 mul-cover-2 c = search needs
 
--- src/fields.rt:272:9
 slice-write-cover-2 : tie.Need-slice-write-cover-2
 slice-write-cover-2 c = search needs
 
--- src/fields.rt:274:9
 mul-cover-3 : tie.Need-mul-cover-3
 mul-cover-3 c = search needs
 
--- src/fields.rt:274:9
 slice-write-cover-3 : tie.Need-slice-write-cover-3
 slice-write-cover-3 c = search needs
 
--- src/fields.rt:250:1
 same-length-2 : tie.Need-same-length-2
 same-length-2 c = search needs
 
--- src/fields.rt:250:1
 returns-2 : tie.Need-returns-2
 returns-2 c = search note-laws
 
--- src/fields.rt:250:1
 same-length-3 : tie.Need-same-length-3
 same-length-3 c = search needs
 
--- src/fields.rt:250:1
 returns-3 : tie.Need-returns-3
 returns-3 c = search note-laws
 

@@ -12,40 +12,33 @@ use Rattle.record.proofs.cut.upto.Reads as upto-reads
 upto-requires : tie.Need-upto-requires
 upto-requires c κs = search needs
 
--- src/first_releases.rt:359:9
 check-constant-arrivals-requires : tie.Need-check-constant-arrivals-requires
 check-constant-arrivals-requires c κs = search needs
 
 enum-told : tie.Need-enum-told
 enum-told c = search needs
 
--- src/first_releases.rt:361:9
 returns : tie.Need-returns
 returns c = search (first-constants, constant-arrivals-cut)
 
--- src/first_releases.rt:363:9
 upto-requires-2 : tie.Need-upto-requires-2
 upto-requires-2 c κs = search needs
 
--- src/first_releases.rt:364:9
 check-enum-arrivals-requires : tie.Need-check-enum-arrivals-requires
 check-enum-arrivals-requires c κs = search needs
 
 enum-told-2 : tie.Need-enum-told-2
 enum-told-2 c = search needs
 
--- src/first_releases.rt:366:9
 returns-2 : tie.Need-returns-2
 returns-2 c = search (first-enums, constant-arrivals-cut, enum-arrivals-cut)
 
 upto-requires-3 : tie.Need-upto-requires-3
 upto-requires-3 c κs = search needs
 
--- src/first_releases.rt:368:5
 check-key-arrivals-requires : tie.Need-check-key-arrivals-requires
 check-key-arrivals-requires c κs = search needs
 
--- src/first_releases.rt:346:1
 returns-3 : tie.Need-returns-3
 returns-3 c = search (first-keys, constant-arrivals-cut, enum-arrivals-cut, key-arrivals-cut)
 

@@ -8,31 +8,24 @@ use Rattle.compare.proofs.generations.check_from.Reads as check-from-re
 use Rattle.record.proofs.named.first_constant.Reads as first-constant-reads
 use Rattle.record.proofs.text.bytes_of.Reads as bytes-of-reads
 
--- src/generations.rt:196:54
 bytes-of-requires : tie.Need-bytes-of-requires
 bytes-of-requires c κs = search needs
 
--- src/generations.rt:196:9
 first-constant-requires : tie.Need-first-constant-requires
 first-constant-requires c κs = search needs
 
--- src/generations.rt:197:33
 enum-known-found : tie.Need-enum-known-found
 enum-known-found c = search needs
 
--- src/generations.rt:198:9
 enum-told : tie.Need-enum-told
 enum-told c = search needs
 
--- src/generations.rt:198:9
 returns : tie.Need-returns
 returns c = search against-laws
 
--- src/generations.rt:200:5
 check-from-requires : tie.Need-check-from-requires
 check-from-requires c κs = search needs
 
--- src/generations.rt:179:1
 returns-2 : tie.Need-returns-2
 returns-2 c = search against-laws
 

@@ -9,34 +9,27 @@ use Rattle.compare.proofs.generations.check_filled.Reads as check-fille
 use Rattle.record.proofs.marks.mark_owners.Reads as mark-owners-reads
 use Rattle.record.proofs.versioned.versioned_structs.Reads as versioned-structs-reads
 
--- src/generations.rt:409:9
 versioned-structs-requires : tie.Need-versioned-structs-requires
 versioned-structs-requires c κs = search needs
 
--- src/generations.rt:410:5
 mark-owners-requires : tie.Need-mark-owners-requires
 mark-owners-requires c κs = search needs
 
--- src/generations.rt:411:5
 fill-cover-requires : tie.Need-fill-cover-requires
 fill-cover-requires c κs =
     let pre = c .before .before .before .before .before .before .before .before .before .before .before .before .before .before .before .before .pre in
     let slots = c .before .before .before .before .before .before .versioned-structs .ensures in
     (record { marks = c .before .before .before .before .mark-owners .ensures .within (pre .1) slots (pre .3); index = pre .3 }, slots, pre .2)
 
--- src/generations.rt:412:5
 check-filled-requires : tie.Need-check-filled-requires
 check-filled-requires c κs = let pre = c .before .before .before .before .before .before .before .before .before .before .before .before .before .before .before .before .before .before .before .before .pre in (c .before .before .before .before .before .before .before .before .before .before .versioned-structs .ensures, pre .3, pre .4)
 
--- src/generations.rt:393:1
 same-length : tie.Need-same-length
 same-length c = search needs
 
--- src/generations.rt:393:1
 same-length-2 : tie.Need-same-length-2
 same-length-2 c = search needs
 
--- src/generations.rt:393:1
 returns : tie.Need-returns
 returns c = λ w g. search (generations-are, c .before .before .before .before .before .before .before .before .before .before .before .before .before .before .before .before .before .before .before .before .before .pre .0)
 

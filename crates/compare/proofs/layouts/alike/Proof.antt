@@ -9,91 +9,69 @@ use Rattle.compare.proofs.layouts.alike_words.Reads as alike-words-read
 use Rattle.record.proofs.text.bytes_of.Reads as bytes-of-reads
 use Rattle.record.proofs.text.same.Reads as same-reads
 
--- src/layouts.rt:48:31
 enum-known-d : tie.Need-enum-known-d
 enum-known-d c = search needs
 
--- src/layouts.rt:49:32
 enum-known-e : tie.Need-enum-known-e
 enum-known-e c = search needs
 
--- src/layouts.rt:50:13
 returns : tie.Need-returns
 returns c = λ t. absurd (false≢true t)
 
--- src/layouts.rt:52:17
 bytes-of-requires : tie.Need-bytes-of-requires
 bytes-of-requires c κs = search needs
 
--- src/layouts.rt:52:39
 bytes-of-requires-2 : tie.Need-bytes-of-requires-2
 bytes-of-requires-2 c κs = search needs
 
--- src/layouts.rt:52:12
 same-requires : tie.Need-same-requires
 same-requires c κs = search needs
 
--- src/layouts.rt:53:25
 bytes-of-requires-3 : tie.Need-bytes-of-requires-3
 bytes-of-requires-3 c κs = search needs
 
--- src/layouts.rt:53:47
 bytes-of-requires-4 : tie.Need-bytes-of-requires-4
 bytes-of-requires-4 c κs = search needs
 
--- src/layouts.rt:53:13
 same-requires-2 : tie.Need-same-requires-2
 same-requires-2 c κs = search needs
 
--- src/layouts.rt:53:13
 returns-2 : tie.Need-returns-2
 returns-2 c = λ t. search alike-laws
 
--- src/layouts.rt:55:9
 returns-3 : tie.Need-returns-3
 returns-3 c = λ t. absurd (false≢true t)
 
--- src/layouts.rt:57:31
 enum-known-d-2 : tie.Need-enum-known-d-2
 enum-known-d-2 c = search needs
 
--- src/layouts.rt:58:32
 enum-known-e-2 : tie.Need-enum-known-e-2
 enum-known-e-2 c = search needs
 
--- src/layouts.rt:59:13
 returns-4 : tie.Need-returns-4
 returns-4 c = λ t. absurd (false≢true t)
 
--- src/layouts.rt:62:13
 returns-5 : tie.Need-returns-5
 returns-5 c = λ t. absurd (false≢true t)
 
--- src/layouts.rt:64:17
 bytes-of-requires-5 : tie.Need-bytes-of-requires-5
 bytes-of-requires-5 c κs = search needs
 
--- src/layouts.rt:64:39
 bytes-of-requires-6 : tie.Need-bytes-of-requires-6
 bytes-of-requires-6 c κs = search needs
 
--- src/layouts.rt:64:12
 same-requires-3 : tie.Need-same-requires-3
 same-requires-3 c κs = search needs
 
--- src/layouts.rt:65:13
 alike-words-requires : tie.Need-alike-words-requires
 alike-words-requires c κs = search needs
 
--- src/layouts.rt:65:13
 returns-6 : tie.Need-returns-6
 returns-6 c = λ t. search alike-laws
 
--- src/layouts.rt:67:9
 returns-7 : tie.Need-returns-7
 returns-7 c = λ t. absurd (false≢true t)
 
--- src/layouts.rt:45:1
 returns-8 : tie.Need-returns-8
 returns-8 c = λ t. absurd (false≢true t)
 

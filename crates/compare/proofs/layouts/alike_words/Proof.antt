@@ -8,54 +8,42 @@ use Rattle.compare.proofs.layouts.alike_words.Lts as lts
 use Rattle.record.proofs.text.bytes_of.Reads as bytes-of-reads
 use Rattle.record.proofs.text.same.Reads as same-reads
 
--- src/layouts.rt:32:24
 enum-known-a : tie.Need-enum-known-a
 enum-known-a c = search needs
 
--- src/layouts.rt:33:13
 enum-told : tie.Need-enum-told
 enum-told c = search needs
 
 enum-told-2 : tie.Need-enum-told-2
 enum-told-2 c = search needs
 
--- src/layouts.rt:34:13
 enum-told-3 : tie.Need-enum-told-3
 enum-told-3 c = search needs
 
--- src/layouts.rt:34:13
 returns : tie.Need-returns
 returns c = λ t. search words-laws
 
--- src/layouts.rt:36:9
 returns-2 : tie.Need-returns-2
 returns-2 c = λ t. absurd (false≢true t)
 
--- src/layouts.rt:38:24
 enum-known-b : tie.Need-enum-known-b
 enum-known-b c = search needs
 
--- src/layouts.rt:39:9
 enum-told-4 : tie.Need-enum-told-4
 enum-told-4 c = search needs
 
--- src/layouts.rt:39:9
 returns-3 : tie.Need-returns-3
 returns-3 c = λ t. absurd (false≢true t)
 
--- src/layouts.rt:41:10
 bytes-of-requires : tie.Need-bytes-of-requires
 bytes-of-requires c κs = search needs
 
--- src/layouts.rt:41:29
 bytes-of-requires-2 : tie.Need-bytes-of-requires-2
 bytes-of-requires-2 c κs = search needs
 
--- src/layouts.rt:41:5
 same-requires : tie.Need-same-requires
 same-requires c κs = search needs
 
--- src/layouts.rt:29:1
 returns-4 : tie.Need-returns-4
 returns-4 c = λ t. search words-laws
 

@@ -18,47 +18,36 @@ Inv-loop rows stream pool sizes name cursor₀ cursor = PlaceOn (rec stream pool
 abbrev μ-loop : tie.MeasureT-loop
 μ-loop rows stream pool sizes name cursor₀ cursor = spotsLeft stream cursor
 
--- src/layouts.rt:167:5
 loop-holds : tie.Need-loop-holds Inv-loop μ-loop
 loop-holds c = search place-here
 
--- src/layouts.rt:168:13
 pass-others-requires : tie.Need-pass-others-requires Inv-loop μ-loop
 pass-others-requires c κs = search needs
 
--- src/layouts.rt:169:41
 next-spot-requires : tie.Need-next-spot-requires Inv-loop μ-loop
 next-spot-requires c κs = search needs
 
--- src/layouts.rt:169:29
 enum-known-x : tie.Need-enum-known-x Inv-loop μ-loop
 enum-known-x c = search needs
 
--- src/layouts.rt:170:13
 enum-told : tie.Need-enum-told Inv-loop μ-loop
 enum-told c = search needs
 
--- src/layouts.rt:170:13
 returns : tie.Need-returns Inv-loop μ-loop
 returns c = search place-none
 
--- src/layouts.rt:173:17
 bytes-of-requires : tie.Need-bytes-of-requires Inv-loop μ-loop
 bytes-of-requires c κs = search needs
 
--- src/layouts.rt:173:12
 same-requires : tie.Need-same-requires Inv-loop μ-loop
 same-requires c κs = search needs
 
--- src/layouts.rt:174:13
 returns-2 : tie.Need-returns-2 Inv-loop μ-loop
 returns-2 c = search place-hit
 
--- src/layouts.rt:167:5
 loop-less : tie.Need-loop-less Inv-loop μ-loop
 loop-less c = search place-nearer
 
--- src/layouts.rt:167:5
 loop-again : tie.Need-loop-again Inv-loop μ-loop
 loop-again c = search place-miss
 

@@ -7,19 +7,15 @@ use Rattle.compare.proofs.layouts.same_description.Lts as lts
 use Rattle.compare.proofs.layouts.alike.Reads as alike-reads
 use Rattle.compare.proofs.layouts.same_text.Reads as same-text-reads
 
--- src/layouts.rt:87:8
 alike-requires : tie.Need-alike-requires
 alike-requires c κs = search needs
 
--- src/layouts.rt:88:9
 returns : tie.Need-returns
 returns c = search alike-same
 
--- src/layouts.rt:90:5
 same-text-requires : tie.Need-same-text-requires
 same-text-requires c κs = search needs
 
--- src/layouts.rt:84:1
 returns-2 : tie.Need-returns-2
 returns-2 c = search needs
 

@@ -5,19 +5,15 @@ use Rattle.compare.proofs.near.entry_at.Tie as tie
 use Rattle.compare.proofs.near.entry_at.Reads as reads
 use Rattle.compare.proofs.near.entry_at.Lts as lts
 
--- src/near.rt:53:26
 mul-result : tie.Need-mul-result
 mul-result c = search needs
 
--- src/near.rt:53:26
 shared-slice-read-result : tie.Need-shared-slice-read-result
 shared-slice-read-result c = search needs
 
--- src/near.rt:50:1
 returns : tie.Need-returns
 returns c = search needs
 
--- src/near.rt:50:1
 returns-2 : tie.Need-returns-2
 returns-2 c = search none-read
 

@@ -23,63 +23,48 @@ Inv-loop stream pool sizes from start table₀ at₀ offset₀ table at offset =
 abbrev μ-loop : tie.MeasureT-loop
 μ-loop stream pool sizes from start table₀ at₀ offset₀ table at offset = length stream - at
 
--- src/near.rt:114:5
 loop-holds : tie.Need-loop-holds Inv-loop μ-loop
 loop-holds c = search nearing-start
 
--- src/near.rt:115:39
 seek-requires : tie.Need-seek-requires Inv-loop μ-loop
 seek-requires c κs = search needs
 
--- src/near.rt:115:24
 enum-known-here : tie.Need-enum-known-here Inv-loop μ-loop
 enum-known-here c = search needs
 
--- src/near.rt:116:13
 enum-told : tie.Need-enum-told Inv-loop μ-loop
 enum-told c = search needs
 
--- src/near.rt:116:13
 same-length : tie.Need-same-length Inv-loop μ-loop
 same-length c = search needs
 
--- src/near.rt:116:13
 returns : tie.Need-returns Inv-loop μ-loop
 returns c = search nearing-end
 
--- src/near.rt:118:26
 name-at-requires : tie.Need-name-at-requires Inv-loop μ-loop
 name-at-requires c κs = search needs
 
--- src/near.rt:118:13
 key-of-requires : tie.Need-key-of-requires Inv-loop μ-loop
 key-of-requires c κs = search needs
 
--- src/near.rt:119:12
 put-near-requires : tie.Need-put-near-requires Inv-loop μ-loop
 put-near-requires c κs = search key-inside
 
--- src/near.rt:120:34
 size-before-requires : tie.Need-size-before-requires Inv-loop μ-loop
 size-before-requires c κs = search needs
 
--- src/near.rt:120:13
 sum-requires : tie.Need-sum-requires Inv-loop μ-loop
 sum-requires c κs = search needs
 
--- src/near.rt:114:5
 loop-less : tie.Need-loop-less Inv-loop μ-loop
 loop-less c = search sought-nearer
 
--- src/near.rt:114:5
 loop-again : tie.Need-loop-again Inv-loop μ-loop
 loop-again c = search nearing-on
 
--- src/near.rt:123:13
 same-length-2 : tie.Need-same-length-2 Inv-loop μ-loop
 same-length-2 c = search needs
 
--- src/near.rt:123:13
 returns-2 : tie.Need-returns-2 Inv-loop μ-loop
 returns-2 c = search nearing-put
 

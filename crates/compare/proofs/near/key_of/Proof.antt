@@ -9,51 +9,39 @@ use Rattle.compare.proofs.near.from_end.Reads as from-end-reads
 use Rattle.compare.proofs.near.number.Reads as number-reads
 use Rattle.record.proofs.le.byte_at.Reads as byte-at-reads
 
--- src/near.rt:42:9
 from-end-requires : tie.Need-from-end-requires
 from-end-requires c κs = search needs
 
--- src/near.rt:43:9
 from-end-requires-2 : tie.Need-from-end-requires-2
 from-end-requires-2 c κs = search needs
 
--- src/near.rt:44:9
 from-end-requires-3 : tie.Need-from-end-requires-3
 from-end-requires-3 c κs = search needs
 
--- src/near.rt:45:20
 byte-at-requires : tie.Need-byte-at-requires
 byte-at-requires c κs = search needs
 
--- src/near.rt:45:9
 number-requires : tie.Need-number-requires
 number-requires c κs = search needs
 
--- src/near.rt:46:10
 mul-result : tie.Need-mul-result
 mul-result c = search needs
 
--- src/near.rt:46:6
 add-result : tie.Need-add-result
 add-result c = search needs
 
--- src/near.rt:46:19
 mul-result-2 : tie.Need-mul-result-2
 mul-result-2 c = search needs
 
--- src/near.rt:46:6
 add-result-2 : tie.Need-add-result-2
 add-result-2 c = search needs
 
--- src/near.rt:46:29
 mul-result-3 : tie.Need-mul-result-3
 mul-result-3 c = search needs
 
--- src/near.rt:46:6
 add-result-3 : tie.Need-add-result-3
 add-result-3 c = search needs
 
--- src/near.rt:39:1
 returns : tie.Need-returns
 returns c = (search key-is, omega arith)
 

@@ -5,51 +5,39 @@ use Rattle.compare.proofs.near.put_near.Tie as tie
 use Rattle.compare.proofs.near.put_near.Reads as reads
 use Rattle.compare.proofs.near.put_near.Lts as lts
 
--- src/near.rt:76:8
 mul-if1 : tie.Need-mul-if1
 mul-if1 c = search needs
 
--- src/near.rt:76:8
 slice-read-if1 : tie.Need-slice-read-if1
 slice-read-if1 c = search needs
 
--- src/near.rt:77:9
 returns : tie.Need-returns
 returns c = search put-kept
 
--- src/near.rt:80:9
 returns-2 : tie.Need-returns-2
 returns-2 c = search put-refused
 
--- src/near.rt:83:9
 returns-3 : tie.Need-returns-3
 returns-3 c = search put-refused
 
--- src/near.rt:85:18
 mul-table : tie.Need-mul-table
 mul-table c = search needs
 
--- src/near.rt:85:18
 add-table : tie.Need-add-table
 add-table c = search needs
 
--- src/near.rt:85:18
 add-table-2 : tie.Need-add-table-2
 add-table-2 c = search needs
 
--- src/near.rt:85:5
 mul-table-2 : tie.Need-mul-table-2
 mul-table-2 c = search needs
 
--- src/near.rt:85:5
 slice-write-table : tie.Need-slice-write-table
 slice-write-table c = search needs
 
--- src/near.rt:72:1
 same-length : tie.Need-same-length
 same-length c = search needs
 
--- src/near.rt:72:1
 returns-4 : tie.Need-returns-4
 returns-4 c = search put-new
 

@@ -7,27 +7,21 @@ use Rattle.compare.proofs.shipped.constant_release.Lts as lts
 use Rattle.compare.proofs.shipped.shipped_with.Reads as shipped-with-reads
 use Rattle.record.proofs.named.api_constant.Reads as api-constant-reads
 
--- src/shipped.rt:46:41
 api-constant-requires : tie.Need-api-constant-requires
 api-constant-requires c κs = search needs
 
--- src/shipped.rt:46:33
 enum-known-c : tie.Need-enum-known-c
 enum-known-c c = search needs
 
--- src/shipped.rt:47:9
 enum-told : tie.Need-enum-told
 enum-told c = search needs
 
--- src/shipped.rt:47:9
 returns : tie.Need-returns
 returns c = search constant-release-laws
 
--- src/shipped.rt:50:5
 shipped-with-requires : tie.Need-shipped-with-requires
 shipped-with-requires c κs = search needs
 
--- src/shipped.rt:42:1
 returns-2 : tie.Need-returns-2
 returns-2 c = search constant-release-laws
 

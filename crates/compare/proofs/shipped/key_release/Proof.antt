@@ -8,30 +8,24 @@ use Rattle.compare.proofs.shipped.shipped_with.Reads as shipped-with-re
 use Rattle.compare.proofs.shipped.stored_release.Reads as stored-release-reads
 use Rattle.record.proofs.named.last_unstored.Reads as last-unstored-reads
 
--- src/shipped.rt:106:45
 last-unstored-requires : tie.Need-last-unstored-requires
 last-unstored-requires c κs = search needs
 
--- src/shipped.rt:106:37
 enum-known-k : tie.Need-enum-known-k
 enum-known-k c = search needs
 
--- src/shipped.rt:108:9
 shipped-with-requires : tie.Need-shipped-with-requires
 shipped-with-requires c κs = search needs
 
--- src/shipped.rt:108:9
 returns : tie.Need-returns
 returns c = search key-laws
 
 enum-told : tie.Need-enum-told
 enum-told c = search needs
 
--- src/shipped.rt:110:5
 stored-release-requires : tie.Need-stored-release-requires
 stored-release-requires c κs = search needs
 
--- src/shipped.rt:102:1
 returns-2 : tie.Need-returns-2
 returns-2 c = search key-laws
 

@@ -6,31 +6,24 @@ use Rattle.layout.proofs.constants.constant_table.Reads as reads
 use Rattle.layout.proofs.constants.constant_table.Lts as lts
 use Rattle.layout.proofs.constants.fill_constants.Reads as fill-constants-reads
 
--- src/constants.rt:27:9
 returns : tie.Need-returns
 returns c = (λ x y z. absurd (omega arith), omega arith)
 
--- src/constants.rt:30:9
 returns-2 : tie.Need-returns-2
 returns-2 c = (λ x y z. absurd (omega arith), omega arith)
 
--- src/constants.rt:33:9
 returns-3 : tie.Need-returns-3
 returns-3 c = (λ x y z. absurd (omega arith), omega arith)
 
--- src/constants.rt:35:5
 fill-constants-requires : tie.Need-fill-constants-requires
 fill-constants-requires c κs = search needs
 
--- src/constants.rt:23:1
 same-length : tie.Need-same-length
 same-length c = search needs
 
--- src/constants.rt:23:1
 same-length-2 : tie.Need-same-length-2
 same-length-2 c = search needs
 
--- src/constants.rt:23:1
 returns-4 : tie.Need-returns-4
 returns-4 c = search needs
 

@@ -20,47 +20,36 @@ Inv-loop rows stream pool index sizes₀ at₀ sizes at = Sizing (rec stream poo
 abbrev μ-loop : tie.MeasureT-loop
 μ-loop rows stream pool index sizes₀ at₀ sizes at = length stream - at
 
--- src/field_sizes.rt:42:5
 loop-holds : tie.Need-loop-holds Inv-loop μ-loop
 loop-holds c = search sizing-start
 
--- src/field_sizes.rt:43:40
 seek-requires : tie.Need-seek-requires Inv-loop μ-loop
 seek-requires c κs = search needs
 
--- src/field_sizes.rt:43:24
 enum-known-place : tie.Need-enum-known-place Inv-loop μ-loop
 enum-known-place c = search needs
 
--- src/field_sizes.rt:44:13
 enum-told : tie.Need-enum-told Inv-loop μ-loop
 enum-told c = search needs
 
--- src/field_sizes.rt:44:13
 same-length : tie.Need-same-length Inv-loop μ-loop
 same-length c = search needs
 
--- src/field_sizes.rt:44:13
 returns : tie.Need-returns Inv-loop μ-loop
 returns c = λ i room. search sizing-end
 
--- src/field_sizes.rt:46:26
 from-requires : tie.Need-from-requires Inv-loop μ-loop
 from-requires c κs = search needs
 
--- src/field_sizes.rt:47:32
 field-size-requires : tie.Need-field-size-requires Inv-loop μ-loop
 field-size-requires c κs = search needs
 
--- src/field_sizes.rt:47:9
 put-size-requires : tie.Need-put-size-requires Inv-loop μ-loop
 put-size-requires c κs = search needs
 
--- src/field_sizes.rt:42:5
 loop-less : tie.Need-loop-less Inv-loop μ-loop
 loop-less c = search sought-nearer
 
--- src/field_sizes.rt:42:5
 loop-again : tie.Need-loop-again Inv-loop μ-loop
 loop-again c = search sizing-field
 

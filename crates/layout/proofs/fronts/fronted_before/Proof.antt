@@ -9,67 +9,51 @@ use Rattle.layout.proofs.names.family_part.Reads as family-part-reads
 use Rattle.layout.proofs.names.place_part.Reads as place-part-reads
 use Rattle.layout.proofs.names.type_before.Reads as type-before-reads
 
--- src/fronts.rt:81:8
 family-part-requires : tie.Need-family-part-requires
 family-part-requires c κs = search needs
 
--- src/fronts.rt:81:26
 family-part-requires-2 : tie.Need-family-part-requires-2
 family-part-requires-2 c κs = search needs
 
--- src/fronts.rt:82:9
 type-before-requires : tie.Need-type-before-requires
 type-before-requires c κs = search needs
 
--- src/fronts.rt:82:9
 returns : tie.Need-returns
 returns c = search needs
 
--- src/fronts.rt:84:30
 place-part-requires : tie.Need-place-part-requires
 place-part-requires c κs = search needs
 
--- src/fronts.rt:84:9
 front-at-requires : tie.Need-front-at-requires
 front-at-requires c κs = search needs
 
--- src/fronts.rt:85:30
 place-part-requires-2 : tie.Need-place-part-requires-2
 place-part-requires-2 c κs = search needs
 
--- src/fronts.rt:85:9
 front-at-requires-2 : tie.Need-front-at-requires-2
 front-at-requires-2 c κs = search needs
 
--- src/fronts.rt:87:9
 type-before-requires-2 : tie.Need-type-before-requires-2
 type-before-requires-2 c κs = search needs
 
--- src/fronts.rt:87:9
 returns-2 : tie.Need-returns-2
 returns-2 c = search needs
 
--- src/fronts.rt:90:9
 type-before-requires-3 : tie.Need-type-before-requires-3
 type-before-requires-3 c κs = search needs
 
--- src/fronts.rt:90:9
 returns-3 : tie.Need-returns-3
 returns-3 c = search needs
 
--- src/fronts.rt:93:9
 returns-4 : tie.Need-returns-4
 returns-4 c = search fronts-laws
 
--- src/fronts.rt:96:9
 returns-5 : tie.Need-returns-5
 returns-5 c = search fronts-laws
 
--- src/fronts.rt:98:5
 type-before-requires-4 : tie.Need-type-before-requires-4
 type-before-requires-4 c κs = search needs
 
--- src/fronts.rt:77:1
 returns-6 : tie.Need-returns-6
 returns-6 c = search needs
 

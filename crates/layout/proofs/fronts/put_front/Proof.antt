@@ -5,43 +5,33 @@ use Rattle.layout.proofs.fronts.put_front.Tie as tie
 use Rattle.layout.proofs.fronts.put_front.Reads as reads
 use Rattle.layout.proofs.fronts.put_front.Lts as lts
 
--- src/fronts.rt:22:9
 returns : tie.Need-returns
 returns c = search needs
 
--- src/fronts.rt:25:9
 returns-2 : tie.Need-returns-2
 returns-2 c = search needs
 
--- src/fronts.rt:29:9
 returns-3 : tie.Need-returns-3
 returns-3 c = search needs
 
--- src/fronts.rt:31:21
 mul-fronts : tie.Need-mul-fronts
 mul-fronts c = search needs
 
--- src/fronts.rt:31:21
 add-fronts : tie.Need-add-fronts
 add-fronts c = search needs
 
--- src/fronts.rt:31:21
 add-fronts-2 : tie.Need-add-fronts-2
 add-fronts-2 c = search needs
 
--- src/fronts.rt:31:5
 mul-fronts-2 : tie.Need-mul-fronts-2
 mul-fronts-2 c = search needs
 
--- src/fronts.rt:31:5
 slice-write-fronts : tie.Need-slice-write-fronts
 slice-write-fronts c = search needs
 
--- src/fronts.rt:18:1
 same-length : tie.Need-same-length
 same-length c = search needs
 
--- src/fronts.rt:18:1
 returns-4 : tie.Need-returns-4
 returns-4 c = search put-laws
 

@@ -19,111 +19,84 @@ Inv-loop stream from out₀ at₀ family₀ n₀ out at family n = Filling (fami
 abbrev μ-loop : tie.MeasureT-loop
 μ-loop stream from out₀ at₀ family₀ n₀ out at family n = length stream - at
 
--- src/handles.rt:87:5
 loop-holds : tie.Need-loop-holds Inv-loop μ-loop
 loop-holds c = (search fill-start, search needs)
 
--- src/handles.rt:88:13
 after-at-requires : tie.Need-after-at-requires Inv-loop μ-loop
 after-at-requires c κs = search needs
 
--- src/handles.rt:90:13
 same-length : tie.Need-same-length Inv-loop μ-loop
 same-length c = search needs
 
--- src/handles.rt:90:13
 returns : tie.Need-returns Inv-loop μ-loop
 returns c = (search (fill-count, open-stop), search (fill-end, open-stop))
 
--- src/handles.rt:92:13
 byte-at-requires : tie.Need-byte-at-requires Inv-loop μ-loop
 byte-at-requires c κs = search needs
 
--- src/handles.rt:94:17
 narrow-requires : tie.Need-narrow-requires Inv-loop μ-loop
 narrow-requires c κs = search place-small
 
--- src/handles.rt:95:22
 add-family : tie.Need-add-family Inv-loop μ-loop
 add-family c = search needs
 
--- src/handles.rt:96:13
 mul-out : tie.Need-mul-out Inv-loop μ-loop
 mul-out c = search needs
 
--- src/handles.rt:96:13
 slice-write-out : tie.Need-slice-write-out Inv-loop μ-loop
 slice-write-out c = search room-laws
 
--- src/handles.rt:97:13
 add-n : tie.Need-add-n Inv-loop μ-loop
 add-n c = search needs
 
--- src/handles.rt:87:5
 loop-less : tie.Need-loop-less Inv-loop μ-loop
 loop-less c = search after-nearer
 
--- src/handles.rt:87:5
 loop-again : tie.Need-loop-again Inv-loop μ-loop
 loop-again c = (search (fill-laws, open-laws), search needs)
 
--- src/handles.rt:87:5
 loop-less-2 : tie.Need-loop-less-2 Inv-loop μ-loop
 loop-less-2 c = search after-nearer
 
--- src/handles.rt:87:5
 loop-again-2 : tie.Need-loop-again-2 Inv-loop μ-loop
 loop-again-2 c = (search (fill-laws, open-laws), search needs)
 
--- src/handles.rt:103:26
 mul-out-2 : tie.Need-mul-out-2 Inv-loop μ-loop
 mul-out-2 c = search needs
 
--- src/handles.rt:103:43
 narrow-requires-2 : tie.Need-narrow-requires-2 Inv-loop μ-loop
 narrow-requires-2 c κs = search place-small
 
--- src/handles.rt:103:26
 add-out : tie.Need-add-out Inv-loop μ-loop
 add-out c = search needs
 
--- src/handles.rt:103:17
 mul-out-3 : tie.Need-mul-out-3 Inv-loop μ-loop
 mul-out-3 c = search needs
 
--- src/handles.rt:103:17
 slice-write-out-2 : tie.Need-slice-write-out-2 Inv-loop μ-loop
 slice-write-out-2 c = search room-laws
 
--- src/handles.rt:104:17
 add-n-2 : tie.Need-add-n-2 Inv-loop μ-loop
 add-n-2 c = search needs
 
--- src/handles.rt:87:5
 loop-less-3 : tie.Need-loop-less-3 Inv-loop μ-loop
 loop-less-3 c = search after-nearer
 
--- src/handles.rt:87:5
 loop-again-3 : tie.Need-loop-again-3 Inv-loop μ-loop
 loop-again-3 c = (search (fill-laws, open-laws), search needs)
 
--- src/handles.rt:107:19
 passes-requires : tie.Need-passes-requires Inv-loop μ-loop
 passes-requires c κs = search needs
 
--- src/handles.rt:87:5
 loop-less-4 : tie.Need-loop-less-4 Inv-loop μ-loop
 loop-less-4 c = search after-nearer
 
--- src/handles.rt:87:5
 loop-again-4 : tie.Need-loop-again-4 Inv-loop μ-loop
 loop-again-4 c = (search (fill-laws, open-laws), search needs)
 
--- src/handles.rt:87:5
 loop-less-5 : tie.Need-loop-less-5 Inv-loop μ-loop
 loop-less-5 c = search after-nearer
 
--- src/handles.rt:87:5
 loop-again-5 : tie.Need-loop-again-5 Inv-loop μ-loop
 loop-again-5 c = (search (fill-laws, open-laws), search needs)
 

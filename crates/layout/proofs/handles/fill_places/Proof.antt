@@ -18,51 +18,39 @@ Inv-loop stream number out₀ at₀ n₀ out at n = Filling (placesOf stream Any
 abbrev μ-loop : tie.MeasureT-loop
 μ-loop stream number out₀ at₀ n₀ out at n = length stream - at
 
--- src/handles.rt:31:5
 loop-holds : tie.Need-loop-holds Inv-loop μ-loop
 loop-holds c = search (fill-start, places-fit)
 
--- src/handles.rt:32:40
 seek-requires : tie.Need-seek-requires Inv-loop μ-loop
 seek-requires c κs = search needs
 
--- src/handles.rt:32:24
 enum-known-place : tie.Need-enum-known-place Inv-loop μ-loop
 enum-known-place c = search needs
 
--- src/handles.rt:33:13
 enum-told : tie.Need-enum-told Inv-loop μ-loop
 enum-told c = search needs
 
--- src/handles.rt:33:13
 same-length : tie.Need-same-length Inv-loop μ-loop
 same-length c = search needs
 
--- src/handles.rt:33:13
 returns : tie.Need-returns Inv-loop μ-loop
 returns c = (search (fill-count, places-end), search (fill-end, places-end), search (places-few, places-end))
 
--- src/handles.rt:35:18
 narrow-requires : tie.Need-narrow-requires Inv-loop μ-loop
 narrow-requires c κs = search sought-small
 
--- src/handles.rt:35:9
 mul-out : tie.Need-mul-out Inv-loop μ-loop
 mul-out c = search needs
 
--- src/handles.rt:35:9
 slice-write-out : tie.Need-slice-write-out Inv-loop μ-loop
 slice-write-out c = search place-room
 
--- src/handles.rt:36:9
 add-n : tie.Need-add-n Inv-loop μ-loop
 add-n c = search needs
 
--- src/handles.rt:31:5
 loop-less : tie.Need-loop-less Inv-loop μ-loop
 loop-less c = search sought-nearer
 
--- src/handles.rt:31:5
 loop-again : tie.Need-loop-again Inv-loop μ-loop
 loop-again c = search (fill-laws, places-here)
 

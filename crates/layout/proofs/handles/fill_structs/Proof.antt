@@ -19,71 +19,54 @@ Inv-loop stream out₀ at₀ family₀ n₀ out at family n = Filling (placesOf 
 abbrev μ-loop : tie.MeasureT-loop
 μ-loop stream out₀ at₀ family₀ n₀ out at family n = length stream - at
 
--- src/handles.rt:56:5
 loop-holds : tie.Need-loop-holds Inv-loop μ-loop
 loop-holds c = (search (fill-start, places-fit), search begun-start)
 
--- src/handles.rt:57:13
 after-at-requires : tie.Need-after-at-requires Inv-loop μ-loop
 after-at-requires c κs = search needs
 
--- src/handles.rt:59:13
 same-length : tie.Need-same-length Inv-loop μ-loop
 same-length c = search needs
 
--- src/handles.rt:59:13
 returns : tie.Need-returns Inv-loop μ-loop
 returns c = (search (fill-count, places-stop), search (fill-end, places-stop), search (families-fit, fill-count, places-stop, begun-end), search begun-end)
 
--- src/handles.rt:61:13
 byte-at-requires : tie.Need-byte-at-requires Inv-loop μ-loop
 byte-at-requires c κs = search needs
 
--- src/handles.rt:63:22
 narrow-requires : tie.Need-narrow-requires Inv-loop μ-loop
 narrow-requires c κs = search place-small
 
--- src/handles.rt:63:13
 mul-out : tie.Need-mul-out Inv-loop μ-loop
 mul-out c = search needs
 
--- src/handles.rt:63:13
 slice-write-out : tie.Need-slice-write-out Inv-loop μ-loop
 slice-write-out c = search taken-room
 
--- src/handles.rt:64:13
 add-n : tie.Need-add-n Inv-loop μ-loop
 add-n c = search needs
 
--- src/handles.rt:56:5
 loop-less : tie.Need-loop-less Inv-loop μ-loop
 loop-less c = search after-nearer
 
--- src/handles.rt:56:5
 loop-again : tie.Need-loop-again Inv-loop μ-loop
 loop-again c = (search (fill-laws, place-laws), search begun-laws)
 
--- src/handles.rt:56:5
 loop-less-2 : tie.Need-loop-less-2 Inv-loop μ-loop
 loop-less-2 c = search after-nearer
 
--- src/handles.rt:56:5
 loop-again-2 : tie.Need-loop-again-2 Inv-loop μ-loop
 loop-again-2 c = (search (fill-laws, place-laws), search begun-laws)
 
--- src/handles.rt:56:5
 loop-less-3 : tie.Need-loop-less-3 Inv-loop μ-loop
 loop-less-3 c = search after-nearer
 
--- src/handles.rt:56:5
 loop-again-3 : tie.Need-loop-again-3 Inv-loop μ-loop
 loop-again-3 c = (search (fill-laws, place-laws), search begun-laws)
 
--- src/handles.rt:56:5
 loop-less-4 : tie.Need-loop-less-4 Inv-loop μ-loop
 loop-less-4 c = search after-nearer
 
--- src/handles.rt:56:5
 loop-again-4 : tie.Need-loop-again-4 Inv-loop μ-loop
 loop-again-4 c = (search (fill-laws, place-laws), search begun-laws)
 

@@ -8,23 +8,18 @@ use Rattle.layout.proofs.lines.put_body.Lts as lts
 use Rattle.layout.proofs.lines.put_fields.Reads as put-fields-reads
 use Rattle.layout.proofs.measure.measure_fields.Reads as measure-fields-reads
 
--- src/lines.rt:137:9
 measure-fields-requires : tie.Need-measure-fields-requires
 measure-fields-requires c κs = search needs
 
--- src/lines.rt:137:9
 returns : tie.Need-returns
 returns c = lines-past _ _ _ _ _ _ _ _ (c .measure-fields .ensures) (omega arith) (omega arith)
 
--- src/lines.rt:139:5
 put-fields-requires : tie.Need-put-fields-requires
 put-fields-requires c κs = search needs
 
--- src/lines.rt:124:1
 same-length : tie.Need-same-length
 same-length c = search needs
 
--- src/lines.rt:124:1
 returns-2 : tie.Need-returns-2
 returns-2 c = search needs
 

@@ -13,35 +13,27 @@ use Rattle.record.proofs.describe.put_shape.Reads as put-shape-reads
 use Rattle.record.proofs.operands.text_at.Reads as text-at-reads
 use Rattle.record.proofs.writer.put.Reads as put-reads
 
--- src/lines.rt:87:9
 text-at-requires : tie.Need-text-at-requires
 text-at-requires c κs = search needs
 
--- src/lines.rt:90:9
 put-names-requires : tie.Need-put-names-requires
 put-names-requires c κs = search needs
 
--- src/lines.rt:91:9
 put-extent-requires : tie.Need-put-extent-requires
 put-extent-requires c κs = search needs
 
--- src/lines.rt:92:9
 put-shape-requires : tie.Need-put-shape-requires
 put-shape-requires c κs = search needs
 
--- src/lines.rt:93:17
 slice-aggregate-put : tie.Need-slice-aggregate-put
 slice-aggregate-put c = search needs
 
--- src/lines.rt:93:5
 put-requires : tie.Need-put-requires
 put-requires c κs = search needs
 
--- src/lines.rt:76:1
 same-length : tie.Need-same-length
 same-length c = search needs
 
--- src/lines.rt:76:1
 returns : tie.Need-returns
 unfolding bytes
 returns c = (search field-put, omega (arith, puts-near))

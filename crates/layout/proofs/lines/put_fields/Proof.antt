@@ -25,51 +25,39 @@ Inv-loop out₀ at stream pool sizes owner from start end₀ next₀ offset₀ o
 abbrev μ-loop : tie.MeasureT-loop
 μ-loop out₀ at stream pool sizes owner from start end₀ next₀ offset₀ out end next offset = length stream - next
 
--- src/lines.rt:112:5
 loop-holds : tie.Need-loop-holds Inv-loop μ-loop
 loop-holds c = field-lines-start _ _ _ _ _ _ _ (omega arith)
 
--- src/lines.rt:113:39
 seek-requires : tie.Need-seek-requires Inv-loop μ-loop
 seek-requires c κs = search needs
 
--- src/lines.rt:113:24
 enum-known-here : tie.Need-enum-known-here Inv-loop μ-loop
 enum-known-here c = search needs
 
--- src/lines.rt:114:13
 enum-told : tie.Need-enum-told Inv-loop μ-loop
 enum-told c = search needs
 
--- src/lines.rt:114:13
 same-length : tie.Need-same-length Inv-loop μ-loop
 same-length c = search needs
 
--- src/lines.rt:114:13
 returns : tie.Need-returns Inv-loop μ-loop
 returns c = field-lines-end _ _ _ _ _ _ _ _ _ _ _ (c .before .before .before .loop .inv) _ (c .before .before .seek .ensures) (search needs) (omega arith)
 
--- src/lines.rt:116:13
 size-before-requires : tie.Need-size-before-requires Inv-loop μ-loop
 size-before-requires c κs = search needs
 
--- src/lines.rt:117:41
 from-requires : tie.Need-from-requires Inv-loop μ-loop
 from-requires c κs = search needs
 
--- src/lines.rt:117:9
 put-field-requires : tie.Need-put-field-requires Inv-loop μ-loop
 put-field-requires c κs = search needs
 
--- src/lines.rt:118:9
 sum-requires : tie.Need-sum-requires Inv-loop μ-loop
 sum-requires c κs = search needs
 
--- src/lines.rt:112:5
 loop-less : tie.Need-loop-less Inv-loop μ-loop
 loop-less c = search sought-nearer
 
--- src/lines.rt:112:5
 loop-again : tie.Need-loop-again Inv-loop μ-loop
 loop-again c = search field-lines-next
 

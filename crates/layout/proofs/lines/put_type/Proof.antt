@@ -24,65 +24,50 @@ Inv-loop out₀ at rows stream pool sizes handle owner cursor₀ end₀ out curs
 abbrev μ-loop : tie.MeasureT-loop
 μ-loop out₀ at rows stream pool sizes handle owner cursor₀ end₀ out cursor end = spotsLeft stream cursor
 
--- src/lines.rt:155:9
 type-name-requires : tie.Need-type-name-requires Inv-loop μ-loop
 type-name-requires c κs = search needs
 
--- src/lines.rt:156:9
 first-spot-requires : tie.Need-first-spot-requires Inv-loop μ-loop
 first-spot-requires c κs = search needs
 
--- src/lines.rt:158:5
 loop-holds : tie.Need-loop-holds Inv-loop μ-loop
 loop-holds c =
     let s = c .before .before .before .before .before .before .before in
     lining-start _ _ _ _ _ _ _ _ (omega (arith, s .fits .at .fits)) (s .pre .0) (s .pre .1) (s .pre .2) (c .first-spot .ensures)
 
--- src/lines.rt:160:28
 enum-known-ahead : tie.Need-enum-known-ahead Inv-loop μ-loop
 enum-known-ahead c = search needs
 
--- src/lines.rt:161:13
 put-body-requires : tie.Need-put-body-requires Inv-loop μ-loop
 put-body-requires c κs = search needs
 
--- src/lines.rt:161:13
 same-length : tie.Need-same-length Inv-loop μ-loop
 same-length c = search needs
 
--- src/lines.rt:161:13
 returns : tie.Need-returns Inv-loop μ-loop
 returns c = (search lining-body, search body-near)
 
--- src/lines.rt:163:41
 next-spot-requires : tie.Need-next-spot-requires Inv-loop μ-loop
 next-spot-requires c κs = search needs
 
--- src/lines.rt:163:29
 enum-known-x : tie.Need-enum-known-x Inv-loop μ-loop
 enum-known-x c = search needs
 
--- src/lines.rt:164:13
 enum-told : tie.Need-enum-told Inv-loop μ-loop
 enum-told c = search needs
 
--- src/lines.rt:164:13
 same-length-2 : tie.Need-same-length-2 Inv-loop μ-loop
 same-length-2 c = search needs
 
--- src/lines.rt:164:13
 returns-2 : tie.Need-returns-2 Inv-loop μ-loop
 returns-2 c = lining-end _ _ _ _ _ (c .before .before .before .before .loop .inv) _ (c .before .before .next-spot .ensures) (search needs) (omega arith)
 
--- src/lines.rt:166:9
 put-line-requires : tie.Need-put-line-requires Inv-loop μ-loop
 put-line-requires c κs = search needs
 
--- src/lines.rt:158:5
 loop-less : tie.Need-loop-less Inv-loop μ-loop
 loop-less c = search spots-nearer
 
--- src/lines.rt:158:5
 loop-again : tie.Need-loop-again Inv-loop μ-loop
 loop-again c = search lining-next
 

@@ -8,47 +8,36 @@ use Rattle.layout.proofs.list.list_tiny.Lts as lts
 use Rattle.layout.proofs.list.list_tables.Reads as list-tables-reads
 use Rattle.layout.proofs.tables.fill_few.Reads as fill-few-reads
 
--- src/list.rt:151:9
 slice-aggregate-fill-few : tie.Need-slice-aggregate-fill-few
 slice-aggregate-fill-few c = search needs
 
--- src/list.rt:152:9
 slice-aggregate-fill-few-2 : tie.Need-slice-aggregate-fill-few-2
 slice-aggregate-fill-few-2 c = search needs
 
--- src/list.rt:153:9
 slice-aggregate-fill-few-3 : tie.Need-slice-aggregate-fill-few-3
 slice-aggregate-fill-few-3 c = search needs
 
--- src/list.rt:154:9
 slice-aggregate-fill-few-4 : tie.Need-slice-aggregate-fill-few-4
 slice-aggregate-fill-few-4 c = search needs
 
--- src/list.rt:147:9
 fill-few-requires : tie.Need-fill-few-requires
 fill-few-requires c κs = search needs
 
--- src/list.rt:156:37
 array-share-prefix-types : tie.Need-array-share-prefix-types
 array-share-prefix-types c = search needs
 
--- src/list.rt:156:37
 slice-aggregate-list-tables : tie.Need-slice-aggregate-list-tables
 slice-aggregate-list-tables c = cut-long _ _ (search needs)
 
--- src/list.rt:156:50
 slice-aggregate-list-tables-2 : tie.Need-slice-aggregate-list-tables-2
 slice-aggregate-list-tables-2 c = search needs
 
--- src/list.rt:156:5
 list-tables-requires : tie.Need-list-tables-requires
 list-tables-requires c κs = c .before .before .before .before .before .before .fill-few .ensures .0 (no-index _ _) (search needs)
 
--- src/list.rt:140:1
 same-length : tie.Need-same-length
 same-length c = search needs
 
--- src/list.rt:140:1
 returns : tie.Need-returns
 returns c = search needs
 

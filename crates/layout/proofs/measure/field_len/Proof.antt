@@ -11,43 +11,33 @@ use Rattle.record.proofs.operands.text_at.Reads as text-at-reads
 use Rattle.record.proofs.text.bytes_of.Reads as bytes-of-reads
 use Rattle.record.proofs.writer.number_len.Reads as number-len-reads
 
--- src/measure.rt:30:31
 text-at-requires : tie.Need-text-at-requires
 text-at-requires c κs = search needs
 
--- src/measure.rt:30:16
 bytes-of-requires : tie.Need-bytes-of-requires
 bytes-of-requires c κs = search needs
 
--- src/measure.rt:31:18
 number-len-requires : tie.Need-number-len-requires
 number-len-requires c κs = search needs
 
--- src/measure.rt:31:39
 number-len-requires-2 : tie.Need-number-len-requires-2
 number-len-requires-2 c κs = search needs
 
--- src/measure.rt:31:18
 add-digits : tie.Need-add-digits
 add-digits c = search needs
 
--- src/measure.rt:32:5
 add-result : tie.Need-add-result
 add-result c = omega (arith, text-short)
 
--- src/measure.rt:32:21
 shape-len-requires : tie.Need-shape-len-requires
 shape-len-requires c κs = search needs
 
--- src/measure.rt:32:5
 add-result-2 : tie.Need-add-result-2
 add-result-2 c = omega (arith, text-short)
 
--- src/measure.rt:32:5
 add-result-3 : tie.Need-add-result-3
 add-result-3 c = omega (arith, text-short)
 
--- src/measure.rt:27:1
 returns : tie.Need-returns
 returns c = (search field-long, omega (arith, text-short))
 

@@ -25,59 +25,45 @@ Inv-loop at stream pool sizes from start n end₀ next₀ offset₀ end next off
 abbrev μ-loop : tie.MeasureT-loop
 μ-loop at stream pool sizes from start n end₀ next₀ offset₀ end next offset = length stream - next
 
--- src/measure.rt:47:9
 name-len-requires : tie.Need-name-len-requires Inv-loop μ-loop
 name-len-requires c κs = search needs
 
--- src/measure.rt:51:5
 loop-holds : tie.Need-loop-holds Inv-loop μ-loop
 loop-holds c = measuring-start _ _ _ _ _ _ (omega arith) (omega arith)
 
--- src/measure.rt:52:38
 seek-requires : tie.Need-seek-requires Inv-loop μ-loop
 seek-requires c κs = search needs
 
--- src/measure.rt:52:24
 enum-known-here : tie.Need-enum-known-here Inv-loop μ-loop
 enum-known-here c = search needs
 
--- src/measure.rt:53:13
 enum-told : tie.Need-enum-told Inv-loop μ-loop
 enum-told c = search needs
 
--- src/measure.rt:53:13
 returns : tie.Need-returns Inv-loop μ-loop
 returns c = search measuring-end
 
--- src/measure.rt:55:13
 size-before-requires : tie.Need-size-before-requires Inv-loop μ-loop
 size-before-requires c κs = search needs
 
--- src/measure.rt:56:36
 from-requires : tie.Need-from-requires Inv-loop μ-loop
 from-requires c κs = search needs
 
--- src/measure.rt:56:13
 field-len-requires : tie.Need-field-len-requires Inv-loop μ-loop
 field-len-requires c κs = search needs
 
--- src/measure.rt:57:26
 add-after : tie.Need-add-after Inv-loop μ-loop
 add-after c = omega arith
 
--- src/measure.rt:57:9
 after-requires : tie.Need-after-requires Inv-loop μ-loop
 after-requires c κs = search needs
 
--- src/measure.rt:58:9
 sum-requires : tie.Need-sum-requires Inv-loop μ-loop
 sum-requires c κs = search needs
 
--- src/measure.rt:51:5
 loop-less : tie.Need-loop-less Inv-loop μ-loop
 loop-less c = search sought-nearer
 
--- src/measure.rt:51:5
 loop-again : tie.Need-loop-again Inv-loop μ-loop
 loop-again c = search measuring-next
 

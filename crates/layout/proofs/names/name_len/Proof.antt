@@ -8,35 +8,27 @@ use Rattle.layout.proofs.names.name_len.Reads as reads
 use Rattle.layout.proofs.names.name_len.Lts as lts
 use Rattle.record.proofs.text.bytes_of.Reads as bytes-of-reads
 
--- src/names.rt:237:13
 bytes-of-requires : tie.Need-bytes-of-requires
 bytes-of-requires c κs = search needs
 
--- src/names.rt:238:24
 enum-known-back : tie.Need-enum-known-back
 enum-known-back c = search needs
 
--- src/names.rt:239:9
 enum-told : tie.Need-enum-told
 enum-told c = search needs
 
--- src/names.rt:239:9
 returns : tie.Need-returns
 returns c = (search name-front-long, omega (arith, text-short))
 
--- src/names.rt:241:5
 add-result : tie.Need-add-result
 add-result c = omega (arith, text-short)
 
--- src/names.rt:241:13
 bytes-of-requires-2 : tie.Need-bytes-of-requires-2
 bytes-of-requires-2 c κs = search needs
 
--- src/names.rt:241:5
 add-result-2 : tie.Need-add-result-2
 add-result-2 c = omega (arith, text-short)
 
--- src/names.rt:232:1
 returns-2 : tie.Need-returns-2
 returns-2 c = (search name-both-long, omega (arith, text-short))
 

@@ -12,47 +12,36 @@ use Rattle.record.proofs.operands.text_at.Reads as text-at-reads
 use Rattle.record.proofs.seek.seek.Reads as seek-reads
 use Rattle.record.proofs.sizes.sum.Reads as sum-reads
 
--- src/spots.rt:152:36
 seek-requires : tie.Need-seek-requires
 seek-requires c κs = search needs
 
--- src/spots.rt:152:20
 enum-known-place : tie.Need-enum-known-place
 enum-known-place c = search needs
 
--- src/spots.rt:153:9
 enum-told : tie.Need-enum-told
 enum-told c = search needs
 
--- src/spots.rt:153:9
 returns : tie.Need-returns
 returns c = λ w. search no-spot
 
--- src/spots.rt:155:9
 from-requires : tie.Need-from-requires
 from-requires c κs = search needs
 
--- src/spots.rt:156:9
 shape-at-requires : tie.Need-shape-at-requires
 shape-at-requires c κs = search needs
 
--- src/spots.rt:158:9
 size-before-requires : tie.Need-size-before-requires
 size-before-requires c κs = search needs
 
--- src/spots.rt:161:19
 text-at-requires : tie.Need-text-at-requires
 text-at-requires c κs = search needs
 
--- src/spots.rt:168:32
 place-requires : tie.Need-place-requires
 place-requires c κs = search needs
 
--- src/spots.rt:169:21
 sum-requires : tie.Need-sum-requires
 sum-requires c κs = search needs
 
--- src/spots.rt:149:1
 returns-2 : tie.Need-returns-2
 returns-2 c = λ w. search spot-at
 

@@ -11,55 +11,42 @@ use Rattle.record.proofs.le.byte_at.Reads as byte-at-reads
 use Rattle.record.proofs.reader.command_at.Reads as command-at-reads
 use Rattle.record.proofs.seek.after_at.Reads as after-at-reads
 
--- src/spots.rt:68:9
 place-part-requires : tie.Need-place-part-requires
 place-part-requires c κs = search needs
 
--- src/spots.rt:70:8
 byte-at-requires : tie.Need-byte-at-requires
 byte-at-requires c κs = search needs
 
--- src/spots.rt:72:46
 after-at-requires : tie.Need-after-at-requires
 after-at-requires c κs = search needs
 
--- src/spots.rt:72:32
 place-requires : tie.Need-place-requires
 place-requires c κs = search needs
 
--- src/spots.rt:71:9
 returns : tie.Need-returns
 returns c = search first-laws
 
--- src/spots.rt:76:38
 command-at-requires : tie.Need-command-at-requires
 command-at-requires c κs = search needs
 
--- src/spots.rt:76:20
 enum-known-command : tie.Need-enum-known-command
 enum-known-command c = search needs
 
--- src/spots.rt:78:32
 enum-told : tie.Need-enum-told
 enum-told c = search needs
 
--- src/spots.rt:78:32
 new-requires : tie.Need-new-requires
 new-requires c κs = search needs
 
--- src/spots.rt:77:9
 returns-2 : tie.Need-returns-2
 returns-2 c = search first-laws
 
--- src/spots.rt:82:25
 enum-known-command-2 : tie.Need-enum-known-command-2
 enum-known-command-2 c = search needs
 
--- src/spots.rt:83:9
 returns-3 : tie.Need-returns-3
 returns-3 c = search first-laws
 
--- src/spots.rt:65:1
 returns-4 : tie.Need-returns-4
 returns-4 c = search first-laws
 

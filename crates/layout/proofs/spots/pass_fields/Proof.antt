@@ -23,59 +23,45 @@ Inv-loop stream pool sizes from start name at₀ offset₀ at offset = OthersPas
 abbrev μ-loop : tie.MeasureT-loop
 μ-loop stream pool sizes from start name at₀ offset₀ at offset = length stream - at
 
--- src/spots.rt:196:5
 loop-holds : tie.Need-loop-holds Inv-loop μ-loop
 loop-holds c = search others-here
 
--- src/spots.rt:197:39
 seek-requires : tie.Need-seek-requires Inv-loop μ-loop
 seek-requires c κs = search needs
 
--- src/spots.rt:197:24
 enum-known-here : tie.Need-enum-known-here Inv-loop μ-loop
 enum-known-here c = search needs
 
--- src/spots.rt:199:36
 enum-told : tie.Need-enum-told Inv-loop μ-loop
 enum-told c = search needs
 
--- src/spots.rt:199:36
 place-requires : tie.Need-place-requires Inv-loop μ-loop
 place-requires c κs = search needs
 
--- src/spots.rt:198:13
 returns : tie.Need-returns Inv-loop μ-loop
 returns c = search others-laws
 
--- src/spots.rt:203:17
 name-at-requires : tie.Need-name-at-requires Inv-loop μ-loop
 name-at-requires c κs = search needs
 
--- src/spots.rt:203:12
 same-requires : tie.Need-same-requires Inv-loop μ-loop
 same-requires c κs = search needs
 
--- src/spots.rt:205:36
 place-requires-2 : tie.Need-place-requires-2 Inv-loop μ-loop
 place-requires-2 c κs = search needs
 
--- src/spots.rt:204:13
 returns-2 : tie.Need-returns-2 Inv-loop μ-loop
 returns-2 c = search others-laws
 
--- src/spots.rt:209:30
 size-before-requires : tie.Need-size-before-requires Inv-loop μ-loop
 size-before-requires c κs = search needs
 
--- src/spots.rt:209:9
 sum-requires : tie.Need-sum-requires Inv-loop μ-loop
 sum-requires c κs = search needs
 
--- src/spots.rt:196:5
 loop-less : tie.Need-loop-less Inv-loop μ-loop
 loop-less c = search sought-nearer
 
--- src/spots.rt:196:5
 loop-again : tie.Need-loop-again Inv-loop μ-loop
 loop-again c = search others-laws
 

@@ -6,19 +6,15 @@ use Rattle.layout.proofs.spots.pass_others.Reads as reads
 use Rattle.layout.proofs.spots.pass_others.Lts as lts
 use Rattle.layout.proofs.spots.pass_fields.Reads as pass-fields-reads
 
--- src/spots.rt:177:21
 enum-known-ahead : tie.Need-enum-known-ahead
 enum-known-ahead c = search needs
 
--- src/spots.rt:178:9
 returns : tie.Need-returns
 returns c = search others-here
 
--- src/spots.rt:180:5
 pass-fields-requires : tie.Need-pass-fields-requires
 pass-fields-requires c κs = search needs
 
--- src/spots.rt:167:1
 returns-2 : tie.Need-returns-2
 returns-2 c = search others-body
 

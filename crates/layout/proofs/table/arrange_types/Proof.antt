@@ -8,47 +8,36 @@ use Rattle.layout.proofs.sort.ascending.Reads as ascending-reads
 use Rattle.layout.proofs.table.arrange_few.Reads as arrange-few-reads
 use Rattle.layout.proofs.table.arrange_many.Reads as arrange-many-reads
 
--- src/table.rt:92:9
 arrange-few-requires : tie.Need-arrange-few-requires
 arrange-few-requires c κs = search needs
 
--- src/table.rt:92:9
 same-length : tie.Need-same-length
 same-length c = search needs
 
--- src/table.rt:92:9
 same-length-2 : tie.Need-same-length-2
 same-length-2 c = search needs
 
--- src/table.rt:92:9
 returns : tie.Need-returns
 returns c = search needs
 
--- src/table.rt:94:8
 ascending-requires : tie.Need-ascending-requires
 ascending-requires c κs = search needs
 
--- src/table.rt:95:9
 same-length-3 : tie.Need-same-length-3
 same-length-3 c = search needs
 
--- src/table.rt:95:9
 returns-2 : tie.Need-returns-2
 returns-2 c = (search kept-ascending, search needs)
 
--- src/table.rt:97:5
 arrange-many-requires : tie.Need-arrange-many-requires
 arrange-many-requires c κs = search needs
 
--- src/table.rt:87:1
 same-length-4 : tie.Need-same-length-4
 same-length-4 c = search needs
 
--- src/table.rt:87:1
 same-length-5 : tie.Need-same-length-5
 same-length-5 c = search needs
 
--- src/table.rt:87:1
 returns-3 : tie.Need-returns-3
 returns-3 c = search needs
 

@@ -17,75 +17,57 @@ Inv-loop stream pool types f k b near lo₀ hi₀ next₀ tries₀ lo hi next tr
 abbrev μ-loop : tie.MeasureT-loop
 μ-loop stream pool types f k b near lo₀ hi₀ next₀ tries₀ lo hi next tries = hi - lo
 
--- src/table.rt:87:5
 loop-holds : tie.Need-loop-holds Inv-loop μ-loop
 loop-holds c = search seek-start
 
--- src/table.rt:88:13
 look-at-requires : tie.Need-look-at-requires Inv-loop μ-loop
 look-at-requires c κs = search needs
 
--- src/table.rt:89:9
 less-one-requires : tie.Need-less-one-requires Inv-loop μ-loop
 less-one-requires c κs = search needs
 
--- src/table.rt:90:37
 mul-type-under : tie.Need-mul-type-under Inv-loop μ-loop
 mul-type-under c = search needs
 
--- src/table.rt:90:37
 shared-slice-read-type-under : tie.Need-shared-slice-read-type-under Inv-loop μ-loop
 shared-slice-read-type-under c = search needs
 
--- src/table.rt:90:12
 type-under-requires : tie.Need-type-under-requires Inv-loop μ-loop
 type-under-requires c κs = search needs
 
--- src/table.rt:91:18
 add-lo : tie.Need-add-lo Inv-loop μ-loop
 add-lo c = search needs
 
--- src/table.rt:87:5
 loop-less : tie.Need-loop-less Inv-loop μ-loop
 loop-less c = search needs
 
--- src/table.rt:87:5
 loop-again : tie.Need-loop-again Inv-loop μ-loop
 loop-again c = search seek-up
 
--- src/table.rt:95:13
 less-one-requires-2 : tie.Need-less-one-requires-2 Inv-loop μ-loop
 less-one-requires-2 c κs = search needs
 
--- src/table.rt:87:5
 loop-less-2 : tie.Need-loop-less-2 Inv-loop μ-loop
 loop-less-2 c = search needs
 
--- src/table.rt:87:5
 loop-again-2 : tie.Need-loop-again-2 Inv-loop μ-loop
 loop-again-2 c = search seek-down
 
--- src/table.rt:99:9
 returns : tie.Need-returns Inv-loop μ-loop
 returns c = search seek-laws
 
--- src/table.rt:101:32
 mul-type-over : tie.Need-mul-type-over Inv-loop μ-loop
 mul-type-over c = search needs
 
--- src/table.rt:101:32
 shared-slice-read-type-over : tie.Need-shared-slice-read-type-over Inv-loop μ-loop
 shared-slice-read-type-over c = search needs
 
--- src/table.rt:101:8
 type-over-requires : tie.Need-type-over-requires Inv-loop μ-loop
 type-over-requires c κs = search needs
 
--- src/table.rt:102:9
 returns-2 : tie.Need-returns-2 Inv-loop μ-loop
 returns-2 c = search seek-laws
 
--- src/table.rt:71:1
 returns-3 : tie.Need-returns-3 Inv-loop μ-loop
 returns-3 c = search seek-laws
 

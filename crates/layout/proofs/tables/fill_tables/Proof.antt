@@ -7,39 +7,30 @@ use Rattle.layout.proofs.tables.fill_tables.Reads as reads
 use Rattle.layout.proofs.tables.fill_tables.Lts as lts
 use Rattle.layout.proofs.tables.fill_both.Reads as fill-both-reads
 
--- src/tables.rt:39:9
 returns : tie.Need-returns
 returns c = (λ i x y z w e. absurd (omega arith), omega arith)
 
--- src/tables.rt:42:9
 returns-2 : tie.Need-returns-2
 returns-2 c = (λ i x y z w e. absurd (omega arith), omega arith)
 
--- src/tables.rt:45:9
 returns-3 : tie.Need-returns-3
 returns-3 c = (λ i x y z w e. absurd (omega arith), omega arith)
 
--- src/tables.rt:48:9
 returns-4 : tie.Need-returns-4
 returns-4 c = (λ i x y z w e. absurd (omega arith), omega arith)
 
--- src/tables.rt:50:5
 fill-both-requires : tie.Need-fill-both-requires
 fill-both-requires c κs = search needs
 
--- src/tables.rt:28:1
 same-length : tie.Need-same-length
 same-length c = search needs
 
--- src/tables.rt:28:1
 same-length-2 : tie.Need-same-length-2
 same-length-2 c = search needs
 
--- src/tables.rt:28:1
 same-length-3 : tie.Need-same-length-3
 same-length-3 c = search needs
 
--- src/tables.rt:28:1
 returns-5 : tie.Need-returns-5
 returns-5 c = (λ i x y z w e. c .before .before .before .before .before .before .fill-both .ensures .0 (record { by = inl i }) e, search needs)
 

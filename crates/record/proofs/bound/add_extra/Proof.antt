@@ -8,23 +8,18 @@ use Rattle.record.proofs.bound.add_numbers.Reads as add-numbers-reads
 use Rattle.record.proofs.cut.from.Reads as from-reads
 use Rattle.record.proofs.le.byte_at.Reads as byte-at-reads
 
--- src/bound.rt:91:8
 byte-at-requires : tie.Need-byte-at-requires
 byte-at-requires c κs = search needs
 
--- src/bound.rt:92:38
 from-requires : tie.Need-from-requires
 from-requires c κs = search needs
 
--- src/bound.rt:92:9
 add-numbers-requires : tie.Need-add-numbers-requires
 add-numbers-requires c κs = search field-there
 
--- src/bound.rt:92:9
 returns : tie.Need-returns
 returns c = search extra-laws
 
--- src/bound.rt:87:1
 returns-2 : tie.Need-returns-2
 returns-2 c = search extra-laws
 

@@ -7,31 +7,24 @@ use Rattle.record.proofs.bound.add_numbers.Lts as lts
 use Rattle.record.proofs.bound.numbers.Reads as numbers-reads
 use Rattle.record.proofs.sizes.sum.Reads as sum-reads
 
--- src/bound.rt:76:8
 shared-slice-read-if1 : tie.Need-shared-slice-read-if1
 shared-slice-read-if1 c = search needs
 
--- src/bound.rt:77:12
 shared-slice-read-if2 : tie.Need-shared-slice-read-if2
 shared-slice-read-if2 c = search needs
 
--- src/bound.rt:78:16
 shared-slice-read-if3 : tie.Need-shared-slice-read-if3
 shared-slice-read-if3 c = search needs
 
--- src/bound.rt:79:17
 returns : tie.Need-returns
 returns c = search numbers-laws
 
--- src/bound.rt:83:16
 numbers-requires : tie.Need-numbers-requires
 numbers-requires c κs = search needs
 
--- src/bound.rt:83:5
 sum-requires : tie.Need-sum-requires
 sum-requires c κs = search needs
 
--- src/bound.rt:72:1
 returns-2 : tie.Need-returns-2
 returns-2 c = search numbers-laws
 

@@ -10,51 +10,39 @@ use Rattle.record.proofs.le.u32_at.Reads as u32-at-reads
 use Rattle.record.proofs.sizes.sum.Reads as sum-reads
 use Rattle.record.proofs.sizes.wide.Reads as wide-reads
 
--- src/bound.rt:49:11
 byte-at-requires : tie.Need-byte-at-requires
 byte-at-requires c κs = search needs
 
--- src/bound.rt:50:41
 from-requires : tie.Need-from-requires
 from-requires c κs = search needs
 
--- src/bound.rt:50:30
 u32-at-requires : tie.Need-u32-at-requires
 u32-at-requires c κs = search needs
 
--- src/bound.rt:50:25
 wide-requires : tie.Need-wide-requires
 wide-requires c κs = search needs
 
--- src/bound.rt:50:14
 sum-requires : tie.Need-sum-requires
 sum-requires c κs = search needs
 
--- src/bound.rt:51:41
 from-requires-2 : tie.Need-from-requires-2
 from-requires-2 c κs = search needs
 
--- src/bound.rt:51:30
 u32-at-requires-2 : tie.Need-u32-at-requires-2
 u32-at-requires-2 c κs = search needs
 
--- src/bound.rt:51:25
 wide-requires-2 : tie.Need-wide-requires-2
 wide-requires-2 c κs = search needs
 
--- src/bound.rt:51:14
 sum-requires-2 : tie.Need-sum-requires-2
 sum-requires-2 c κs = search needs
 
--- src/bound.rt:46:1
 returns : tie.Need-returns
 returns c = search unit-laws
 
--- src/bound.rt:46:1
 returns-2 : tie.Need-returns-2
 returns-2 c = search unit-laws
 
--- src/bound.rt:46:1
 returns-3 : tie.Need-returns-3
 returns-3 c = search unit-laws
 

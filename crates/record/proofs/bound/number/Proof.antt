@@ -8,19 +8,15 @@ use Rattle.record.proofs.operands.opt_number_at.Reads as opt-number-at-
 use Rattle.record.proofs.sizes.or_else.Reads as or-else-reads
 use Rattle.record.proofs.sizes.wide.Reads as wide-reads
 
--- src/bound.rt:83:18
 opt-number-at-requires : tie.Need-opt-number-at-requires
 opt-number-at-requires c κs = search needs
 
--- src/bound.rt:83:10
 or-else-requires : tie.Need-or-else-requires
 or-else-requires c κs = search needs
 
--- src/bound.rt:83:5
 wide-requires : tie.Need-wide-requires
 wide-requires c κs = search needs
 
--- src/bound.rt:80:1
 returns : tie.Need-returns
 returns c = c .wide .ensures ∙ c .before .or-else .ensures ∙ rw (c .before .before .opt-number-at .ensures)
 

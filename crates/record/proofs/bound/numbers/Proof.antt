@@ -8,43 +8,33 @@ use Rattle.record.proofs.bound.number.Reads as number-reads
 use Rattle.record.proofs.sizes.product.Reads as product-reads
 use Rattle.record.proofs.sizes.sum.Reads as sum-reads
 
--- src/bound.rt:66:27
 number-requires : tie.Need-number-requires
 number-requires c κs = search needs
 
--- src/bound.rt:66:9
 product-requires : tie.Need-product-requires
 product-requires c κs = search needs
 
--- src/bound.rt:67:37
 number-requires-2 : tie.Need-number-requires-2
 number-requires-2 c κs = search needs
 
--- src/bound.rt:67:26
 product-requires-2 : tie.Need-product-requires-2
 product-requires-2 c κs = search needs
 
--- src/bound.rt:67:53
 number-requires-3 : tie.Need-number-requires-3
 number-requires-3 c κs = search needs
 
--- src/bound.rt:67:9
 product-requires-3 : tie.Need-product-requires-3
 product-requires-3 c κs = search needs
 
--- src/bound.rt:68:27
 number-requires-4 : tie.Need-number-requires-4
 number-requires-4 c κs = search needs
 
--- src/bound.rt:68:15
 sum-requires : tie.Need-sum-requires
 sum-requires c κs = search needs
 
--- src/bound.rt:68:5
 sum-requires-2 : tie.Need-sum-requires-2
 sum-requires-2 c κs = search needs
 
--- src/bound.rt:63:1
 returns : tie.Need-returns
 returns c = search numbers-are
 

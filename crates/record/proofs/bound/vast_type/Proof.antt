@@ -8,23 +8,18 @@ use Rattle.record.proofs.bound.scalar_bound.Reads as scalar-bound-reads
 use Rattle.record.proofs.bound.within.Reads as within-reads
 use Rattle.record.proofs.vast.first_vast.Reads as first-vast-reads
 
--- src/bound.rt:121:15
 scalar-bound-requires : tie.Need-scalar-bound-requires
 scalar-bound-requires c κs = search needs
 
--- src/bound.rt:121:8
 within-requires : tie.Need-within-requires
 within-requires c κs = search needs
 
--- src/bound.rt:122:9
 returns : tie.Need-returns
 returns c = search small-none
 
--- src/bound.rt:124:5
 first-vast-requires : tie.Need-first-vast-requires
 first-vast-requires c κs = search needs
 
--- src/bound.rt:118:1
 returns-2 : tie.Need-returns-2
 returns-2 c = search needs
 

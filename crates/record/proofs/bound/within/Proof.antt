@@ -20,47 +20,36 @@ Inv-loop v stream units₀ extra₀ at₀ units extra at = Totalling (unitAt str
 abbrev μ-loop : tie.MeasureT-loop
 μ-loop v stream units₀ extra₀ at₀ units extra at = length stream - at
 
--- src/bound.rt:105:5
 loop-holds : tie.Need-loop-holds Inv-loop μ-loop
 loop-holds c = (search totalling, search totalling)
 
--- src/bound.rt:106:13
 after-at-requires : tie.Need-after-at-requires Inv-loop μ-loop
 after-at-requires c κs = search needs
 
--- src/bound.rt:108:28
 sum-requires : tie.Need-sum-requires Inv-loop μ-loop
 sum-requires c κs = search needs
 
--- src/bound.rt:108:17
 sum-requires-2 : tie.Need-sum-requires-2 Inv-loop μ-loop
 sum-requires-2 c κs = search needs
 
--- src/bound.rt:109:24
 product-requires : tie.Need-product-requires Inv-loop μ-loop
 product-requires c κs = search needs
 
--- src/bound.rt:109:20
 sum-requires-3 : tie.Need-sum-requires-3 Inv-loop μ-loop
 sum-requires-3 c κs = search needs
 
--- src/bound.rt:109:13
 returns : tie.Need-returns Inv-loop μ-loop
 returns c = search within-is
 
--- src/bound.rt:111:9
 add-unit-requires : tie.Need-add-unit-requires Inv-loop μ-loop
 add-unit-requires c κs = search needs
 
--- src/bound.rt:112:9
 add-extra-requires : tie.Need-add-extra-requires Inv-loop μ-loop
 add-extra-requires c κs = search after-whole
 
--- src/bound.rt:105:5
 loop-less : tie.Need-loop-less Inv-loop μ-loop
 loop-less c = search after-nearer
 
--- src/bound.rt:105:5
 loop-again : tie.Need-loop-again Inv-loop μ-loop
 loop-again c = (search total-more, search total-more)
 

@@ -5,15 +5,12 @@ use Rattle.record.proofs.command.alias_at.Reads as reads
 use Rattle.record.proofs.command.alias_at.Lts as lts
 use Rattle.record.proofs.operands.text_at.Reads as text-at-reads
 
--- src/command.rt:154:15
 text-at-requires : tie.Need-text-at-requires
 text-at-requires c κs = search needs
 
--- src/command.rt:155:21
 text-at-requires-2 : tie.Need-text-at-requires-2
 text-at-requires-2 c κs = search needs
 
--- src/command.rt:150:1
 returns : tie.Need-returns
 returns c = cc
 

@@ -7,19 +7,15 @@ use Rattle.record.proofs.le.u32_at.Reads as u32-at-reads
 use Rattle.record.proofs.operands.opt_text_at.Reads as opt-text-at-reads
 use Rattle.record.proofs.operands.text_at.Reads as text-at-reads
 
--- src/command.rt:184:15
 text-at-requires : tie.Need-text-at-requires
 text-at-requires c κs = search needs
 
--- src/command.rt:185:15
 u32-at-requires : tie.Need-u32-at-requires
 u32-at-requires c κs = search needs
 
--- src/command.rt:186:24
 opt-text-at-requires : tie.Need-opt-text-at-requires
 opt-text-at-requires c κs = search needs
 
--- src/command.rt:180:1
 returns : tie.Need-returns
 returns c = cc
 

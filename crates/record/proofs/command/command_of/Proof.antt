@@ -19,128 +19,100 @@ use Rattle.record.proofs.command.value_at.Reads as value-at-reads
 use Rattle.record.proofs.command.variant_at.Reads as variant-at-reads
 use Rattle.record.proofs.command.version_at.Reads as version-at-reads
 
--- src/command.rt:294:28
 head-at-requires : tie.Need-head-at-requires
 head-at-requires c κs = search needs
 
--- src/command.rt:295:32
 constant-at-requires : tie.Need-constant-at-requires
 constant-at-requires c κs = search needs
 
--- src/command.rt:296:33
 alias-at-requires : tie.Need-alias-at-requires
 alias-at-requires c κs = search needs
 
--- src/command.rt:297:28
 enum-at-requires : tie.Need-enum-at-requires
 enum-at-requires c κs = search needs
 
--- src/command.rt:298:29
 value-at-requires : tie.Need-value-at-requires
 value-at-requires c κs = search needs
 
--- src/command.rt:299:32
 bitfield-at-requires : tie.Need-bitfield-at-requires
 bitfield-at-requires c κs = search needs
 
--- src/command.rt:300:30
 member-at-requires : tie.Need-member-at-requires
 member-at-requires c κs = search needs
 
--- src/command.rt:301:30
 struct-at-requires : tie.Need-struct-at-requires
 struct-at-requires c κs = search needs
 
--- src/command.rt:302:30
 family-at-requires : tie.Need-family-at-requires
 family-at-requires c κs = search needs
 
--- src/command.rt:303:32
 variant-at-requires : tie.Need-variant-at-requires
 variant-at-requires c κs = search needs
 
--- src/command.rt:304:30
 field-at-requires : tie.Need-field-at-requires
 field-at-requires c κs = search needs
 
--- src/command.rt:305:34
 key-at-requires : tie.Need-key-at-requires
 key-at-requires c κs = search needs
 
--- src/command.rt:306:36
 key-at-requires-2 : tie.Need-key-at-requires-2
 key-at-requires-2 c κs = search needs
 
--- src/command.rt:307:31
 version-at-requires : tie.Need-version-at-requires
 version-at-requires c κs = search needs
 
--- src/command.rt:290:1
 returns : tie.Need-returns
 unfolding commandOf
 returns c = rw (c .before .match .keys1, c .head-at .ensures)
 
--- src/command.rt:290:1
 returns-2 : tie.Need-returns-2
 unfolding commandOf
 returns-2 c = rw (c .before .match .keys2, c .constant-at .ensures)
 
--- src/command.rt:290:1
 returns-3 : tie.Need-returns-3
 unfolding commandOf
 returns-3 c = rw (c .before .match .keys3, c .alias-at .ensures)
 
--- src/command.rt:290:1
 returns-4 : tie.Need-returns-4
 unfolding commandOf
 returns-4 c = rw (c .before .match .keys4, c .enum-at .ensures)
 
--- src/command.rt:290:1
 returns-5 : tie.Need-returns-5
 unfolding commandOf
 returns-5 c = rw (c .before .match .keys5, c .value-at .ensures)
 
--- src/command.rt:290:1
 returns-6 : tie.Need-returns-6
 unfolding commandOf
 returns-6 c = rw (c .before .match .keys6, c .bitfield-at .ensures)
 
--- src/command.rt:290:1
 returns-7 : tie.Need-returns-7
 unfolding commandOf
 returns-7 c = rw (c .before .match .keys7, c .member-at .ensures)
 
--- src/command.rt:290:1
 returns-8 : tie.Need-returns-8
 unfolding commandOf
 returns-8 c = rw (c .before .match .keys8, c .struct-at .ensures)
 
--- src/command.rt:290:1
 returns-9 : tie.Need-returns-9
 unfolding commandOf
 returns-9 c = rw (c .before .match .keys9, c .family-at .ensures)
 
--- src/command.rt:290:1
 returns-10 : tie.Need-returns-10
 unfolding commandOf
 returns-10 c = rw (c .before .match .keys10, c .variant-at .ensures)
 
--- src/command.rt:290:1
 returns-11 : tie.Need-returns-11
 unfolding commandOf
 returns-11 c = rw (c .before .match .keys11, c .field-at .ensures)
 
--- src/command.rt:290:1
 returns-12 : tie.Need-returns-12
 unfolding commandOf
 returns-12 c = rw (c .before .match .keys12, c .key-at .ensures)
 
--- src/command.rt:290:1
 returns-13 : tie.Need-returns-13
 unfolding commandOf
 returns-13 c = rw (c .before .match .keys13, c .key-at2 .ensures)
 
--- src/command.rt:290:1
 returns-14 : tie.Need-returns-14
 returns-14 c = search else-command
 

@@ -8,23 +8,18 @@ use Rattle.record.proofs.operands.flag_at.Reads as flag-at-reads
 use Rattle.record.proofs.operands.opt_text_at.Reads as opt-text-at-reads
 use Rattle.record.proofs.operands.text_at.Reads as text-at-reads
 
--- src/command.rt:163:15
 text-at-requires : tie.Need-text-at-requires
 text-at-requires c κs = search needs
 
--- src/command.rt:164:15
 u32-at-requires : tie.Need-u32-at-requires
 u32-at-requires c κs = search needs
 
--- src/command.rt:165:18
 flag-at-requires : tie.Need-flag-at-requires
 flag-at-requires c κs = search needs
 
--- src/command.rt:166:24
 opt-text-at-requires : tie.Need-opt-text-at-requires
 opt-text-at-requires c κs = search needs
 
--- src/command.rt:159:1
 returns : tie.Need-returns
 returns c = cc
 

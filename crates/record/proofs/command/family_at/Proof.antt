@@ -7,31 +7,24 @@ use Rattle.record.proofs.operands.flag_at.Reads as flag-at-reads
 use Rattle.record.proofs.operands.opt_text_at.Reads as opt-text-at-reads
 use Rattle.record.proofs.operands.text_at.Reads as text-at-reads
 
--- src/command.rt:215:15
 text-at-requires : tie.Need-text-at-requires
 text-at-requires c κs = search needs
 
--- src/command.rt:216:29
 text-at-requires-2 : tie.Need-text-at-requires-2
 text-at-requires-2 c κs = search needs
 
--- src/command.rt:217:28
 text-at-requires-3 : tie.Need-text-at-requires-3
 text-at-requires-3 c κs = search needs
 
--- src/command.rt:218:26
 text-at-requires-4 : tie.Need-text-at-requires-4
 text-at-requires-4 c κs = search needs
 
--- src/command.rt:219:25
 opt-text-at-requires : tie.Need-opt-text-at-requires
 opt-text-at-requires c κs = search needs
 
--- src/command.rt:220:21
 flag-at-requires : tie.Need-flag-at-requires
 flag-at-requires c κs = search needs
 
--- src/command.rt:211:1
 returns : tie.Need-returns
 returns c = cc
 

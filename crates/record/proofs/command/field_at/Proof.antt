@@ -7,39 +7,30 @@ use Rattle.record.proofs.operands.opt_number_at.Reads as opt-number-at-
 use Rattle.record.proofs.operands.opt_text_at.Reads as opt-text-at-reads
 use Rattle.record.proofs.operands.text_at.Reads as text-at-reads
 
--- src/command.rt:236:15
 text-at-requires : tie.Need-text-at-requires
 text-at-requires c κs = search needs
 
--- src/command.rt:237:15
 text-at-requires-2 : tie.Need-text-at-requires-2
 text-at-requires-2 c κs = search needs
 
--- src/command.rt:238:20
 opt-text-at-requires : tie.Need-opt-text-at-requires
 opt-text-at-requires c κs = search needs
 
--- src/command.rt:239:18
 opt-text-at-requires-2 : tie.Need-opt-text-at-requires-2
 opt-text-at-requires-2 c κs = search needs
 
--- src/command.rt:240:16
 opt-number-at-requires : tie.Need-opt-number-at-requires
 opt-number-at-requires c κs = search needs
 
--- src/command.rt:241:15
 opt-number-at-requires-2 : tie.Need-opt-number-at-requires-2
 opt-number-at-requires-2 c κs = search needs
 
--- src/command.rt:242:15
 opt-number-at-requires-3 : tie.Need-opt-number-at-requires-3
 opt-number-at-requires-3 c κs = search needs
 
--- src/command.rt:243:15
 opt-number-at-requires-4 : tie.Need-opt-number-at-requires-4
 opt-number-at-requires-4 c κs = search needs
 
--- src/command.rt:232:1
 returns : tie.Need-returns
 returns c = cc
 

@@ -6,15 +6,12 @@ use Rattle.record.proofs.command.head_at.Lts as lts
 use Rattle.record.proofs.operands.flag_at.Reads as flag-at-reads
 use Rattle.record.proofs.operands.opt_text_at.Reads as opt-text-at-reads
 
--- src/command.rt:132:18
 opt-text-at-requires : tie.Need-opt-text-at-requires
 opt-text-at-requires c κs = search needs
 
--- src/command.rt:133:21
 flag-at-requires : tie.Need-flag-at-requires
 flag-at-requires c κs = search needs
 
--- src/command.rt:128:1
 returns : tie.Need-returns
 returns c = cc
 

@@ -8,23 +8,18 @@ use Rattle.record.proofs.operands.opt_number_at.Reads as opt-number-at-
 use Rattle.record.proofs.operands.opt_text_at.Reads as opt-text-at-reads
 use Rattle.record.proofs.operands.text_at.Reads as text-at-reads
 
--- src/command.rt:194:15
 text-at-requires : tie.Need-text-at-requires
 text-at-requires c κs = search needs
 
--- src/command.rt:195:14
 u32-at-requires : tie.Need-u32-at-requires
 u32-at-requires c κs = search needs
 
--- src/command.rt:196:16
 opt-number-at-requires : tie.Need-opt-number-at-requires
 opt-number-at-requires c κs = search needs
 
--- src/command.rt:197:24
 opt-text-at-requires : tie.Need-opt-text-at-requires
 opt-text-at-requires c κs = search needs
 
--- src/command.rt:190:1
 returns : tie.Need-returns
 returns c = cc
 

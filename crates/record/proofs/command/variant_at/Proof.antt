@@ -5,11 +5,9 @@ use Rattle.record.proofs.command.variant_at.Reads as reads
 use Rattle.record.proofs.command.variant_at.Lts as lts
 use Rattle.record.proofs.operands.text_at.Reads as text-at-reads
 
--- src/command.rt:228:23
 text-at-requires : tie.Need-text-at-requires
 text-at-requires c κs = search needs
 
--- src/command.rt:224:1
 returns : tie.Need-returns
 returns c = cc
 

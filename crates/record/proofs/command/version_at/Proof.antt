@@ -6,15 +6,12 @@ use Rattle.record.proofs.command.version_at.Lts as lts
 use Rattle.record.proofs.le.u32_at.Reads as u32-at-reads
 use Rattle.record.proofs.operands.text_at.Reads as text-at-reads
 
--- src/command.rt:260:22
 text-at-requires : tie.Need-text-at-requires
 text-at-requires c κs = search needs
 
--- src/command.rt:261:18
 u32-at-requires : tie.Need-u32-at-requires
 u32-at-requires c κs = search needs
 
--- src/command.rt:256:1
 returns : tie.Need-returns
 returns c = cc
 

@@ -6,87 +6,70 @@ use Rattle.record.proofs.command.width_of.Tie as tie
 use Rattle.record.proofs.command.width_of.Reads as reads
 use Rattle.record.proofs.command.width_of.Lts as lts
 
--- src/command.rt:266:1
 returns : tie.Need-returns
 unfolding widthOf widthWith operands widths wide bytes
 returns c = rw (c .match .keys1)
 
--- src/command.rt:266:1
 returns-2 : tie.Need-returns-2
 unfolding widthOf widthWith operands widths wide bytes
 returns-2 c = rw (c .match .keys2)
 
--- src/command.rt:266:1
 returns-3 : tie.Need-returns-3
 unfolding widthOf widthWith operands widths wide bytes
 returns-3 c = rw (c .match .keys3)
 
--- src/command.rt:266:1
 returns-4 : tie.Need-returns-4
 unfolding widthOf widthWith operands widths wide bytes
 returns-4 c = rw (c .match .keys4)
 
--- src/command.rt:266:1
 returns-5 : tie.Need-returns-5
 unfolding widthOf widthWith operands widths wide bytes
 returns-5 c = rw (c .match .keys5)
 
--- src/command.rt:266:1
 returns-6 : tie.Need-returns-6
 unfolding widthOf widthWith operands widths wide bytes
 returns-6 c = rw (c .match .keys6)
 
--- src/command.rt:266:1
 returns-7 : tie.Need-returns-7
 unfolding widthOf widthWith operands widths wide bytes
 returns-7 c = rw (c .match .keys7)
 
--- src/command.rt:266:1
 returns-8 : tie.Need-returns-8
 unfolding widthOf widthWith operands widths wide bytes
 returns-8 c = rw (c .match .keys8)
 
--- src/command.rt:266:1
 returns-9 : tie.Need-returns-9
 unfolding widthOf widthWith operands widths wide bytes
 returns-9 c = rw (c .match .keys9)
 
--- src/command.rt:266:1
 returns-10 : tie.Need-returns-10
 unfolding widthOf widthWith operands widths wide bytes
 returns-10 c = rw (c .match .keys10)
 
--- src/command.rt:266:1
 returns-11 : tie.Need-returns-11
 unfolding widthOf widthWith operands widths wide bytes
 returns-11 c = rw (c .match .keys11)
 
--- src/command.rt:266:1
 returns-12 : tie.Need-returns-12
 unfolding widthOf widthWith operands widths wide bytes
 returns-12 c = rw (c .match .keys12)
 
--- src/command.rt:266:1
 returns-13 : tie.Need-returns-13
 unfolding widthOf widthWith operands widths wide bytes
 returns-13 c = rw (c .match .keys13)
 
--- src/command.rt:266:1
 returns-14 : tie.Need-returns-14
 unfolding widthOf widthWith operands widths wide bytes
 returns-14 c = rw (c .match .keys14)
 
--- src/command.rt:266:1
 returns-15 : tie.Need-returns-15
 unfolding widthOf widthWith operands widths wide bytes
 returns-15 c = rw (c .match .keys15)
 
--- src/command.rt:266:1
 returns-16 : tie.Need-returns-16
 unfolding widthOf widthWith operands widths wide bytes
 returns-16 c = rw (c .match .keys16)
 
--- src/command.rt:266:1
 returns-17 : tie.Need-returns-17
 returns-17 c = search none-width
 

@@ -8,23 +8,18 @@ use Rattle.record.proofs.describe.element_len.Reads as reads
 use Rattle.record.proofs.describe.element_len.Lts as lts
 use Rattle.record.proofs.text.bytes_of.Reads as bytes-of-reads
 
--- src/describe.rt:161:28
 enum-told : tie.Need-enum-told
 enum-told c = search needs
 
--- src/describe.rt:162:24
 enum-known-word : tie.Need-enum-known-word
 enum-known-word c = search needs
 
--- src/describe.rt:162:30
 bytes-of-requires : tie.Need-bytes-of-requires
 bytes-of-requires c κs = search needs
 
--- src/describe.rt:157:1
 returns : tie.Need-returns
 returns c = (search element-none-long, omega arith)
 
--- src/describe.rt:157:1
 returns-2 : tie.Need-returns-2
 returns-2 c = (search element-some-long, omega (arith, text-short))
 

@@ -6,37 +6,30 @@ use Rattle.record.proofs.describe.named_at.Reads as reads
 use Rattle.record.proofs.describe.named_at.Lts as lts
 use Rattle.record.proofs.operands.opt_text_at.Reads as opt-text-at-reads
 
--- src/describe.rt:52:35
 opt-text-at-requires : tie.Need-opt-text-at-requires
 opt-text-at-requires c κs = search needs
 
--- src/describe.rt:52:27
 enum-known-name : tie.Need-enum-known-name
 enum-known-name c = search needs
 
--- src/describe.rt:53:9
 returns : tie.Need-returns
 returns c = λ p. search named-laws
 
 enum-told : tie.Need-enum-told
 enum-told c = search needs
 
--- src/describe.rt:55:35
 opt-text-at-requires-2 : tie.Need-opt-text-at-requires-2
 opt-text-at-requires-2 c κs = search needs
 
--- src/describe.rt:55:27
 enum-known-name-2 : tie.Need-enum-known-name-2
 enum-known-name-2 c = search needs
 
--- src/describe.rt:56:9
 returns-2 : tie.Need-returns-2
 returns-2 c = λ p. search named-laws
 
 enum-told-2 : tie.Need-enum-told-2
 enum-told-2 c = search needs
 
--- src/describe.rt:49:1
 returns-3 : tie.Need-returns-3
 returns-3 c = λ p. search named-laws
 

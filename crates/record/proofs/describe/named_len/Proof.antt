@@ -9,53 +9,42 @@ use Rattle.record.proofs.describe.named_len.Lts as lts
 use Rattle.record.proofs.operands.opt_text_at.Reads as opt-text-at-reads
 use Rattle.record.proofs.text.bytes_of.Reads as bytes-of-reads
 
--- src/describe.rt:177:35
 opt-text-at-requires : tie.Need-opt-text-at-requires
 opt-text-at-requires c κs = search needs
 
--- src/describe.rt:177:27
 enum-known-name : tie.Need-enum-known-name
 enum-known-name c = search needs
 
--- src/describe.rt:178:20
 bytes-of-requires : tie.Need-bytes-of-requires
 bytes-of-requires c κs = search needs
 
--- src/describe.rt:178:16
 add-result : tie.Need-add-result
 add-result c = omega (arith, text-short)
 
--- src/describe.rt:178:9
 returns : tie.Need-returns
 returns c = (search type-long, omega (arith, text-short))
 
 enum-told : tie.Need-enum-told
 enum-told c = search needs
 
--- src/describe.rt:180:35
 opt-text-at-requires-2 : tie.Need-opt-text-at-requires-2
 opt-text-at-requires-2 c κs = search needs
 
--- src/describe.rt:180:27
 enum-known-name-2 : tie.Need-enum-known-name-2
 enum-known-name-2 c = search needs
 
--- src/describe.rt:181:20
 bytes-of-requires-2 : tie.Need-bytes-of-requires-2
 bytes-of-requires-2 c κs = search needs
 
--- src/describe.rt:181:16
 add-result-2 : tie.Need-add-result-2
 add-result-2 c = omega (arith, text-short)
 
--- src/describe.rt:181:9
 returns-2 : tie.Need-returns-2
 returns-2 c = (search element-long, omega (arith, text-short))
 
 enum-told-2 : tie.Need-enum-told-2
 enum-told-2 c = search needs
 
--- src/describe.rt:174:1
 returns-3 : tie.Need-returns-3
 returns-3 c = (search none-long, omega arith)
 

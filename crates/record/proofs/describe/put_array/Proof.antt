@@ -8,23 +8,18 @@ use Rattle.record.proofs.describe.put_element.Reads as put-element-read
 use Rattle.record.proofs.describe.put_kind.Reads as put-kind-reads
 use Rattle.record.proofs.describe.put_times.Reads as put-times-reads
 
--- src/describe.rt:139:9
 put-kind-requires : tie.Need-put-kind-requires
 put-kind-requires c κs = search needs
 
--- src/describe.rt:140:9
 put-element-requires : tie.Need-put-element-requires
 put-element-requires c κs = search needs
 
--- src/describe.rt:141:5
 put-times-requires : tie.Need-put-times-requires
 put-times-requires c κs = search needs
 
--- src/describe.rt:136:1
 same-length : tie.Need-same-length
 same-length c = search needs
 
--- src/describe.rt:136:1
 returns : tie.Need-returns
 returns c = (search put-array, search needs)
 

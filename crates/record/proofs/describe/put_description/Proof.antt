@@ -15,116 +15,88 @@ use Rattle.record.proofs.writer.put.Reads as put-reads
 use Rattle.record.proofs.writer.put_text.Reads as put-text-reads
 use Rattle.record.proofs.writer.put_worded.Reads as put-worded-reads
 
--- src/describe.rt:149:28
 enum-known-d : tie.Need-enum-known-d
 enum-known-d c = search needs
 
--- src/describe.rt:149:37
 put-text-requires : tie.Need-put-text-requires
 put-text-requires c κs = search needs
 
--- src/describe.rt:150:28
 enum-known-d-2 : tie.Need-enum-known-d-2
 enum-known-d-2 c = search needs
 
--- src/describe.rt:150:43
 put-pair-requires : tie.Need-put-pair-requires
 put-pair-requires c κs = search needs
 
--- src/describe.rt:151:28
 enum-known-d-3 : tie.Need-enum-known-d-3
 enum-known-d-3 c = search needs
 
--- src/describe.rt:151:49
 put-array-requires : tie.Need-put-array-requires
 put-array-requires c κs = search needs
 
--- src/describe.rt:152:30
 enum-known-d-4 : tie.Need-enum-known-d-4
 enum-known-d-4 c = search needs
 
--- src/describe.rt:153:17
 put-array-requires-2 : tie.Need-put-array-requires-2
 put-array-requires-2 c κs = search needs
 
--- src/describe.rt:154:13
 put-times-requires : tie.Need-put-times-requires
 put-times-requires c κs = search needs
 
--- src/describe.rt:156:35
 enum-known-d-5 : tie.Need-enum-known-d-5
 enum-known-d-5 c = search needs
 
--- src/describe.rt:156:64
 slice-aggregate-put-worded : tie.Need-slice-aggregate-put-worded
 slice-aggregate-put-worded c = search needs
 
--- src/describe.rt:156:44
 put-worded-requires : tie.Need-put-worded-requires
 put-worded-requires c κs = search needs
 
--- src/describe.rt:157:29
 enum-known-d-6 : tie.Need-enum-known-d-6
 enum-known-d-6 c = search needs
 
--- src/describe.rt:158:37
 slice-aggregate-put : tie.Need-slice-aggregate-put
 slice-aggregate-put c = search needs
 
--- src/describe.rt:158:17
 put-requires : tie.Need-put-requires
 put-requires c κs = search needs
 
--- src/describe.rt:159:13
 put-element-requires : tie.Need-put-element-requires
 put-element-requires c κs = search needs
 
--- src/describe.rt:145:1
 same-length : tie.Need-same-length
 same-length c = search needs
 
--- src/describe.rt:145:1
 returns : tie.Need-returns
 returns c = (search put-plain, search needs)
 
--- src/describe.rt:145:1
 same-length-2 : tie.Need-same-length-2
 same-length-2 c = search needs
 
--- src/describe.rt:145:1
 returns-2 : tie.Need-returns-2
 returns-2 c = (search put-same, search needs)
 
--- src/describe.rt:145:1
 same-length-3 : tie.Need-same-length-3
 same-length-3 c = search needs
 
--- src/describe.rt:145:1
 returns-3 : tie.Need-returns-3
 returns-3 c = (search put-same, search needs)
 
--- src/describe.rt:145:1
 same-length-4 : tie.Need-same-length-4
 same-length-4 c = search needs
 
--- src/describe.rt:145:1
 returns-4 : tie.Need-returns-4
 returns-4 c = (search put-array2d, search needs)
 
--- src/describe.rt:145:1
 same-length-5 : tie.Need-same-length-5
 same-length-5 c = search needs
 
--- src/describe.rt:145:1
 returns-5 : tie.Need-returns-5
 unfolding bytes
 returns-5 c = (search put-discriminant, search needs)
 
--- src/describe.rt:145:1
 same-length-6 : tie.Need-same-length-6
 same-length-6 c = search needs
 
--- src/describe.rt:145:1
 returns-6 : tie.Need-returns-6
 unfolding bytes
 returns-6 c = (search put-length, omega (arith, puts-near))

@@ -9,61 +9,48 @@ use Rattle.record.proofs.describe.put_pair.Reads as put-pair-reads
 use Rattle.record.proofs.operands.opt_text_at.Reads as opt-text-at-reads
 use Rattle.record.proofs.writer.put_text.Reads as put-text-reads
 
--- src/describe.rt:168:35
 opt-text-at-requires : tie.Need-opt-text-at-requires
 opt-text-at-requires c κs = search needs
 
--- src/describe.rt:168:27
 enum-known-name : tie.Need-enum-known-name
 enum-known-name c = search needs
 
--- src/describe.rt:169:9
 put-pair-requires : tie.Need-put-pair-requires
 put-pair-requires c κs = search needs
 
--- src/describe.rt:169:9
 same-length : tie.Need-same-length
 same-length c = search needs
 
--- src/describe.rt:169:9
 returns : tie.Need-returns
 returns c = (search (puts-as, type-named), search needs)
 
 enum-told : tie.Need-enum-told
 enum-told c = search needs
 
--- src/describe.rt:171:35
 opt-text-at-requires-2 : tie.Need-opt-text-at-requires-2
 opt-text-at-requires-2 c κs = search needs
 
--- src/describe.rt:171:27
 enum-known-name-2 : tie.Need-enum-known-name-2
 enum-known-name-2 c = search needs
 
--- src/describe.rt:172:9
 put-pair-requires-2 : tie.Need-put-pair-requires-2
 put-pair-requires-2 c κs = search needs
 
--- src/describe.rt:172:9
 same-length-2 : tie.Need-same-length-2
 same-length-2 c = search needs
 
--- src/describe.rt:172:9
 returns-2 : tie.Need-returns-2
 returns-2 c = (search (puts-as, element-named), search needs)
 
 enum-told-2 : tie.Need-enum-told-2
 enum-told-2 c = search needs
 
--- src/describe.rt:174:5
 put-text-requires : tie.Need-put-text-requires
 put-text-requires c κs = search needs
 
--- src/describe.rt:165:1
 same-length-3 : tie.Need-same-length-3
 same-length-3 c = search needs
 
--- src/describe.rt:165:1
 returns-3 : tie.Need-returns-3
 returns-3 c = (search (puts-as, none-named), search needs)
 

@@ -7,19 +7,15 @@ use Rattle.record.proofs.describe.put_pair.Lts as lts
 use Rattle.record.proofs.describe.put_kind.Reads as put-kind-reads
 use Rattle.record.proofs.writer.put_text.Reads as put-text-reads
 
--- src/describe.rt:131:9
 put-kind-requires : tie.Need-put-kind-requires
 put-kind-requires c κs = search needs
 
--- src/describe.rt:132:5
 put-text-requires : tie.Need-put-text-requires
 put-text-requires c κs = search needs
 
--- src/describe.rt:128:1
 same-length : tie.Need-same-length
 same-length c = search needs
 
--- src/describe.rt:128:1
 returns : tie.Need-returns
 returns c = (search put-named, search needs)
 

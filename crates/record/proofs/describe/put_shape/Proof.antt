@@ -14,95 +14,72 @@ use Rattle.record.proofs.operands.text_at.Reads as text-at-reads
 use Rattle.record.proofs.sizes.or_else.Reads as or-else-reads
 use Rattle.record.proofs.text.bytes_of.Reads as bytes-of-reads
 
--- src/describe.rt:181:9
 text-at-requires : tie.Need-text-at-requires
 text-at-requires c κs = search needs
 
--- src/describe.rt:182:19
 bytes-of-requires : tie.Need-bytes-of-requires
 bytes-of-requires c κs = search needs
 
--- src/describe.rt:182:11
 kind-of-requires : tie.Need-kind-of-requires
 kind-of-requires c κs = search needs
 
--- src/describe.rt:184:17
 enum-told : tie.Need-enum-told
 enum-told c = search needs
 
--- src/describe.rt:184:17
 opt-text-at-requires : tie.Need-opt-text-at-requires
 opt-text-at-requires c κs = search needs
 
--- src/describe.rt:185:33
 opt-number-at-requires : tie.Need-opt-number-at-requires
 opt-number-at-requires c κs = search needs
 
--- src/describe.rt:185:17
 or-else-requires : tie.Need-or-else-requires
 or-else-requires c κs = search needs
 
--- src/describe.rt:186:13
 put-array-requires : tie.Need-put-array-requires
 put-array-requires c κs = search needs
 
--- src/describe.rt:189:17
 enum-told-2 : tie.Need-enum-told-2
 enum-told-2 c = search needs
 
--- src/describe.rt:189:17
 opt-text-at-requires-2 : tie.Need-opt-text-at-requires-2
 opt-text-at-requires-2 c κs = search needs
 
--- src/describe.rt:190:32
 opt-number-at-requires-2 : tie.Need-opt-number-at-requires-2
 opt-number-at-requires-2 c κs = search needs
 
--- src/describe.rt:190:17
 or-else-requires-2 : tie.Need-or-else-requires-2
 or-else-requires-2 c κs = search needs
 
--- src/describe.rt:191:32
 opt-number-at-requires-3 : tie.Need-opt-number-at-requires-3
 opt-number-at-requires-3 c κs = search needs
 
--- src/describe.rt:191:17
 or-else-requires-3 : tie.Need-or-else-requires-3
 or-else-requires-3 c κs = search needs
 
--- src/describe.rt:192:17
 put-array-requires-2 : tie.Need-put-array-requires-2
 put-array-requires-2 c κs = search needs
 
--- src/describe.rt:193:13
 put-times-requires : tie.Need-put-times-requires
 put-times-requires c κs = search needs
 
--- src/describe.rt:195:14
 put-named-requires : tie.Need-put-named-requires
 put-named-requires c κs = search needs
 
--- src/describe.rt:178:1
 same-length : tie.Need-same-length
 same-length c = search needs
 
--- src/describe.rt:178:1
 returns : tie.Need-returns
 returns c = (search shape-array, search needs)
 
--- src/describe.rt:178:1
 same-length-2 : tie.Need-same-length-2
 same-length-2 c = search needs
 
--- src/describe.rt:178:1
 returns-2 : tie.Need-returns-2
 returns-2 c = (search shape-array2d, search needs)
 
--- src/describe.rt:178:1
 same-length-3 : tie.Need-same-length-3
 same-length-3 c = search needs
 
--- src/describe.rt:178:1
 returns-3 : tie.Need-returns-3
 returns-3 c = (search shape-named, search needs)
 

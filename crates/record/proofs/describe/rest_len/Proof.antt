@@ -12,99 +12,75 @@ use Rattle.record.proofs.operands.opt_number_at.Reads as opt-number-at-
 use Rattle.record.proofs.operands.opt_text_at.Reads as opt-text-at-reads
 use Rattle.record.proofs.sizes.or_else.Reads as or-else-reads
 
--- src/describe.rt:192:45
 enum-told : tie.Need-enum-told
 enum-told c = search needs
 
--- src/describe.rt:192:45
 opt-text-at-requires : tie.Need-opt-text-at-requires
 opt-text-at-requires c κs = search needs
 
--- src/describe.rt:192:17
 element-len-requires : tie.Need-element-len-requires
 element-len-requires c κs = search needs
 
--- src/describe.rt:193:43
 opt-number-at-requires : tie.Need-opt-number-at-requires
 opt-number-at-requires c κs = search needs
 
--- src/describe.rt:193:35
 or-else-requires : tie.Need-or-else-requires
 or-else-requires c κs = search needs
 
--- src/describe.rt:193:17
 times-len-requires : tie.Need-times-len-requires
 times-len-requires c κs = search needs
 
--- src/describe.rt:194:13
 add-result : tie.Need-add-result
 add-result c = search needs
 
--- src/describe.rt:194:13
 add-result-2 : tie.Need-add-result-2
 add-result-2 c = search needs
 
--- src/describe.rt:197:45
 enum-told-2 : tie.Need-enum-told-2
 enum-told-2 c = search needs
 
--- src/describe.rt:197:45
 opt-text-at-requires-2 : tie.Need-opt-text-at-requires-2
 opt-text-at-requires-2 c κs = search needs
 
--- src/describe.rt:197:17
 element-len-requires-2 : tie.Need-element-len-requires-2
 element-len-requires-2 c κs = search needs
 
--- src/describe.rt:198:42
 opt-number-at-requires-2 : tie.Need-opt-number-at-requires-2
 opt-number-at-requires-2 c κs = search needs
 
--- src/describe.rt:198:34
 or-else-requires-2 : tie.Need-or-else-requires-2
 or-else-requires-2 c κs = search needs
 
--- src/describe.rt:198:17
 times-len-requires-2 : tie.Need-times-len-requires-2
 times-len-requires-2 c κs = search needs
 
--- src/describe.rt:199:42
 opt-number-at-requires-3 : tie.Need-opt-number-at-requires-3
 opt-number-at-requires-3 c κs = search needs
 
--- src/describe.rt:199:34
 or-else-requires-3 : tie.Need-or-else-requires-3
 or-else-requires-3 c κs = search needs
 
--- src/describe.rt:199:17
 times-len-requires-3 : tie.Need-times-len-requires-3
 times-len-requires-3 c κs = search needs
 
--- src/describe.rt:200:13
 add-result-3 : tie.Need-add-result-3
 add-result-3 c = search needs
 
--- src/describe.rt:200:13
 add-result-4 : tie.Need-add-result-4
 add-result-4 c = search needs
 
--- src/describe.rt:200:13
 add-result-5 : tie.Need-add-result-5
 add-result-5 c = search needs
 
--- src/describe.rt:202:14
 named-len-requires : tie.Need-named-len-requires
 named-len-requires c κs = search needs
 
--- src/describe.rt:187:1
 returns : tie.Need-returns
 returns c = (search array-long, omega arith)
 
--- src/describe.rt:187:1
 returns-2 : tie.Need-returns-2
 returns-2 c = (search array2d-long, omega arith)
 
--- src/describe.rt:187:1
 returns-3 : tie.Need-returns-3
 returns-3 c = (search named-long, omega arith)
 

@@ -12,83 +12,63 @@ use Rattle.record.proofs.operands.text_at.Reads as text-at-reads
 use Rattle.record.proofs.sizes.or_else.Reads as or-else-reads
 use Rattle.record.proofs.text.bytes_of.Reads as bytes-of-reads
 
--- src/describe.rt:65:9
 text-at-requires : tie.Need-text-at-requires
 text-at-requires c κs = search needs
 
--- src/describe.rt:66:19
 bytes-of-requires : tie.Need-bytes-of-requires
 bytes-of-requires c κs = search needs
 
--- src/describe.rt:66:11
 kind-of-requires : tie.Need-kind-of-requires
 kind-of-requires c κs = search needs
 
--- src/describe.rt:68:17
 enum-told : tie.Need-enum-told
 enum-told c = search needs
 
--- src/describe.rt:68:17
 opt-text-at-requires : tie.Need-opt-text-at-requires
 opt-text-at-requires c κs = search needs
 
--- src/describe.rt:69:33
 opt-number-at-requires : tie.Need-opt-number-at-requires
 opt-number-at-requires c κs = search needs
 
--- src/describe.rt:69:17
 or-else-requires : tie.Need-or-else-requires
 or-else-requires c κs = search needs
 
--- src/describe.rt:76:17
 enum-told-2 : tie.Need-enum-told-2
 enum-told-2 c = search needs
 
--- src/describe.rt:76:17
 opt-text-at-requires-2 : tie.Need-opt-text-at-requires-2
 opt-text-at-requires-2 c κs = search needs
 
--- src/describe.rt:77:32
 opt-number-at-requires-2 : tie.Need-opt-number-at-requires-2
 opt-number-at-requires-2 c κs = search needs
 
--- src/describe.rt:77:17
 or-else-requires-2 : tie.Need-or-else-requires-2
 or-else-requires-2 c κs = search needs
 
--- src/describe.rt:78:32
 opt-number-at-requires-3 : tie.Need-opt-number-at-requires-3
 opt-number-at-requires-3 c κs = search needs
 
--- src/describe.rt:78:17
 or-else-requires-3 : tie.Need-or-else-requires-3
 or-else-requires-3 c κs = search needs
 
--- src/describe.rt:86:28
 enum-told-3 : tie.Need-enum-told-3
 enum-told-3 c = search needs
 
--- src/describe.rt:86:28
 named-at-requires : tie.Need-named-at-requires
 named-at-requires c κs = search needs
 
--- src/describe.rt:92:28
 named-at-requires-2 : tie.Need-named-at-requires-2
 named-at-requires-2 c κs = search needs
 
--- src/describe.rt:62:1
 returns : tie.Need-returns
 returns c = search shape-laws
 
--- src/describe.rt:62:1
 returns-2 : tie.Need-returns-2
 returns-2 c = search shape-laws
 
--- src/describe.rt:62:1
 returns-3 : tie.Need-returns-3
 returns-3 c = search shape-laws
 
--- src/describe.rt:62:1
 returns-4 : tie.Need-returns-4
 returns-4 c = search shape-laws
 

@@ -11,27 +11,21 @@ use Rattle.record.proofs.kind.kind_of.Reads as kind-of-reads
 use Rattle.record.proofs.operands.text_at.Reads as text-at-reads
 use Rattle.record.proofs.text.bytes_of.Reads as bytes-of-reads
 
--- src/describe.rt:210:31
 text-at-requires : tie.Need-text-at-requires
 text-at-requires c κs = search needs
 
--- src/describe.rt:210:9
 bytes-of-requires : tie.Need-bytes-of-requires
 bytes-of-requires c κs = search needs
 
--- src/describe.rt:211:36
 kind-of-requires : tie.Need-kind-of-requires
 kind-of-requires c κs = search needs
 
--- src/describe.rt:211:18
 rest-len-requires : tie.Need-rest-len-requires
 rest-len-requires c κs = search needs
 
--- src/describe.rt:211:5
 add-result : tie.Need-add-result
 add-result c = omega (arith, text-short)
 
--- src/describe.rt:207:1
 returns : tie.Need-returns
 returns c = (search shape-long, omega (arith, text-short))
 

@@ -7,15 +7,12 @@ use Rattle.record.proofs.describe.times_len.Reads as reads
 use Rattle.record.proofs.describe.times_len.Lts as lts
 use Rattle.record.proofs.writer.number_len.Reads as number-len-reads
 
--- src/describe.rt:170:9
 number-len-requires : tie.Need-number-len-requires
 number-len-requires c κs = search needs
 
--- src/describe.rt:170:5
 add-result : tie.Need-add-result
 add-result c = search needs
 
--- src/describe.rt:167:1
 returns : tie.Need-returns
 returns c = (search times-long, omega arith)
 

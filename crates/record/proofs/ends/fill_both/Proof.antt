@@ -20,47 +20,36 @@ Inv-loop stream pool index₀ ends₀ at₀ index ends at = Noting stream pool i
 abbrev μ-loop : tie.MeasureT-loop
 μ-loop stream pool index₀ ends₀ at₀ index ends at = length stream - at
 
--- src/ends.rt:73:5
 clear-requires : tie.Need-clear-requires Inv-loop μ-loop
 clear-requires c κs = search needs
 
--- src/ends.rt:74:9
 no-ends-requires : tie.Need-no-ends-requires Inv-loop μ-loop
 no-ends-requires c κs = search needs
 
--- src/ends.rt:76:5
 loop-holds : tie.Need-loop-holds Inv-loop μ-loop
 loop-holds c = search noting-laws
 
--- src/ends.rt:77:13
 after-at-requires : tie.Need-after-at-requires Inv-loop μ-loop
 after-at-requires c κs = search needs
 
--- src/ends.rt:79:13
 same-length : tie.Need-same-length Inv-loop μ-loop
 same-length c = search needs
 
--- src/ends.rt:79:13
 returns : tie.Need-returns Inv-loop μ-loop
 returns c = search noting-laws
 
--- src/ends.rt:81:9
 put-declared-requires : tie.Need-put-declared-requires Inv-loop μ-loop
 put-declared-requires c κs = (search noting-place, search noting-entry)
 
--- src/ends.rt:82:28
 byte-at-requires : tie.Need-byte-at-requires Inv-loop μ-loop
 byte-at-requires c κs = search needs
 
--- src/ends.rt:82:9
 noted-requires : tie.Need-noted-requires Inv-loop μ-loop
 noted-requires c κs = search needs
 
--- src/ends.rt:76:5
 loop-less : tie.Need-loop-less Inv-loop μ-loop
 loop-less c = search after-nearer
 
--- src/ends.rt:76:5
 loop-again : tie.Need-loop-again Inv-loop μ-loop
 loop-again c =
     noting-on _ _ _ _ _ _ _ (c .before .before .before .before .before .before .before .before .loop .inv) (c .before .before .before .before .before .before .before .after-at .ensures) (search needs) (search needs) _

@@ -7,35 +7,27 @@ use Rattle.record.proofs.ends.index_with_ends.Lts as lts
 use Rattle.record.proofs.ends.fill_both.Reads as fill-both-reads
 use Rattle.record.proofs.ends.no_ends.Reads as no-ends-reads
 
--- src/ends.rt:92:9
 no-ends-requires : tie.Need-no-ends-requires
 no-ends-requires c κs = search needs
 
--- src/ends.rt:92:9
 returns : tie.Need-returns
 returns c = λ h r. absurd (omega (arith, c .before .if1 .taken))
 
--- src/ends.rt:94:23
 add-if2 : tie.Need-add-if2
 add-if2 c = search needs
 
--- src/ends.rt:95:9
 no-ends-requires-2 : tie.Need-no-ends-requires-2
 no-ends-requires-2 c κs = search needs
 
--- src/ends.rt:95:9
 returns-2 : tie.Need-returns-2
 returns-2 c = λ h r. absurd (omega (arith, c .before .if2 .taken))
 
--- src/ends.rt:97:5
 fill-both-requires : tie.Need-fill-both-requires
 fill-both-requires c κs = search needs
 
--- src/ends.rt:88:1
 same-length : tie.Need-same-length
 same-length c = search needs
 
--- src/ends.rt:88:1
 returns-3 : tie.Need-returns-3
 returns-3 c = search needs
 

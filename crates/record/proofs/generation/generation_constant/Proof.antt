@@ -9,35 +9,27 @@ use Rattle.record.proofs.generation.held_by.Reads as held-by-reads
 use Rattle.record.proofs.index.find_declared.Reads as find-declared-reads
 use Rattle.record.proofs.operands.opt_text_at.Reads as opt-text-at-reads
 
--- src/generation.rt:43:32
 find-declared-requires : tie.Need-find-declared-requires
 find-declared-requires c κs = search needs
 
--- src/generation.rt:43:20
 enum-known-place : tie.Need-enum-known-place
 enum-known-place c = search needs
 
--- src/generation.rt:44:9
 enum-told : tie.Need-enum-told
 enum-told c = search needs
 
--- src/generation.rt:44:9
 returns : tie.Need-returns
 returns c = search generation-laws
 
--- src/generation.rt:46:46
 from-requires : tie.Need-from-requires
 from-requires c κs = search needs
 
--- src/generation.rt:46:34
 opt-text-at-requires : tie.Need-opt-text-at-requires
 opt-text-at-requires c κs = search needs
 
--- src/generation.rt:46:5
 held-by-requires : tie.Need-held-by-requires
 held-by-requires c κs = search needs
 
--- src/generation.rt:40:1
 returns-2 : tie.Need-returns-2
 returns-2 c = search generation-laws
 

@@ -14,35 +14,27 @@ Inv-loop index₀ i₀ index i = HeadlessTo index₀ index i
 abbrev μ-loop : tie.MeasureT-loop
 μ-loop index₀ i₀ index i = 256 - i
 
--- src/index.rt:103:5
 loop-holds : tie.Need-loop-holds Inv-loop μ-loop
 loop-holds c = search headless-laws
 
--- src/index.rt:104:9
 mul-index : tie.Need-mul-index Inv-loop μ-loop
 mul-index c = search needs
 
--- src/index.rt:104:9
 slice-write-index : tie.Need-slice-write-index Inv-loop μ-loop
 slice-write-index c = search (headless-length, needs)
 
--- src/index.rt:105:9
 add-i : tie.Need-add-i Inv-loop μ-loop
 add-i c = search needs
 
--- src/index.rt:103:5
 loop-less : tie.Need-loop-less Inv-loop μ-loop
 loop-less c = search needs
 
--- src/index.rt:103:5
 loop-again : tie.Need-loop-again Inv-loop μ-loop
 loop-again c = search headless-laws
 
--- src/index.rt:98:1
 same-length : tie.Need-same-length Inv-loop μ-loop
 same-length c = search needs
 
--- src/index.rt:98:1
 returns : tie.Need-returns Inv-loop μ-loop
 returns c = search headless-laws
 

@@ -7,19 +7,15 @@ use Rattle.record.proofs.index.counts.Lts as lts
 use Rattle.record.proofs.index.is_flagged.Reads as is-flagged-reads
 use Rattle.record.proofs.index.is_named.Reads as is-named-reads
 
--- src/index.rt:216:8
 is-named-requires : tie.Need-is-named-requires
 is-named-requires c κs = search needs
 
--- src/index.rt:217:9
 is-flagged-requires : tie.Need-is-flagged-requires
 is-flagged-requires c κs = search needs
 
--- src/index.rt:217:9
 returns : tie.Need-returns
 returns c = search counts-laws
 
--- src/index.rt:206:1
 returns-2 : tie.Need-returns-2
 returns-2 c = search counts-laws
 

@@ -5,31 +5,24 @@ use Rattle.record.proofs.index.declares.Tie as tie
 use Rattle.record.proofs.index.declares.Reads as reads
 use Rattle.record.proofs.index.declares.Lts as lts
 
--- src/index.rt:53:9
 returns : tie.Need-returns
 returns c = search declares-laws
 
--- src/index.rt:56:9
 returns-2 : tie.Need-returns-2
 returns-2 c = search declares-laws
 
--- src/index.rt:59:9
 returns-3 : tie.Need-returns-3
 returns-3 c = search declares-laws
 
--- src/index.rt:62:9
 returns-4 : tie.Need-returns-4
 returns-4 c = search declares-laws
 
--- src/index.rt:65:9
 returns-5 : tie.Need-returns-5
 returns-5 c = search declares-laws
 
--- src/index.rt:68:9
 returns-6 : tie.Need-returns-6
 returns-6 c = search declares-laws
 
--- src/index.rt:49:1
 returns-7 : tie.Need-returns-7
 returns-7 c = search declares-laws
 

@@ -6,27 +6,21 @@ use Rattle.record.proofs.index.fill_index.Reads as reads
 use Rattle.record.proofs.index.fill_index.Lts as lts
 use Rattle.record.proofs.index.fill_room.Reads as fill-room-reads
 
--- src/index.rt:148:9
 returns : tie.Need-returns
 returns c = λ h r. absurd (omega (arith, c .if1 .taken))
 
--- src/index.rt:150:23
 add-if2 : tie.Need-add-if2
 add-if2 c = search needs
 
--- src/index.rt:151:9
 returns-2 : tie.Need-returns-2
 returns-2 c = λ h r. absurd (omega (arith, c .if2 .taken))
 
--- src/index.rt:153:5
 fill-room-requires : tie.Need-fill-room-requires
 fill-room-requires c κs = search needs
 
--- src/index.rt:144:1
 same-length : tie.Need-same-length
 same-length c = search needs
 
--- src/index.rt:144:1
 returns-3 : tie.Need-returns-3
 returns-3 c = λ h r. c .before .before .fill-room .ensures
 

@@ -17,35 +17,27 @@ Inv-loop stream pool index₀ at₀ index at = Filling stream pool index₀ inde
 abbrev μ-loop : tie.MeasureT-loop
 μ-loop stream pool index₀ at₀ index at = length stream - at
 
--- src/index.rt:132:5
 clear-requires : tie.Need-clear-requires Inv-loop μ-loop
 clear-requires c κs = search needs
 
--- src/index.rt:134:5
 loop-holds : tie.Need-loop-holds Inv-loop μ-loop
 loop-holds c = search fill-start
 
--- src/index.rt:135:13
 after-at-requires : tie.Need-after-at-requires Inv-loop μ-loop
 after-at-requires c κs = search needs
 
--- src/index.rt:137:13
 same-length : tie.Need-same-length Inv-loop μ-loop
 same-length c = search needs
 
--- src/index.rt:137:13
 returns : tie.Need-returns Inv-loop μ-loop
 returns c = search fill-end
 
--- src/index.rt:139:9
 put-declared-requires : tie.Need-put-declared-requires Inv-loop μ-loop
 put-declared-requires c κs = (search fill-place, search fill-entry)
 
--- src/index.rt:134:5
 loop-less : tie.Need-loop-less Inv-loop μ-loop
 loop-less c = search after-nearer
 
--- src/index.rt:134:5
 loop-again : tie.Need-loop-again Inv-loop μ-loop
 loop-again c = search fill-on
 

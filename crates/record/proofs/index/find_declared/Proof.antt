@@ -7,23 +7,18 @@ use Rattle.record.proofs.index.find_declared.Lts as lts
 use Rattle.record.proofs.index.first_named.Reads as first-named-reads
 use Rattle.record.proofs.seek.after_at.Reads as after-at-reads
 
--- src/index.rt:171:9
 first-named-requires : tie.Need-first-named-requires
 first-named-requires c κs = search needs
 
--- src/index.rt:173:9
 returns : tie.Need-returns
 returns c = search declared-laws
 
--- src/index.rt:175:17
 sub-place : tie.Need-sub-place
 sub-place c = search needs
 
--- src/index.rt:176:23
 after-at-requires : tie.Need-after-at-requires
 after-at-requires c κs = search needs
 
--- src/index.rt:168:1
 returns-2 : tie.Need-returns-2
 returns-2 c = search declared-laws
 

@@ -7,23 +7,18 @@ use Rattle.record.proofs.index.find_last.Lts as lts
 use Rattle.record.proofs.index.last_named.Reads as last-named-reads
 use Rattle.record.proofs.seek.after_at.Reads as after-at-reads
 
--- src/index.rt:255:9
 last-named-requires : tie.Need-last-named-requires
 last-named-requires c κs = search needs
 
--- src/index.rt:257:9
 returns : tie.Need-returns
 returns c = search last-laws
 
--- src/index.rt:259:17
 sub-place : tie.Need-sub-place
 sub-place c = search needs
 
--- src/index.rt:260:23
 after-at-requires : tie.Need-after-at-requires
 after-at-requires c κs = search needs
 
--- src/index.rt:245:1
 returns-2 : tie.Need-returns-2
 returns-2 c = search last-laws
 

@@ -15,51 +15,39 @@ Inv-loop stream pool index number name found₀ link₀ found link = Sighted str
 abbrev μ-loop : tie.MeasureT-loop
 μ-loop stream pool index number name found₀ link₀ found link = link
 
--- src/index.rt:156:35
 hash-of-requires : tie.Need-hash-of-requires Inv-loop μ-loop
 hash-of-requires c κs = search needs
 
--- src/index.rt:156:9
 link-at-requires : tie.Need-link-at-requires Inv-loop μ-loop
 link-at-requires c κs = search needs
 
--- src/index.rt:157:5
 loop-holds : tie.Need-loop-holds Inv-loop μ-loop
 loop-holds c = search sighted-laws
 
--- src/index.rt:158:21
 sub-place : tie.Need-sub-place Inv-loop μ-loop
 sub-place c = search needs
 
--- src/index.rt:159:12
 is-named-requires : tie.Need-is-named-requires Inv-loop μ-loop
 is-named-requires c κs = search needs
 
--- src/index.rt:161:13
 link-before-requires : tie.Need-link-before-requires Inv-loop μ-loop
 link-before-requires c κs = search needs
 
--- src/index.rt:157:5
 loop-less : tie.Need-loop-less Inv-loop μ-loop
 loop-less c = search link-falls
 
--- src/index.rt:157:5
 loop-again : tie.Need-loop-again Inv-loop μ-loop
 loop-again c = search sighted-laws
 
--- src/index.rt:163:13
 link-before-requires-2 : tie.Need-link-before-requires-2 Inv-loop μ-loop
 link-before-requires-2 c κs = search needs
 
--- src/index.rt:157:5
 loop-less-2 : tie.Need-loop-less-2 Inv-loop μ-loop
 loop-less-2 c = search link-falls
 
--- src/index.rt:157:5
 loop-again-2 : tie.Need-loop-again-2 Inv-loop μ-loop
 loop-again-2 c = search sighted-laws
 
--- src/index.rt:152:1
 returns : tie.Need-returns Inv-loop μ-loop
 returns c = search sighted-laws
 

@@ -7,59 +7,45 @@ use Rattle.record.proofs.index.hash_of.Lts as lts
 use Rattle.record.proofs.index.mixed.Reads as mixed-reads
 use Rattle.record.proofs.index.size_at.Reads as size-at-reads
 
--- src/index.rt:40:17
 mul-front : tie.Need-mul-front
 mul-front c = search needs
 
--- src/index.rt:40:41
 size-at-requires : tie.Need-size-at-requires
 size-at-requires c κs = search needs
 
--- src/index.rt:40:35
 mul-front-2 : tie.Need-mul-front-2
 mul-front-2 c = search needs
 
--- src/index.rt:40:17
 add-front : tie.Need-add-front
 add-front c = search needs
 
--- src/index.rt:42:13
 size-at-requires-2 : tie.Need-size-at-requires-2
 size-at-requires-2 c κs = search needs
 
--- src/index.rt:43:13
 size-at-requires-3 : tie.Need-size-at-requires-3
 size-at-requires-3 c κs = search needs
 
--- src/index.rt:44:25
 mul-result : tie.Need-mul-result
 mul-result c = search needs
 
--- src/index.rt:44:17
 add-result : tie.Need-add-result
 add-result c = search needs
 
--- src/index.rt:44:39
 mul-result-2 : tie.Need-mul-result-2
 mul-result-2 c = search needs
 
--- src/index.rt:44:17
 add-result-2 : tie.Need-add-result-2
 add-result-2 c = search needs
 
--- src/index.rt:44:9
 returns : tie.Need-returns
 returns c = search hash-laws
 
--- src/index.rt:46:14
 mixed-requires : tie.Need-mixed-requires
 mixed-requires c κs = search needs
 
--- src/index.rt:46:6
 add-result-3 : tie.Need-add-result-3
 add-result-3 c = search needs
 
--- src/index.rt:36:1
 returns-2 : tie.Need-returns-2
 returns-2 c = search hash-laws
 

@@ -7,19 +7,15 @@ use Rattle.record.proofs.index.is_flagged.Lts as lts
 use Rattle.record.proofs.cut.from.Reads as from-reads
 use Rattle.record.proofs.operands.flag_at.Reads as flag-at-reads
 
--- src/index.rt:200:9
 returns : tie.Need-returns
 returns c = search flagged-laws
 
--- src/index.rt:202:13
 from-requires : tie.Need-from-requires
 from-requires c κs = search needs
 
--- src/index.rt:202:5
 flag-at-requires : tie.Need-flag-at-requires
 flag-at-requires c κs = search needs
 
--- src/index.rt:196:1
 returns-2 : tie.Need-returns-2
 returns-2 c = search flagged-laws
 

@@ -8,23 +8,18 @@ use Rattle.record.proofs.index.declared_name.Reads as declared-name-rea
 use Rattle.record.proofs.le.byte_at.Reads as byte-at-reads
 use Rattle.record.proofs.text.same.Reads as same-reads
 
--- src/index.rt:144:8
 byte-at-requires : tie.Need-byte-at-requires
 byte-at-requires c κs = search needs
 
--- src/index.rt:145:9
 returns : tie.Need-returns
 returns c = search is-named-laws
 
--- src/index.rt:147:10
 declared-name-requires : tie.Need-declared-name-requires
 declared-name-requires c κs = search needs
 
--- src/index.rt:147:5
 same-requires : tie.Need-same-requires
 same-requires c κs = search needs
 
--- src/index.rt:141:1
 returns-2 : tie.Need-returns-2
 returns-2 c = search is-named-laws
 

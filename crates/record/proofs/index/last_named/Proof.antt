@@ -15,43 +15,33 @@ Inv-loop stream pool index number flag name link₀ link = Looking stream pool i
 abbrev μ-loop : tie.MeasureT-loop
 μ-loop stream pool index number flag name link₀ link = link
 
--- src/index.rt:233:35
 hash-of-requires : tie.Need-hash-of-requires Inv-loop μ-loop
 hash-of-requires c κs = search needs
 
--- src/index.rt:233:9
 link-at-requires : tie.Need-link-at-requires Inv-loop μ-loop
 link-at-requires c κs = search needs
 
--- src/index.rt:234:5
 loop-holds : tie.Need-loop-holds Inv-loop μ-loop
 loop-holds c = search looking-laws
 
--- src/index.rt:235:21
 sub-place : tie.Need-sub-place Inv-loop μ-loop
 sub-place c = search needs
 
--- src/index.rt:236:12
 counts-requires : tie.Need-counts-requires Inv-loop μ-loop
 counts-requires c κs = search needs
 
--- src/index.rt:237:13
 returns : tie.Need-returns Inv-loop μ-loop
 returns c = search looking-laws
 
--- src/index.rt:239:9
 link-before-requires : tie.Need-link-before-requires Inv-loop μ-loop
 link-before-requires c κs = search needs
 
--- src/index.rt:234:5
 loop-less : tie.Need-loop-less Inv-loop μ-loop
 loop-less c = search link-falls
 
--- src/index.rt:234:5
 loop-again : tie.Need-loop-again Inv-loop μ-loop
 loop-again c = search looking-laws
 
--- src/index.rt:223:1
 returns-2 : tie.Need-returns-2 Inv-loop μ-loop
 returns-2 c = search looking-laws
 

@@ -6,23 +6,18 @@ use Rattle.record.proofs.index.link_at.Reads as reads
 use Rattle.record.proofs.index.link_at.Lts as lts
 use Rattle.record.proofs.index.wide.Reads as wide-reads
 
--- src/index.rt:81:9
 returns : tie.Need-returns
 returns c = search link-past
 
--- src/index.rt:83:10
 mul-wide : tie.Need-mul-wide
 mul-wide c = search needs
 
--- src/index.rt:83:10
 shared-slice-read-wide : tie.Need-shared-slice-read-wide
 shared-slice-read-wide c = search needs
 
--- src/index.rt:83:5
 wide-requires : tie.Need-wide-requires
 wide-requires c κs = search needs
 
--- src/index.rt:77:1
 returns-2 : tie.Need-returns-2
 returns-2 c = search needs
 

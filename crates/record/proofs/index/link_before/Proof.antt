@@ -6,19 +6,15 @@ use Rattle.record.proofs.index.link_before.Reads as reads
 use Rattle.record.proofs.index.link_before.Lts as lts
 use Rattle.record.proofs.index.link_at.Reads as link-at-reads
 
--- src/index.rt:90:31
 add-link-at : tie.Need-add-link-at
 add-link-at c = search needs
 
--- src/index.rt:90:9
 link-at-requires : tie.Need-link-at-requires
 link-at-requires c κs = search needs
 
--- src/index.rt:92:9
 returns : tie.Need-returns
 returns c = search link-laws
 
--- src/index.rt:87:1
 returns-2 : tie.Need-returns-2
 returns-2 c = search link-laws
 

@@ -6,19 +6,15 @@ use Rattle.record.proofs.index.mixed.Reads as reads
 use Rattle.record.proofs.index.mixed.Lts as lts
 use Rattle.record.proofs.le.u32_at.Reads as u32-at-reads
 
--- src/index.rt:31:17
 u32-at-requires : tie.Need-u32-at-requires
 u32-at-requires c κs = search needs
 
--- src/index.rt:31:17
 cast-bytes : tie.Need-cast-bytes
 cast-bytes c = search needs
 
--- src/index.rt:32:5
 mul-result : tie.Need-mul-result
 mul-result c = search needs
 
--- src/index.rt:28:1
 returns : tie.Need-returns
 returns c = (search mixed-is, search needs)
 

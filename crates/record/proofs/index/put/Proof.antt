@@ -6,47 +6,36 @@ use Rattle.record.proofs.index.put.Tie as tie
 use Rattle.record.proofs.index.put.Reads as reads
 use Rattle.record.proofs.index.put.Lts as lts
 
--- src/index.rt:114:30
 mul-index : tie.Need-mul-index
 mul-index c = search needs
 
--- src/index.rt:114:30
 slice-read-index : tie.Need-slice-read-index
 slice-read-index c = search needs
 
--- src/index.rt:114:11
 add-index : tie.Need-add-index
 add-index c = search needs
 
--- src/index.rt:114:5
 mul-index-2 : tie.Need-mul-index-2
 mul-index-2 c = search needs
 
--- src/index.rt:114:5
 slice-write-index : tie.Need-slice-write-index
 slice-write-index c = search needs
 
--- src/index.rt:115:20
 add-index-2 : tie.Need-add-index-2
 add-index-2 c = search needs
 
--- src/index.rt:115:19
 cast-index : tie.Need-cast-index
 cast-index c = search needs
 
--- src/index.rt:115:5
 mul-index-3 : tie.Need-mul-index-3
 mul-index-3 c = search needs
 
--- src/index.rt:115:5
 slice-write-index-2 : tie.Need-slice-write-index-2
 slice-write-index-2 c = simp length-set (omega arith)
 
--- src/index.rt:110:1
 same-length : tie.Need-same-length
 same-length c = search needs
 
--- src/index.rt:110:1
 returns : tie.Need-returns
 returns c = search needs
 

@@ -10,35 +10,27 @@ use Rattle.record.proofs.index.hash_of.Reads as hash-of-reads
 use Rattle.record.proofs.index.put.Reads as put-reads
 use Rattle.record.proofs.le.byte_at.Reads as byte-at-reads
 
--- src/index.rt:121:17
 byte-at-requires : tie.Need-byte-at-requires
 byte-at-requires c κs = search needs
 
--- src/index.rt:121:8
 declares-requires : tie.Need-declares-requires
 declares-requires c κs = search needs
 
--- src/index.rt:122:28
 declared-name-requires : tie.Need-declared-name-requires
 declared-name-requires c κs = search needs
 
--- src/index.rt:122:13
 hash-of-requires : tie.Need-hash-of-requires
 hash-of-requires c κs = search needs
 
--- src/index.rt:123:9
 put-requires : tie.Need-put-requires
 put-requires c κs = (search hash-small, search needs, search needs)
 
--- src/index.rt:117:1
 same-length : tie.Need-same-length
 same-length c = search needs
 
--- src/index.rt:117:1
 returns : tie.Need-returns
 returns c = search put-laws
 
--- src/index.rt:117:1
 returns-2 : tie.Need-returns-2
 returns-2 c = search put-laws
 

@@ -17,43 +17,33 @@ Inv-loop stream pool number name at₀ at = Scanned stream pool name number at
 abbrev μ-loop : tie.MeasureT-loop
 μ-loop stream pool number name at₀ at = length stream - at
 
--- src/index.rt:210:5
 loop-holds : tie.Need-loop-holds Inv-loop μ-loop
 loop-holds c = search scanned-start
 
--- src/index.rt:211:40
 seek-requires : tie.Need-seek-requires Inv-loop μ-loop
 seek-requires c κs = search needs
 
--- src/index.rt:211:24
 enum-known-place : tie.Need-enum-known-place Inv-loop μ-loop
 enum-known-place c = search needs
 
--- src/index.rt:212:13
 enum-told : tie.Need-enum-told Inv-loop μ-loop
 enum-told c = search needs
 
--- src/index.rt:212:13
 returns : tie.Need-returns Inv-loop μ-loop
 returns c = search scanned-laws
 
--- src/index.rt:214:17
 declared-name-requires : tie.Need-declared-name-requires Inv-loop μ-loop
 declared-name-requires c κs = search needs
 
--- src/index.rt:214:12
 same-requires : tie.Need-same-requires Inv-loop μ-loop
 same-requires c κs = search needs
 
--- src/index.rt:215:13
 returns-2 : tie.Need-returns-2 Inv-loop μ-loop
 returns-2 c = search scanned-laws
 
--- src/index.rt:210:5
 loop-less : tie.Need-loop-less Inv-loop μ-loop
 loop-less c = search sought-nearer
 
--- src/index.rt:210:5
 loop-again : tie.Need-loop-again Inv-loop μ-loop
 loop-again c = search scanned-laws
 

@@ -9,48 +9,38 @@ use Rattle.record.proofs.judge.constant_faults.Lts as lts
 use Rattle.record.proofs.judge.operand_fault.Reads as operand-fault-reads
 use Rattle.record.proofs.judge.worse.Reads as worse-reads
 
--- src/judge.rt:133:9
 operand-fault-requires : tie.Need-operand-fault-requires
 unfolding wide
 operand-fault-requires c κs = search needs
 
--- src/judge.rt:135:13
 operand-fault-requires-2 : tie.Need-operand-fault-requires-2
 unfolding wide
 operand-fault-requires-2 c κs = search needs
 
--- src/judge.rt:137:17
 operand-fault-requires-3 : tie.Need-operand-fault-requires-3
 unfolding wide
 operand-fault-requires-3 c κs = search needs
 
--- src/judge.rt:139:21
 operand-fault-requires-4 : tie.Need-operand-fault-requires-4
 unfolding wide
 operand-fault-requires-4 c κs = search needs
 
--- src/judge.rt:140:21
 operand-fault-requires-5 : tie.Need-operand-fault-requires-5
 unfolding wide
 operand-fault-requires-5 c κs = search needs
 
--- src/judge.rt:138:17
 worse-requires : tie.Need-worse-requires
 worse-requires c κs = search needs
 
--- src/judge.rt:136:13
 worse-requires-2 : tie.Need-worse-requires-2
 worse-requires-2 c κs = search needs
 
--- src/judge.rt:134:9
 worse-requires-3 : tie.Need-worse-requires-3
 worse-requires-3 c κs = search needs
 
--- src/judge.rt:132:5
 worse-requires-4 : tie.Need-worse-requires-4
 worse-requires-4 c κs = search needs
 
--- src/judge.rt:129:1
 returns : tie.Need-returns
 unfolding bytes wide
 returns c = operand-then _ _ _ _ _ _ _ _ _ (c .before .before .before .before .before .before .before .before .operand-fault .ensures) (operand-then _ _ _ _ _ _ _ _ _ (c .before .before .before .before .before .before .before .operand-fault2 .ensures) (skip-eight _ _ _ _ _ _ (operand-then _ _ _ _ _ _ _ _ _ (c .before .before .before .before .before .before .operand-fault3 .ensures) (operand-then _ _ _ _ _ _ _ _ _ (c .before .before .before .before .before .operand-fault4 .ensures) (operand-alone _ _ _ _ _ _ (c .before .before .before .before .operand-fault5 .ensures)) (c .before .before .before .worse .ensures)) (c .before .before .worse2 .ensures))) (c .before .worse3 .ensures)) (c .worse4 .ensures)

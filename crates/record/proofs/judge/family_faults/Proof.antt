@@ -9,57 +9,45 @@ use Rattle.record.proofs.judge.family_faults.Lts as lts
 use Rattle.record.proofs.judge.operand_fault.Reads as operand-fault-reads
 use Rattle.record.proofs.judge.worse.Reads as worse-reads
 
--- src/judge.rt:214:9
 operand-fault-requires : tie.Need-operand-fault-requires
 unfolding wide
 operand-fault-requires c κs = search needs
 
--- src/judge.rt:216:13
 operand-fault-requires-2 : tie.Need-operand-fault-requires-2
 unfolding wide
 operand-fault-requires-2 c κs = search needs
 
--- src/judge.rt:218:17
 operand-fault-requires-3 : tie.Need-operand-fault-requires-3
 unfolding wide
 operand-fault-requires-3 c κs = search needs
 
--- src/judge.rt:220:21
 operand-fault-requires-4 : tie.Need-operand-fault-requires-4
 unfolding wide
 operand-fault-requires-4 c κs = search needs
 
--- src/judge.rt:222:25
 operand-fault-requires-5 : tie.Need-operand-fault-requires-5
 unfolding wide
 operand-fault-requires-5 c κs = search needs
 
--- src/judge.rt:223:25
 operand-fault-requires-6 : tie.Need-operand-fault-requires-6
 unfolding wide
 operand-fault-requires-6 c κs = search needs
 
--- src/judge.rt:221:21
 worse-requires : tie.Need-worse-requires
 worse-requires c κs = search needs
 
--- src/judge.rt:219:17
 worse-requires-2 : tie.Need-worse-requires-2
 worse-requires-2 c κs = search needs
 
--- src/judge.rt:217:13
 worse-requires-3 : tie.Need-worse-requires-3
 worse-requires-3 c κs = search needs
 
--- src/judge.rt:215:9
 worse-requires-4 : tie.Need-worse-requires-4
 worse-requires-4 c κs = search needs
 
--- src/judge.rt:213:5
 worse-requires-5 : tie.Need-worse-requires-5
 worse-requires-5 c κs = search needs
 
--- src/judge.rt:210:1
 returns : tie.Need-returns
 unfolding bytes wide
 returns c = operand-then _ _ _ _ _ _ _ _ _ (c .before .before .before .before .before .before .before .before .before .before .operand-fault .ensures) (operand-then _ _ _ _ _ _ _ _ _ (c .before .before .before .before .before .before .before .before .before .operand-fault2 .ensures) (operand-then _ _ _ _ _ _ _ _ _ (c .before .before .before .before .before .before .before .before .operand-fault3 .ensures) (operand-then _ _ _ _ _ _ _ _ _ (c .before .before .before .before .before .before .before .operand-fault4 .ensures) (operand-then _ _ _ _ _ _ _ _ _ (c .before .before .before .before .before .before .operand-fault5 .ensures) (operand-alone _ _ _ _ _ _ (c .before .before .before .before .before .operand-fault6 .ensures)) (c .before .before .before .before .worse .ensures)) (c .before .before .before .worse2 .ensures)) (c .before .before .worse3 .ensures)) (c .before .worse4 .ensures)) (c .worse5 .ensures)

@@ -10,47 +10,37 @@ use Rattle.record.proofs.judge.number_faults.Reads as number-faults-rea
 use Rattle.record.proofs.judge.operand_fault.Reads as operand-fault-reads
 use Rattle.record.proofs.judge.worse.Reads as worse-reads
 
--- src/judge.rt:251:9
 operand-fault-requires : tie.Need-operand-fault-requires
 unfolding wide
 operand-fault-requires c κs = search needs
 
--- src/judge.rt:253:13
 operand-fault-requires-2 : tie.Need-operand-fault-requires-2
 unfolding wide
 operand-fault-requires-2 c κs = search needs
 
--- src/judge.rt:255:17
 operand-fault-requires-3 : tie.Need-operand-fault-requires-3
 unfolding wide
 operand-fault-requires-3 c κs = search needs
 
--- src/judge.rt:257:21
 operand-fault-requires-4 : tie.Need-operand-fault-requires-4
 unfolding wide
 operand-fault-requires-4 c κs = search needs
 
--- src/judge.rt:258:21
 number-faults-requires : tie.Need-number-faults-requires
 number-faults-requires c κs = search needs
 
--- src/judge.rt:256:17
 worse-requires : tie.Need-worse-requires
 worse-requires c κs = search needs
 
--- src/judge.rt:254:13
 worse-requires-2 : tie.Need-worse-requires-2
 worse-requires-2 c κs = search needs
 
--- src/judge.rt:252:9
 worse-requires-3 : tie.Need-worse-requires-3
 worse-requires-3 c κs = search needs
 
--- src/judge.rt:250:5
 worse-requires-4 : tie.Need-worse-requires-4
 worse-requires-4 c κs = search needs
 
--- src/judge.rt:247:1
 returns : tie.Need-returns
 unfolding bytes wide
 returns c = operand-then _ _ _ _ _ _ _ _ _ (c .before .before .before .before .before .before .before .before .operand-fault .ensures) (operand-then _ _ _ _ _ _ _ _ _ (c .before .before .before .before .before .before .before .operand-fault2 .ensures) (operand-then _ _ _ _ _ _ _ _ _ (c .before .before .before .before .before .before .operand-fault3 .ensures) (operand-then _ _ _ _ _ _ _ _ _ (c .before .before .before .before .before .operand-fault4 .ensures) (c .before .before .before .before .number-faults .ensures) (c .before .before .before .worse .ensures)) (c .before .before .worse2 .ensures)) (c .before .worse3 .ensures)) (c .worse4 .ensures)

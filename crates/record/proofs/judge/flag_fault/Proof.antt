@@ -4,11 +4,9 @@ use Rattle.record.proofs.judge.flag_fault.Tie as tie
 use Rattle.record.proofs.judge.flag_fault.Reads as reads
 use Rattle.record.proofs.judge.flag_fault.Lts as lts
 
--- src/judge.rt:90:1
 returns : tie.Need-returns
 returns c = search flag-laws
 
--- src/judge.rt:90:1
 returns-2 : tie.Need-returns-2
 returns-2 c = search flag-laws
 

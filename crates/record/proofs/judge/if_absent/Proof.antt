@@ -6,39 +6,30 @@ use Rattle.record.proofs.judge.if_absent.Reads as reads
 use Rattle.record.proofs.judge.if_absent.Lts as lts
 use Rattle.record.proofs.operands.flag_at.Reads as flag-at-reads
 
--- src/judge.rt:60:30
 enum-told : tie.Need-enum-told
 enum-told c = search needs
 
--- src/judge.rt:61:31
 enum-told-2 : tie.Need-enum-told-2
 enum-told-2 c = search needs
 
--- src/judge.rt:64:16
 flag-at-requires : tie.Need-flag-at-requires
 flag-at-requires c κs = search needs
 
--- src/judge.rt:54:1
 returns : tie.Need-returns
 returns c = search absent-laws
 
--- src/judge.rt:54:1
 returns-2 : tie.Need-returns-2
 returns-2 c = search absent-laws
 
--- src/judge.rt:54:1
 returns-3 : tie.Need-returns-3
 returns-3 c = search absent-laws
 
--- src/judge.rt:54:1
 returns-4 : tie.Need-returns-4
 returns-4 c = search absent-laws
 
--- src/judge.rt:54:1
 returns-5 : tie.Need-returns-5
 returns-5 c = search absent-laws
 
--- src/judge.rt:54:1
 returns-6 : tie.Need-returns-6
 returns-6 c = search absent-laws
 

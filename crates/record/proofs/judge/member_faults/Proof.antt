@@ -9,30 +9,24 @@ use Rattle.record.proofs.judge.member_faults.Lts as lts
 use Rattle.record.proofs.judge.operand_fault.Reads as operand-fault-reads
 use Rattle.record.proofs.judge.worse.Reads as worse-reads
 
--- src/judge.rt:190:9
 operand-fault-requires : tie.Need-operand-fault-requires
 unfolding wide
 operand-fault-requires c κs = search needs
 
--- src/judge.rt:192:13
 operand-fault-requires-2 : tie.Need-operand-fault-requires-2
 unfolding wide
 operand-fault-requires-2 c κs = search needs
 
--- src/judge.rt:193:13
 operand-fault-requires-3 : tie.Need-operand-fault-requires-3
 unfolding wide
 operand-fault-requires-3 c κs = search needs
 
--- src/judge.rt:191:9
 worse-requires : tie.Need-worse-requires
 worse-requires c κs = search needs
 
--- src/judge.rt:189:5
 worse-requires-2 : tie.Need-worse-requires-2
 worse-requires-2 c κs = search needs
 
--- src/judge.rt:186:1
 returns : tie.Need-returns
 unfolding bytes wide
 returns c = operand-then _ _ _ _ _ _ _ _ _ (c .before .before .before .before .operand-fault .ensures) (skip-four _ _ _ _ _ _ (operand-then _ _ _ _ _ _ _ _ _ (c .before .before .before .operand-fault2 .ensures) (operand-alone _ _ _ _ _ _ (c .before .before .operand-fault3 .ensures)) (c .before .worse .ensures))) (c .worse2 .ensures)

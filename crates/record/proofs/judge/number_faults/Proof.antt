@@ -9,39 +9,31 @@ use Rattle.record.proofs.judge.number_faults.Lts as lts
 use Rattle.record.proofs.judge.operand_fault.Reads as operand-fault-reads
 use Rattle.record.proofs.judge.worse.Reads as worse-reads
 
--- src/judge.rt:236:9
 operand-fault-requires : tie.Need-operand-fault-requires
 unfolding wide
 operand-fault-requires c κs = search needs
 
--- src/judge.rt:238:13
 operand-fault-requires-2 : tie.Need-operand-fault-requires-2
 unfolding wide
 operand-fault-requires-2 c κs = search needs
 
--- src/judge.rt:240:17
 operand-fault-requires-3 : tie.Need-operand-fault-requires-3
 unfolding wide
 operand-fault-requires-3 c κs = search needs
 
--- src/judge.rt:241:17
 operand-fault-requires-4 : tie.Need-operand-fault-requires-4
 unfolding wide
 operand-fault-requires-4 c κs = search needs
 
--- src/judge.rt:239:13
 worse-requires : tie.Need-worse-requires
 worse-requires c κs = search needs
 
--- src/judge.rt:237:9
 worse-requires-2 : tie.Need-worse-requires-2
 worse-requires-2 c κs = search needs
 
--- src/judge.rt:235:5
 worse-requires-3 : tie.Need-worse-requires-3
 worse-requires-3 c κs = search needs
 
--- src/judge.rt:232:1
 returns : tie.Need-returns
 unfolding bytes wide
 returns c = operand-then _ _ _ _ _ _ _ _ _ (c .before .before .before .before .before .before .operand-fault .ensures) (operand-then _ _ _ _ _ _ _ _ _ (c .before .before .before .before .before .operand-fault2 .ensures) (operand-then _ _ _ _ _ _ _ _ _ (c .before .before .before .before .operand-fault3 .ensures) (operand-alone _ _ _ _ _ _ (c .before .before .before .operand-fault4 .ensures)) (c .before .before .worse .ensures)) (c .before .worse2 .ensures)) (c .worse3 .ensures)

@@ -10,55 +10,42 @@ use Rattle.record.proofs.judge.text_fault.Reads as text-fault-reads
 use Rattle.record.proofs.operands.opt_text.Reads as opt-text-reads
 use Rattle.record.proofs.operands.whole_text.Reads as whole-text-reads
 
--- src/judge.rt:112:28
 shared-slice-read-flag-fault : tie.Need-shared-slice-read-flag-fault
 shared-slice-read-flag-fault c = search flag-there
 
--- src/judge.rt:112:17
 flag-fault-requires : tie.Need-flag-fault-requires
 flag-fault-requires c κs = search needs
 
--- src/judge.rt:113:28
 shared-slice-read-flag-fault-2 : tie.Need-shared-slice-read-flag-fault-2
 shared-slice-read-flag-fault-2 c = search number-there
 
--- src/judge.rt:113:17
 flag-fault-requires-2 : tie.Need-flag-fault-requires-2
 flag-fault-requires-2 c κs = search needs
 
--- src/judge.rt:118:13
 if-absent-requires : tie.Need-if-absent-requires
 if-absent-requires c κs = search needs
 
--- src/judge.rt:119:22
 whole-text-requires : tie.Need-whole-text-requires
 whole-text-requires c κs = search text-there
 
--- src/judge.rt:119:13
 opt-text-requires : tie.Need-opt-text-requires
 opt-text-requires c κs = search needs
 
--- src/judge.rt:116:14
 text-fault-requires : tie.Need-text-fault-requires
 text-fault-requires c κs = search needs
 
--- src/judge.rt:107:1
 returns : tie.Need-returns
 returns c = search operand-fault-laws
 
--- src/judge.rt:107:1
 returns-2 : tie.Need-returns-2
 returns-2 c = search operand-fault-laws
 
--- src/judge.rt:107:1
 returns-3 : tie.Need-returns-3
 returns-3 c = search operand-fault-laws
 
--- src/judge.rt:107:1
 returns-4 : tie.Need-returns-4
 returns-4 c = search operand-fault-laws
 
--- src/judge.rt:107:1
 returns-5 : tie.Need-returns-5
 returns-5 c = search operand-fault-laws
 

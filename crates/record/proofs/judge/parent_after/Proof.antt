@@ -4,27 +4,21 @@ use Rattle.record.proofs.judge.parent_after.Tie as tie
 use Rattle.record.proofs.judge.parent_after.Reads as reads
 use Rattle.record.proofs.judge.parent_after.Lts as lts
 
--- src/judge.rt:139:1
 returns : tie.Need-returns
 returns c = search parent-laws
 
--- src/judge.rt:139:1
 returns-2 : tie.Need-returns-2
 returns-2 c = search parent-laws
 
--- src/judge.rt:139:1
 returns-3 : tie.Need-returns-3
 returns-3 c = search parent-laws
 
--- src/judge.rt:139:1
 returns-4 : tie.Need-returns-4
 returns-4 c = search parent-laws
 
--- src/judge.rt:139:1
 returns-5 : tie.Need-returns-5
 returns-5 c = search parent-laws
 
--- src/judge.rt:139:1
 returns-6 : tie.Need-returns-6
 returns-6 c = search parent-laws
 

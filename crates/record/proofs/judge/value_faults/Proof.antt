@@ -9,21 +9,17 @@ use Rattle.record.proofs.judge.value_faults.Lts as lts
 use Rattle.record.proofs.judge.operand_fault.Reads as operand-fault-reads
 use Rattle.record.proofs.judge.worse.Reads as worse-reads
 
--- src/judge.rt:172:9
 operand-fault-requires : tie.Need-operand-fault-requires
 unfolding wide
 operand-fault-requires c κs = search needs
 
--- src/judge.rt:173:9
 operand-fault-requires-2 : tie.Need-operand-fault-requires-2
 unfolding wide
 operand-fault-requires-2 c κs = search needs
 
--- src/judge.rt:171:5
 worse-requires : tie.Need-worse-requires
 worse-requires c κs = search needs
 
--- src/judge.rt:168:1
 returns : tie.Need-returns
 unfolding bytes wide
 returns c = operand-then _ _ _ _ _ _ _ _ _ (c .before .before .operand-fault .ensures) (skip-eight _ _ _ _ _ _ (operand-alone _ _ _ _ _ _ (c .before .operand-fault2 .ensures))) (c .worse .ensures)

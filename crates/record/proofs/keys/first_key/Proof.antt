@@ -6,11 +6,9 @@ use Rattle.record.proofs.keys.first_key.Reads as reads
 use Rattle.record.proofs.keys.first_key.Lts as lts
 use Rattle.record.proofs.keys.first_stored.Reads as first-stored-reads
 
--- src/keys.rt:50:20
 first-stored-requires : tie.Need-first-stored-requires
 first-stored-requires c κs = search needs
 
--- src/keys.rt:47:1
 returns : tie.Need-returns
 returns c = search keys-whole
 

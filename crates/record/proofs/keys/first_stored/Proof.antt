@@ -6,11 +6,9 @@ use Rattle.record.proofs.keys.first_stored.Reads as reads
 use Rattle.record.proofs.keys.first_stored.Lts as lts
 use Rattle.record.proofs.command.Cursor.new.Reads as new-reads
 
--- src/keys.rt:43:23
 new-requires : tie.Need-new-requires
 new-requires c κs = search needs
 
--- src/keys.rt:40:1
 returns : tie.Need-returns
 returns c = search stored-whole
 

@@ -17,54 +17,42 @@ Inv-loop stream at₀ at = Keyless stream at₀ at
 abbrev μ-loop : tie.MeasureT-loop
 μ-loop stream at₀ at = length stream - at
 
--- src/keys.rt:46:5
 loop-holds : tie.Need-loop-holds Inv-loop μ-loop
 loop-holds c = search keyless-here
 
--- src/keys.rt:47:36
 seek-requires : tie.Need-seek-requires Inv-loop μ-loop
 seek-requires c κs = search needs
 
--- src/keys.rt:47:27
 enum-known-after : tie.Need-enum-known-after Inv-loop μ-loop
 enum-known-after c = search needs
 
--- src/keys.rt:48:36
 enum-told : tie.Need-enum-told Inv-loop μ-loop
 enum-told c = search needs
 
--- src/keys.rt:48:36
 place-requires : tie.Need-place-requires Inv-loop μ-loop
 place-requires c κs = search needs
 
--- src/keys.rt:48:13
 returns : tie.Need-returns Inv-loop μ-loop
 returns c = search field-key-laws
 
--- src/keys.rt:50:13
 place-requires-2 : tie.Need-place-requires-2 Inv-loop μ-loop
 place-requires-2 c κs = search needs
 
--- src/keys.rt:51:38
 next-key-requires : tie.Need-next-key-requires Inv-loop μ-loop
 next-key-requires c κs = search needs
 
--- src/keys.rt:51:30
 enum-known-e : tie.Need-enum-known-e Inv-loop μ-loop
 enum-known-e c = search needs
 
--- src/keys.rt:52:13
 returns-2 : tie.Need-returns-2 Inv-loop μ-loop
 returns-2 c = search field-key-laws
 
 enum-told-2 : tie.Need-enum-told-2 Inv-loop μ-loop
 enum-told-2 c = search needs
 
--- src/keys.rt:46:5
 loop-less : tie.Need-loop-less Inv-loop μ-loop
 loop-less c = search sought-nearer
 
--- src/keys.rt:46:5
 loop-again : tie.Need-loop-again Inv-loop μ-loop
 loop-again c = search field-key-laws
 

@@ -16,47 +16,36 @@ Inv-loop stream cursor₀ cursor = Idle stream (Structs cursor₀) (Structs curs
 abbrev μ-loop : tie.MeasureT-loop
 μ-loop stream cursor₀ cursor = length stream - cursor .at
 
--- src/keys.rt:91:5
 loop-holds : tie.Need-loop-holds Inv-loop μ-loop
 loop-holds c = search idle-at
 
--- src/keys.rt:92:45
 next-struct-requires : tie.Need-next-struct-requires Inv-loop μ-loop
 next-struct-requires c κs = search needs
 
--- src/keys.rt:92:36
 enum-known-after : tie.Need-enum-known-after Inv-loop μ-loop
 enum-known-after c = search needs
 
--- src/keys.rt:93:13
 enum-told : tie.Need-enum-told Inv-loop μ-loop
 enum-told c = search needs
 
--- src/keys.rt:93:13
 returns : tie.Need-returns Inv-loop μ-loop
 returns c = search walk-laws
 
--- src/keys.rt:95:13
 next-in-fields-requires : tie.Need-next-in-fields-requires Inv-loop μ-loop
 next-in-fields-requires c κs = search needs
 
--- src/keys.rt:97:29
 enum-known-key : tie.Need-enum-known-key Inv-loop μ-loop
 enum-known-key c = search needs
 
--- src/keys.rt:98:17
 returns-2 : tie.Need-returns-2 Inv-loop μ-loop
 returns-2 c = search walk-laws
 
--- src/keys.rt:100:29
 enum-known-key-2 : tie.Need-enum-known-key-2 Inv-loop μ-loop
 enum-known-key-2 c = search needs
 
--- src/keys.rt:91:5
 loop-less : tie.Need-loop-less Inv-loop μ-loop
 loop-less c = search struct-nearer
 
--- src/keys.rt:91:5
 loop-again : tie.Need-loop-again Inv-loop μ-loop
 loop-again c = search walk-laws
 

@@ -8,47 +8,36 @@ use Rattle.record.proofs.command.Cursor.new.Reads as new-reads
 use Rattle.record.proofs.keys.next_stored_key.Reads as next-stored-key-reads
 use Rattle.record.proofs.keys.next_unstored_key.Reads as next-unstored-key-reads
 
--- src/keys.rt:128:24
 enum-known-at : tie.Need-enum-known-at
 enum-known-at c = search needs
 
--- src/keys.rt:129:48
 next-stored-key-requires : tie.Need-next-stored-key-requires
 next-stored-key-requires c κs = search needs
 
--- src/keys.rt:129:37
 enum-known-e : tie.Need-enum-known-e
 enum-known-e c = search needs
 
--- src/keys.rt:130:50
 enum-told : tie.Need-enum-told
 enum-told c = search needs
 
--- src/keys.rt:130:50
 new-requires : tie.Need-new-requires
 new-requires c κs = search needs
 
--- src/keys.rt:130:17
 next-unstored-key-requires : tie.Need-next-unstored-key-requires
 next-unstored-key-requires c κs = search needs
 
--- src/keys.rt:130:17
 returns : tie.Need-returns
 returns c = search all-key-laws
 
--- src/keys.rt:134:26
 enum-known-at-2 : tie.Need-enum-known-at-2
 enum-known-at-2 c = search needs
 
--- src/keys.rt:134:35
 next-unstored-key-requires-2 : tie.Need-next-unstored-key-requires-2
 next-unstored-key-requires-2 c κs = search needs
 
--- src/keys.rt:124:1
 returns-2 : tie.Need-returns-2
 returns-2 c = search all-key-laws
 
--- src/keys.rt:124:1
 returns-3 : tie.Need-returns-3
 returns-3 c = search all-key-laws
 

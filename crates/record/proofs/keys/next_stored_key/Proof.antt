@@ -7,43 +7,33 @@ use Rattle.record.proofs.keys.next_stored_key.Lts as lts
 use Rattle.record.proofs.keys.next_in_fields.Reads as next-in-fields-reads
 use Rattle.record.proofs.keys.next_in_structs.Reads as next-in-structs-reads
 
--- src/keys.rt:112:27
 enum-known-at : tie.Need-enum-known-at
 enum-known-at c = search needs
 
--- src/keys.rt:112:36
 next-in-structs-requires : tie.Need-next-in-structs-requires
 next-in-structs-requires c κs = search needs
 
--- src/keys.rt:113:26
 enum-known-at-2 : tie.Need-enum-known-at-2
 enum-known-at-2 c = search needs
 
--- src/keys.rt:114:17
 next-in-fields-requires : tie.Need-next-in-fields-requires
 next-in-fields-requires c κs = search needs
 
--- src/keys.rt:116:33
 enum-known-key : tie.Need-enum-known-key
 enum-known-key c = search needs
 
--- src/keys.rt:117:33
 enum-known-key-2 : tie.Need-enum-known-key-2
 enum-known-key-2 c = search needs
 
--- src/keys.rt:117:41
 next-in-structs-requires-2 : tie.Need-next-in-structs-requires-2
 next-in-structs-requires-2 c κs = search needs
 
--- src/keys.rt:108:1
 returns : tie.Need-returns
 returns c = search walk-laws
 
--- src/keys.rt:108:1
 returns-2 : tie.Need-returns-2
 returns-2 c = search walk-laws
 
--- src/keys.rt:108:1
 returns-3 : tie.Need-returns-3
 returns-3 c = search walk-laws
 

@@ -6,23 +6,18 @@ use Rattle.record.proofs.keys.next_unstored_key.Reads as reads
 use Rattle.record.proofs.keys.next_unstored_key.Lts as lts
 use Rattle.record.proofs.lists.next_unstored.Reads as next-unstored-reads
 
--- src/keys.rt:54:46
 next-unstored-requires : tie.Need-next-unstored-requires
 next-unstored-requires c κs = search needs
 
--- src/keys.rt:54:34
 enum-known-e : tie.Need-enum-known-e
 enum-known-e c = search needs
 
--- src/keys.rt:55:9
 enum-told : tie.Need-enum-told
 enum-told c = search needs
 
--- src/keys.rt:55:9
 returns : tie.Need-returns
 returns c = search unstored-key-laws
 
--- src/keys.rt:51:1
 returns-2 : tie.Need-returns-2
 returns-2 c = search unstored-key-laws
 

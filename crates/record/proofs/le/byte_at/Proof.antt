@@ -7,15 +7,12 @@ use Rattle.record.proofs.le.byte_at.Tie as tie
 use Rattle.record.proofs.le.byte_at.Reads as reads
 use Rattle.record.proofs.le.byte_at.Lts as lts
 
--- src/lib.rt:11:23
 shared-slice-read-result : tie.Need-shared-slice-read-result
 shared-slice-read-result c = search needs
 
--- src/lib.rt:8:1
 returns : tie.Need-returns
 returns c = search needs
 
--- src/lib.rt:8:1
 returns-2 : tie.Need-returns-2
 returns-2 c = sym (u8-past (now (c .before .args .s)) (c .before .args .at) (c .if1 .left))
 

@@ -8,40 +8,31 @@ use Rattle.record.proofs.le.u16_at.Reads as reads
 use Rattle.record.proofs.le.u16_at.Lts as lts
 use Rattle.record.proofs.le.byte_at.Reads as byte-at-reads
 
--- src/lib.rt:18:19
 byte-at-requires : tie.Need-byte-at-requires
 byte-at-requires c κs = search needs
 
--- src/lib.rt:18:19
 cast-low : tie.Need-cast-low
 cast-low c = search needs
 
--- src/lib.rt:19:31
 add-byte-at : tie.Need-add-byte-at
 add-byte-at c = search needs
 
--- src/lib.rt:19:20
 byte-at-requires-2 : tie.Need-byte-at-requires-2
 byte-at-requires-2 c κs = search needs
 
--- src/lib.rt:19:20
 cast-high : tie.Need-cast-high
 cast-high c = search needs
 
--- src/lib.rt:20:15
 mul-result : tie.Need-mul-result
 mul-result c = search needs
 
--- src/lib.rt:20:9
 add-result : tie.Need-add-result
 add-result c = search needs
 
--- src/lib.rt:14:1
 returns : tie.Need-returns
 unfolding u16At
 returns c = omega arith
 
--- src/lib.rt:14:1
 returns-2 : tie.Need-returns-2
 returns-2 c = sym (u16-past _ _ (c .if1 .left))
 

@@ -9,56 +9,43 @@ use Rattle.record.proofs.le.u32_at.Lts as lts
 use Rattle.record.proofs.le.half.Reads as half-reads
 use Rattle.record.proofs.le.u16_at.Reads as u16-at-reads
 
--- src/le.rt:52:17
 sub-if2 : tie.Need-sub-if2
 sub-if2 c = search needs
 
--- src/le.rt:53:20
 half-requires : tie.Need-half-requires
 half-requires c κs = search needs
 
--- src/le.rt:53:20
 cast-result : tie.Need-cast-result
 cast-result c = search needs
 
--- src/le.rt:53:13
 returns : tie.Need-returns
 returns c = search needs
 
--- src/le.rt:55:19
 u16-at-requires : tie.Need-u16-at-requires
 u16-at-requires c κs = search needs
 
--- src/le.rt:55:19
 cast-low : tie.Need-cast-low
 cast-low c = search needs
 
--- src/le.rt:56:30
 add-u16-at : tie.Need-add-u16-at
 add-u16-at c = search needs
 
--- src/le.rt:56:20
 u16-at-requires-2 : tie.Need-u16-at-requires-2
 u16-at-requires-2 c κs = search needs
 
--- src/le.rt:56:20
 cast-high : tie.Need-cast-high
 cast-high c = search needs
 
--- src/le.rt:57:15
 mul-result : tie.Need-mul-result
 mul-result c = search needs
 
--- src/le.rt:57:9
 add-result : tie.Need-add-result
 add-result c = search needs
 
--- src/le.rt:48:1
 returns-2 : tie.Need-returns-2
 unfolding u32At
 returns-2 c = omega arith
 
--- src/le.rt:48:1
 returns-3 : tie.Need-returns-3
 returns-3 c = sym (u32-past _ _ (c .if1 .left))
 

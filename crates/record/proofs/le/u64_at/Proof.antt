@@ -9,52 +9,40 @@ use Rattle.record.proofs.le.u64_at.Lts as lts
 use Rattle.record.proofs.le.u32_at.Reads as u32-at-reads
 use Rattle.record.proofs.le.word.Reads as word-reads
 
--- src/le.rt:67:17
 sub-if2 : tie.Need-sub-if2
 sub-if2 c = search needs
 
--- src/le.rt:68:13
 word-requires : tie.Need-word-requires
 word-requires c κs = search needs
 
--- src/le.rt:68:13
 returns : tie.Need-returns
 returns c = search needs
 
--- src/le.rt:70:19
 u32-at-requires : tie.Need-u32-at-requires
 u32-at-requires c κs = search needs
 
--- src/le.rt:70:19
 cast-low : tie.Need-cast-low
 cast-low c = search needs
 
--- src/le.rt:71:30
 add-u32-at : tie.Need-add-u32-at
 add-u32-at c = search needs
 
--- src/le.rt:71:20
 u32-at-requires-2 : tie.Need-u32-at-requires-2
 u32-at-requires-2 c κs = search needs
 
--- src/le.rt:71:20
 cast-high : tie.Need-cast-high
 cast-high c = search needs
 
--- src/le.rt:72:15
 mul-result : tie.Need-mul-result
 mul-result c = search needs
 
--- src/le.rt:72:9
 add-result : tie.Need-add-result
 add-result c = search needs
 
--- src/le.rt:63:1
 returns-2 : tie.Need-returns-2
 unfolding u64At
 returns-2 c = omega arith
 
--- src/le.rt:63:1
 returns-3 : tie.Need-returns-3
 returns-3 c = sym (u64-past _ _ (c .if1 .left))
 

@@ -6,19 +6,15 @@ use Rattle.record.proofs.leads.entry_named.Reads as reads
 use Rattle.record.proofs.leads.entry_named.Lts as lts
 use Rattle.record.proofs.index.first_named.Reads as first-named-reads
 
--- src/leads.rt:27:9
 first-named-requires : tie.Need-first-named-requires
 first-named-requires c κs = search needs
 
--- src/leads.rt:29:16
 first-named-requires-2 : tie.Need-first-named-requires-2
 first-named-requires-2 c κs = search needs
 
--- src/leads.rt:29:9
 returns : tie.Need-returns
 returns c = search entry-laws
 
--- src/leads.rt:24:1
 returns-2 : tie.Need-returns-2
 returns-2 c = search entry-laws
 

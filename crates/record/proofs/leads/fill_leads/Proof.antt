@@ -15,51 +15,39 @@ Inv-loop stream pool marks index leads₀ place₀ leads place = Leading stream 
 abbrev μ-loop : tie.MeasureT-loop
 μ-loop stream pool marks index leads₀ place₀ leads place = length marks - place
 
--- src/leads.rt:85:9
 returns : tie.Need-returns Inv-loop μ-loop
 returns c = search leads-long
 
--- src/leads.rt:88:5
 loop-holds : tie.Need-loop-holds Inv-loop μ-loop
 loop-holds c = search leading-start
 
--- src/leads.rt:89:12
 eight-clear-requires : tie.Need-eight-clear-requires Inv-loop μ-loop
 eight-clear-requires c κs = search needs
 
--- src/leads.rt:90:13
 add-place : tie.Need-add-place Inv-loop μ-loop
 add-place c = search needs
 
--- src/leads.rt:88:5
 loop-less : tie.Need-loop-less Inv-loop μ-loop
 loop-less c = search needs
 
--- src/leads.rt:88:5
 loop-again : tie.Need-loop-again Inv-loop μ-loop
 loop-again c = search leading-eight
 
--- src/leads.rt:93:9
 put-lead-requires : tie.Need-put-lead-requires Inv-loop μ-loop
 put-lead-requires c κs = search needs
 
--- src/leads.rt:94:9
 add-place-2 : tie.Need-add-place-2 Inv-loop μ-loop
 add-place-2 c = search needs
 
--- src/leads.rt:88:5
 loop-less-2 : tie.Need-loop-less-2 Inv-loop μ-loop
 loop-less-2 c = search needs
 
--- src/leads.rt:88:5
 loop-again-2 : tie.Need-loop-again-2 Inv-loop μ-loop
 loop-again-2 c = search leading-on
 
--- src/leads.rt:81:1
 same-length : tie.Need-same-length Inv-loop μ-loop
 same-length c = search leading-length
 
--- src/leads.rt:81:1
 returns-2 : tie.Need-returns-2 Inv-loop μ-loop
 returns-2 c = search leading-end
 

@@ -6,23 +6,18 @@ use Rattle.record.proofs.leads.is_least.Reads as reads
 use Rattle.record.proofs.leads.is_least.Lts as lts
 use Rattle.record.proofs.le.byte_at.Reads as byte-at-reads
 
--- src/leads.rt:39:9
 returns : tie.Need-returns
 returns c = search least-laws
 
--- src/leads.rt:41:20
 sub-byte-at : tie.Need-sub-byte-at
 sub-byte-at c = search needs
 
--- src/leads.rt:41:5
 byte-at-requires : tie.Need-byte-at-requires
 byte-at-requires c κs = search needs
 
--- src/leads.rt:41:34
 byte-at-requires-2 : tie.Need-byte-at-requires-2
 byte-at-requires-2 c κs = search needs
 
--- src/leads.rt:35:1
 returns-2 : tie.Need-returns-2
 returns-2 c = search least-laws
 

@@ -7,31 +7,24 @@ use Rattle.record.proofs.leads.lead_to.Lts as lts
 use Rattle.record.proofs.index.link_at.Reads as link-at-reads
 use Rattle.record.proofs.leads.entry_named.Reads as entry-named-reads
 
--- src/leads.rt:109:9
 returns : tie.Need-returns
 returns c = search given-laws
 
--- src/leads.rt:111:9
 entry-named-requires : tie.Need-entry-named-requires
 entry-named-requires c κs = search needs
 
--- src/leads.rt:113:9
 returns-2 : tie.Need-returns-2
 returns-2 c = search given-laws
 
--- src/leads.rt:115:9
 link-at-requires : tie.Need-link-at-requires
 link-at-requires c κs = search needs
 
--- src/leads.rt:117:9
 returns-3 : tie.Need-returns-3
 returns-3 c = search given-laws
 
--- src/leads.rt:119:18
 sub-t8 : tie.Need-sub-t8
 sub-t8 c = search needs
 
--- src/leads.rt:99:1
 returns-4 : tie.Need-returns-4
 returns-4 c = search given-laws
 

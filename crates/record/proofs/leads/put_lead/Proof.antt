@@ -10,47 +10,36 @@ use Rattle.record.proofs.leads.put_least.Reads as put-least-reads
 use Rattle.record.proofs.marks.reference_at.Reads as reference-at-reads
 use Rattle.record.proofs.text.bytes_of.Reads as bytes-of-reads
 
--- src/leads.rt:70:8
 byte-at-requires : tie.Need-byte-at-requires
 byte-at-requires c κs = search needs
 
--- src/leads.rt:71:9
 returns : tie.Need-returns
 returns c = search put-lead-laws
 
--- src/leads.rt:73:32
 reference-at-requires : tie.Need-reference-at-requires
 reference-at-requires c κs = search needs
 
--- src/leads.rt:73:24
 enum-known-name : tie.Need-enum-known-name
 enum-known-name c = search needs
 
--- src/leads.rt:74:9
 enum-told : tie.Need-enum-told
 enum-told c = search needs
 
--- src/leads.rt:74:9
 returns-2 : tie.Need-returns-2
 returns-2 c = search put-lead-laws
 
--- src/leads.rt:76:50
 bytes-of-requires : tie.Need-bytes-of-requires
 bytes-of-requires c κs = search needs
 
--- src/leads.rt:76:9
 entry-named-requires : tie.Need-entry-named-requires
 entry-named-requires c κs = search needs
 
--- src/leads.rt:77:5
 put-least-requires : tie.Need-put-least-requires
 put-least-requires c κs = search needs
 
--- src/leads.rt:59:1
 same-length : tie.Need-same-length
 same-length c = search needs
 
--- src/leads.rt:59:1
 returns-3 : tie.Need-returns-3
 returns-3 c = search put-lead-laws
 

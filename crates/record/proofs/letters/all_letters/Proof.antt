@@ -19,35 +19,27 @@ Inv-loop pool good₀ i₀ good i = (i ≤ length pool) × (allLetters pool ≡ 
 abbrev μ-loop : tie.MeasureT-loop
 μ-loop pool good₀ i₀ good i = length pool - i
 
--- src/letters.rt:33:5
 loop-holds : tie.Need-loop-holds Inv-loop μ-loop
 loop-holds c = search needs
 
--- src/letters.rt:34:37
 shared-slice-read-is-letter : tie.Need-shared-slice-read-is-letter Inv-loop μ-loop
 shared-slice-read-is-letter c = search needs
 
--- src/letters.rt:34:27
 is-letter-requires : tie.Need-is-letter-requires Inv-loop μ-loop
 is-letter-requires c κs = search needs
 
--- src/letters.rt:34:9
 both-requires : tie.Need-both-requires Inv-loop μ-loop
 both-requires c κs = search needs
 
--- src/letters.rt:35:9
 add-i : tie.Need-add-i Inv-loop μ-loop
 add-i c = search needs
 
--- src/letters.rt:33:5
 loop-less : tie.Need-loop-less Inv-loop μ-loop
 loop-less c = search needs
 
--- src/letters.rt:33:5
 loop-again : tie.Need-loop-again Inv-loop μ-loop
 loop-again c = (search needs, c .before .before .before .before .loop .inv .1 ∙ all-on (c .before .before .before .before .before .before .args .pool .now) (c .before .before .before .before .loop .i) (c .before .before .before .before .loop .good) _ _ (search needs) (c .before .is-letter .ensures) (c .both .ensures))
 
--- src/letters.rt:28:1
 returns : tie.Need-returns Inv-loop μ-loop
 returns c = search (ended, all-end)
 

@@ -19,43 +19,33 @@ Inv-loop stream pool name cursor₀ cursor = bitfieldIn name (bitfieldsAt stream
 abbrev μ-loop : tie.MeasureT-loop
 μ-loop stream pool name cursor₀ cursor = length stream - cursor .at
 
--- src/lists.rt:411:5
 loop-holds : tie.Need-loop-holds Inv-loop μ-loop
 loop-holds c = search needs
 
--- src/lists.rt:412:49
 next-bitfield-requires : tie.Need-next-bitfield-requires Inv-loop μ-loop
 next-bitfield-requires c κs = search needs
 
--- src/lists.rt:412:37
 enum-known-e : tie.Need-enum-known-e Inv-loop μ-loop
 enum-known-e c = search needs
 
--- src/lists.rt:413:13
 enum-told : tie.Need-enum-told Inv-loop μ-loop
 enum-told c = search needs
 
--- src/lists.rt:413:13
 returns : tie.Need-returns Inv-loop μ-loop
 returns c = search (kept, find-bitfield-laws)
 
--- src/lists.rt:415:17
 bytes-of-requires : tie.Need-bytes-of-requires Inv-loop μ-loop
 bytes-of-requires c κs = search needs
 
--- src/lists.rt:415:12
 same-requires : tie.Need-same-requires Inv-loop μ-loop
 same-requires c κs = search needs
 
--- src/lists.rt:416:13
 returns-2 : tie.Need-returns-2 Inv-loop μ-loop
 returns-2 c = search (kept, find-bitfield-laws)
 
--- src/lists.rt:411:5
 loop-less : tie.Need-loop-less Inv-loop μ-loop
 loop-less c = search bitfields-nearer
 
--- src/lists.rt:411:5
 loop-again : tie.Need-loop-again Inv-loop μ-loop
 loop-again c = search (kept, find-bitfield-laws)
 

@@ -19,43 +19,33 @@ Inv-loop stream pool name cursor₀ cursor = familyIn name (familiesAt stream po
 abbrev μ-loop : tie.MeasureT-loop
 μ-loop stream pool name cursor₀ cursor = length stream - cursor .at
 
--- src/lists.rt:443:5
 loop-holds : tie.Need-loop-holds Inv-loop μ-loop
 loop-holds c = search needs
 
--- src/lists.rt:444:45
 next-family-requires : tie.Need-next-family-requires Inv-loop μ-loop
 next-family-requires c κs = search needs
 
--- src/lists.rt:444:33
 enum-known-e : tie.Need-enum-known-e Inv-loop μ-loop
 enum-known-e c = search needs
 
--- src/lists.rt:445:13
 enum-told : tie.Need-enum-told Inv-loop μ-loop
 enum-told c = search needs
 
--- src/lists.rt:445:13
 returns : tie.Need-returns Inv-loop μ-loop
 returns c = search (kept, find-family-laws)
 
--- src/lists.rt:447:17
 bytes-of-requires : tie.Need-bytes-of-requires Inv-loop μ-loop
 bytes-of-requires c κs = search needs
 
--- src/lists.rt:447:12
 same-requires : tie.Need-same-requires Inv-loop μ-loop
 same-requires c κs = search needs
 
--- src/lists.rt:448:13
 returns-2 : tie.Need-returns-2 Inv-loop μ-loop
 returns-2 c = search (kept, find-family-laws)
 
--- src/lists.rt:443:5
 loop-less : tie.Need-loop-less Inv-loop μ-loop
 loop-less c = search families-nearer
 
--- src/lists.rt:443:5
 loop-again : tie.Need-loop-again Inv-loop μ-loop
 loop-again c = search (kept, find-family-laws)
 

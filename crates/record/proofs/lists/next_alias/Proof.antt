@@ -9,35 +9,27 @@ use Rattle.record.proofs.command.alias_at.Reads as alias-at-reads
 use Rattle.record.proofs.cut.from.Reads as from-reads
 use Rattle.record.proofs.seek.seek.Reads as seek-reads
 
--- src/lists.rt:78:33
 seek-requires : tie.Need-seek-requires
 seek-requires c κs = search needs
 
--- src/lists.rt:78:20
 enum-known-at : tie.Need-enum-known-at
 enum-known-at c = search needs
 
--- src/lists.rt:79:9
 enum-told : tie.Need-enum-told
 enum-told c = search needs
 
--- src/lists.rt:79:9
 returns : tie.Need-returns
 returns c = search aliases-laws
 
--- src/lists.rt:81:33
 from-requires : tie.Need-from-requires
 from-requires c κs = search needs
 
--- src/lists.rt:81:24
 alias-at-requires : tie.Need-alias-at-requires
 alias-at-requires c κs = search needs
 
--- src/lists.rt:81:57
 place-requires : tie.Need-place-requires
 place-requires c κs = search needs
 
--- src/lists.rt:75:1
 returns-2 : tie.Need-returns-2
 returns-2 c = search aliases-laws
 

@@ -9,35 +9,27 @@ use Rattle.record.proofs.command.bitfield_at.Reads as bitfield-at-reads
 use Rattle.record.proofs.cut.from.Reads as from-reads
 use Rattle.record.proofs.seek.seek.Reads as seek-reads
 
--- src/lists.rt:138:33
 seek-requires : tie.Need-seek-requires
 seek-requires c κs = search needs
 
--- src/lists.rt:138:20
 enum-known-at : tie.Need-enum-known-at
 enum-known-at c = search needs
 
--- src/lists.rt:139:9
 enum-told : tie.Need-enum-told
 enum-told c = search needs
 
--- src/lists.rt:139:9
 returns : tie.Need-returns
 returns c = search bitfields-laws
 
--- src/lists.rt:141:41
 from-requires : tie.Need-from-requires
 from-requires c κs = search needs
 
--- src/lists.rt:141:29
 bitfield-at-requires : tie.Need-bitfield-at-requires
 bitfield-at-requires c κs = search needs
 
--- src/lists.rt:141:65
 place-requires : tie.Need-place-requires
 place-requires c κs = search needs
 
--- src/lists.rt:135:1
 returns-2 : tie.Need-returns-2
 returns-2 c = search bitfields-laws
 

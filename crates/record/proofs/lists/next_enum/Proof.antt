@@ -9,35 +9,27 @@ use Rattle.record.proofs.command.enum_at.Reads as enum-at-reads
 use Rattle.record.proofs.cut.from.Reads as from-reads
 use Rattle.record.proofs.seek.seek.Reads as seek-reads
 
--- src/lists.rt:108:33
 seek-requires : tie.Need-seek-requires
 seek-requires c κs = search needs
 
--- src/lists.rt:108:20
 enum-known-at : tie.Need-enum-known-at
 enum-known-at c = search needs
 
--- src/lists.rt:109:9
 enum-told : tie.Need-enum-told
 enum-told c = search needs
 
--- src/lists.rt:109:9
 returns : tie.Need-returns
 returns c = search enums-laws
 
--- src/lists.rt:111:30
 from-requires : tie.Need-from-requires
 from-requires c κs = search needs
 
--- src/lists.rt:111:22
 enum-at-requires : tie.Need-enum-at-requires
 enum-at-requires c κs = search needs
 
--- src/lists.rt:111:54
 place-requires : tie.Need-place-requires
 place-requires c κs = search needs
 
--- src/lists.rt:105:1
 returns-2 : tie.Need-returns-2
 returns-2 c = search enums-laws
 

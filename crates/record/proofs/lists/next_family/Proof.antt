@@ -9,35 +9,27 @@ use Rattle.record.proofs.command.family_at.Reads as family-at-reads
 use Rattle.record.proofs.cut.from.Reads as from-reads
 use Rattle.record.proofs.seek.seek.Reads as seek-reads
 
--- src/lists.rt:213:33
 seek-requires : tie.Need-seek-requires
 seek-requires c κs = search needs
 
--- src/lists.rt:213:20
 enum-known-at : tie.Need-enum-known-at
 enum-known-at c = search needs
 
--- src/lists.rt:214:9
 enum-told : tie.Need-enum-told
 enum-told c = search needs
 
--- src/lists.rt:214:9
 returns : tie.Need-returns
 returns c = search families-laws
 
--- src/lists.rt:216:35
 from-requires : tie.Need-from-requires
 from-requires c κs = search needs
 
--- src/lists.rt:216:25
 family-at-requires : tie.Need-family-at-requires
 family-at-requires c κs = search needs
 
--- src/lists.rt:216:59
 place-requires : tie.Need-place-requires
 place-requires c κs = search needs
 
--- src/lists.rt:210:1
 returns-2 : tie.Need-returns-2
 returns-2 c = search families-laws
 

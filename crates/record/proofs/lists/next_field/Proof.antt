@@ -9,35 +9,27 @@ use Rattle.record.proofs.command.field_at.Reads as field-at-reads
 use Rattle.record.proofs.cut.from.Reads as from-reads
 use Rattle.record.proofs.seek.seek.Reads as seek-reads
 
--- src/lists.rt:168:33
 seek-requires : tie.Need-seek-requires
 seek-requires c κs = search needs
 
--- src/lists.rt:168:20
 enum-known-at : tie.Need-enum-known-at
 enum-known-at c = search needs
 
--- src/lists.rt:169:9
 enum-told : tie.Need-enum-told
 enum-told c = search needs
 
--- src/lists.rt:169:9
 returns : tie.Need-returns
 returns c = search fields-laws
 
--- src/lists.rt:171:32
 from-requires : tie.Need-from-requires
 from-requires c κs = search needs
 
--- src/lists.rt:171:23
 field-at-requires : tie.Need-field-at-requires
 field-at-requires c κs = search needs
 
--- src/lists.rt:171:56
 place-requires : tie.Need-place-requires
 place-requires c κs = search needs
 
--- src/lists.rt:165:1
 returns-2 : tie.Need-returns-2
 returns-2 c = search fields-laws
 

@@ -9,35 +9,27 @@ use Rattle.record.proofs.command.member_at.Reads as member-at-reads
 use Rattle.record.proofs.cut.from.Reads as from-reads
 use Rattle.record.proofs.seek.seek.Reads as seek-reads
 
--- src/lists.rt:123:33
 seek-requires : tie.Need-seek-requires
 seek-requires c κs = search needs
 
--- src/lists.rt:123:20
 enum-known-at : tie.Need-enum-known-at
 enum-known-at c = search needs
 
--- src/lists.rt:124:9
 enum-told : tie.Need-enum-told
 enum-told c = search needs
 
--- src/lists.rt:124:9
 returns : tie.Need-returns
 returns c = search members-laws
 
--- src/lists.rt:126:35
 from-requires : tie.Need-from-requires
 from-requires c κs = search needs
 
--- src/lists.rt:126:25
 member-at-requires : tie.Need-member-at-requires
 member-at-requires c κs = search needs
 
--- src/lists.rt:126:59
 place-requires : tie.Need-place-requires
 place-requires c κs = search needs
 
--- src/lists.rt:120:1
 returns-2 : tie.Need-returns-2
 returns-2 c = search members-laws
 

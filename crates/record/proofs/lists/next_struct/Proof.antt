@@ -9,35 +9,27 @@ use Rattle.record.proofs.command.struct_at.Reads as struct-at-reads
 use Rattle.record.proofs.cut.from.Reads as from-reads
 use Rattle.record.proofs.seek.seek.Reads as seek-reads
 
--- src/lists.rt:183:33
 seek-requires : tie.Need-seek-requires
 seek-requires c κs = search needs
 
--- src/lists.rt:183:20
 enum-known-at : tie.Need-enum-known-at
 enum-known-at c = search needs
 
--- src/lists.rt:184:9
 enum-told : tie.Need-enum-told
 enum-told c = search needs
 
--- src/lists.rt:184:9
 returns : tie.Need-returns
 returns c = search structs-laws
 
--- src/lists.rt:186:35
 from-requires : tie.Need-from-requires
 from-requires c κs = search needs
 
--- src/lists.rt:186:25
 struct-at-requires : tie.Need-struct-at-requires
 struct-at-requires c κs = search needs
 
--- src/lists.rt:186:59
 place-requires : tie.Need-place-requires
 place-requires c κs = search needs
 
--- src/lists.rt:180:1
 returns-2 : tie.Need-returns-2
 returns-2 c = search structs-laws
 

@@ -9,35 +9,27 @@ use Rattle.record.proofs.command.key_at.Reads as key-at-reads
 use Rattle.record.proofs.cut.from.Reads as from-reads
 use Rattle.record.proofs.seek.seek.Reads as seek-reads
 
--- src/lists.rt:228:33
 seek-requires : tie.Need-seek-requires
 seek-requires c κs = search needs
 
--- src/lists.rt:228:20
 enum-known-at : tie.Need-enum-known-at
 enum-known-at c = search needs
 
--- src/lists.rt:229:9
 enum-told : tie.Need-enum-told
 enum-told c = search needs
 
--- src/lists.rt:229:9
 returns : tie.Need-returns
 returns c = search unstored-laws
 
--- src/lists.rt:231:37
 from-requires : tie.Need-from-requires
 from-requires c κs = search needs
 
--- src/lists.rt:231:30
 key-at-requires : tie.Need-key-at-requires
 key-at-requires c κs = search needs
 
--- src/lists.rt:231:61
 place-requires : tie.Need-place-requires
 place-requires c κs = search needs
 
--- src/lists.rt:225:1
 returns-2 : tie.Need-returns-2
 returns-2 c = search unstored-laws
 

@@ -9,35 +9,27 @@ use Rattle.record.proofs.command.value_at.Reads as value-at-reads
 use Rattle.record.proofs.cut.from.Reads as from-reads
 use Rattle.record.proofs.seek.seek.Reads as seek-reads
 
--- src/lists.rt:93:33
 seek-requires : tie.Need-seek-requires
 seek-requires c κs = search needs
 
--- src/lists.rt:93:20
 enum-known-at : tie.Need-enum-known-at
 enum-known-at c = search needs
 
--- src/lists.rt:94:9
 enum-told : tie.Need-enum-told
 enum-told c = search needs
 
--- src/lists.rt:94:9
 returns : tie.Need-returns
 returns c = search values-laws
 
--- src/lists.rt:96:32
 from-requires : tie.Need-from-requires
 from-requires c κs = search needs
 
--- src/lists.rt:96:23
 value-at-requires : tie.Need-value-at-requires
 value-at-requires c κs = search needs
 
--- src/lists.rt:96:56
 place-requires : tie.Need-place-requires
 place-requires c κs = search needs
 
--- src/lists.rt:90:1
 returns-2 : tie.Need-returns-2
 returns-2 c = search values-laws
 

@@ -9,35 +9,27 @@ use Rattle.record.proofs.command.variant_at.Reads as variant-at-reads
 use Rattle.record.proofs.cut.from.Reads as from-reads
 use Rattle.record.proofs.seek.seek.Reads as seek-reads
 
--- src/lists.rt:198:33
 seek-requires : tie.Need-seek-requires
 seek-requires c κs = search needs
 
--- src/lists.rt:198:20
 enum-known-at : tie.Need-enum-known-at
 enum-known-at c = search needs
 
--- src/lists.rt:199:9
 enum-told : tie.Need-enum-told
 enum-told c = search needs
 
--- src/lists.rt:199:9
 returns : tie.Need-returns
 returns c = search variants-laws
 
--- src/lists.rt:201:38
 from-requires : tie.Need-from-requires
 from-requires c κs = search needs
 
--- src/lists.rt:201:27
 variant-at-requires : tie.Need-variant-at-requires
 variant-at-requires c κs = search needs
 
--- src/lists.rt:201:62
 place-requires : tie.Need-place-requires
 place-requires c κs = search needs
 
--- src/lists.rt:195:1
 returns-2 : tie.Need-returns-2
 returns-2 c = search variants-laws
 

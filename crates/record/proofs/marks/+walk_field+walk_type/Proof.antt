@@ -38,7 +38,6 @@ abbrev walk-type-below : ℕ → In 4 walk-type-kinds.ps
 walk-type-below t =
     and 4 walk-type-kinds.ps (falls 4 walk-type-kinds.ps _<_ μ-walk-type t) walk-type.Pre
 
--- src/marks.rt:131:8
 walk-field-slice-read-if1 : (t : ℕ) → walk-field-lts.Need-slice-read-if1 (
   target-at-reads.Asked,
   target-at-reads.Learnt,
@@ -47,7 +46,6 @@ walk-field-slice-read-if1 : (t : ℕ) → walk-field-lts.Need-slice-read-if1 (
 ) (walk-field-at t) walk-field.Post
 walk-field-slice-read-if1 t c = search needs
 
--- src/marks.rt:132:9
 walk-field-returns : (t : ℕ) → walk-field-lts.Need-returns (
   target-at-reads.Asked,
   target-at-reads.Learnt,
@@ -56,7 +54,6 @@ walk-field-returns : (t : ℕ) → walk-field-lts.Need-returns (
 ) (walk-field-at t) walk-field.Post
 walk-field-returns t c = search field-laws
 
--- src/marks.rt:134:5
 walk-field-slice-write-marks : (t : ℕ) → walk-field-lts.Need-slice-write-marks (
   target-at-reads.Asked,
   target-at-reads.Learnt,
@@ -65,7 +62,6 @@ walk-field-slice-write-marks : (t : ℕ) → walk-field-lts.Need-slice-write-mar
 ) (walk-field-at t) walk-field.Post
 walk-field-slice-write-marks t c = search needs
 
--- src/marks.rt:135:32
 walk-field-target-at-requires : (t : ℕ) → walk-field-lts.Need-target-at-requires (
   target-at-reads.Asked,
   target-at-reads.Learnt,
@@ -74,7 +70,6 @@ walk-field-target-at-requires : (t : ℕ) → walk-field-lts.Need-target-at-requ
 ) (walk-field-at t) walk-field.Post
 walk-field-target-at-requires t c κs = search needs
 
--- src/marks.rt:135:24
 walk-field-enum-known-body : (t : ℕ) → walk-field-lts.Need-enum-known-body (
   target-at-reads.Asked,
   target-at-reads.Learnt,
@@ -83,7 +78,6 @@ walk-field-enum-known-body : (t : ℕ) → walk-field-lts.Need-enum-known-body (
 ) (walk-field-at t) walk-field.Post
 walk-field-enum-known-body t c = search needs
 
--- src/marks.rt:136:9
 walk-field-enum-told : (t : ℕ) → walk-field-lts.Need-enum-told (
   target-at-reads.Asked,
   target-at-reads.Learnt,
@@ -92,7 +86,6 @@ walk-field-enum-told : (t : ℕ) → walk-field-lts.Need-enum-told (
 ) (walk-field-at t) walk-field.Post
 walk-field-enum-told t c = search needs
 
--- src/marks.rt:136:9
 walk-field-same-length : (t : ℕ) → walk-field-lts.Need-same-length (
   target-at-reads.Asked,
   target-at-reads.Learnt,
@@ -101,7 +94,6 @@ walk-field-same-length : (t : ℕ) → walk-field-lts.Need-same-length (
 ) (walk-field-at t) walk-field.Post
 walk-field-same-length t c = simp length-set
 
--- src/marks.rt:136:9
 walk-field-returns-2 : (t : ℕ) → walk-field-lts.Need-returns-2 (
   target-at-reads.Asked,
   target-at-reads.Learnt,
@@ -110,7 +102,6 @@ walk-field-returns-2 : (t : ℕ) → walk-field-lts.Need-returns-2 (
 ) (walk-field-at t) walk-field.Post
 walk-field-returns-2 t c = search field-laws
 
--- src/marks.rt:138:5
 walk-field-walk-type-requires : (t : ℕ) → walk-field-lts.Need-walk-type-requires (
   target-at-reads.Asked,
   target-at-reads.Learnt,
@@ -119,7 +110,6 @@ walk-field-walk-type-requires : (t : ℕ) → walk-field-lts.Need-walk-type-requ
 ) (walk-field-at t) walk-field.Post
 walk-field-walk-type-requires t c κs = (search field-less, search field-ready)
 
--- src/marks.rt:127:1
 walk-field-same-length-2 : (t : ℕ) → walk-field-lts.Need-same-length-2 (
   target-at-reads.Asked,
   target-at-reads.Learnt,
@@ -128,7 +118,6 @@ walk-field-same-length-2 : (t : ℕ) → walk-field-lts.Need-same-length-2 (
 ) (walk-field-at t) walk-field.Post
 walk-field-same-length-2 t c = search field-length
 
--- src/marks.rt:127:1
 walk-field-returns-3 : (t : ℕ) → walk-field-lts.Need-returns-3 (
   target-at-reads.Asked,
   target-at-reads.Learnt,
@@ -143,7 +132,6 @@ walk-type-Inv-loop stream pool index marks₀ mark family cursor₀ marks cursor
 abbrev walk-type-μ-loop : walk-type-lts.MeasureT-loop
 walk-type-μ-loop stream pool index marks₀ mark family cursor₀ marks cursor = length stream - cursor .at
 
--- src/marks.rt:148:5
 walk-type-loop-holds : (t : ℕ) → walk-type-lts.Need-loop-holds (
   next-place-reads.Asked,
   next-place-reads.Learnt,
@@ -152,7 +140,6 @@ walk-type-loop-holds : (t : ℕ) → walk-type-lts.Need-loop-holds (
 ) (walk-type-at t) walk-type.Post walk-type-Inv-loop walk-type-μ-loop
 walk-type-loop-holds t c = search type-starts
 
--- src/marks.rt:149:47
 walk-type-next-place-requires : (t : ℕ) → walk-type-lts.Need-next-place-requires (
   next-place-reads.Asked,
   next-place-reads.Learnt,
@@ -161,7 +148,6 @@ walk-type-next-place-requires : (t : ℕ) → walk-type-lts.Need-next-place-requ
 ) (walk-type-at t) walk-type.Post walk-type-Inv-loop walk-type-μ-loop
 walk-type-next-place-requires t c κs = search needs
 
--- src/marks.rt:149:31
 walk-type-enum-known-place : (t : ℕ) → walk-type-lts.Need-enum-known-place (
   next-place-reads.Asked,
   next-place-reads.Learnt,
@@ -170,7 +156,6 @@ walk-type-enum-known-place : (t : ℕ) → walk-type-lts.Need-enum-known-place (
 ) (walk-type-at t) walk-type.Post walk-type-Inv-loop walk-type-μ-loop
 walk-type-enum-known-place t c = search needs
 
--- src/marks.rt:150:13
 walk-type-enum-told : (t : ℕ) → walk-type-lts.Need-enum-told (
   next-place-reads.Asked,
   next-place-reads.Learnt,
@@ -179,7 +164,6 @@ walk-type-enum-told : (t : ℕ) → walk-type-lts.Need-enum-told (
 ) (walk-type-at t) walk-type.Post walk-type-Inv-loop walk-type-μ-loop
 walk-type-enum-told t c = search needs
 
--- src/marks.rt:150:13
 walk-type-same-length : (t : ℕ) → walk-type-lts.Need-same-length (
   next-place-reads.Asked,
   next-place-reads.Learnt,
@@ -188,7 +172,6 @@ walk-type-same-length : (t : ℕ) → walk-type-lts.Need-same-length (
 ) (walk-type-at t) walk-type.Post walk-type-Inv-loop walk-type-μ-loop
 walk-type-same-length t c = search going-length
 
--- src/marks.rt:150:13
 walk-type-returns : (t : ℕ) → walk-type-lts.Need-returns (
   next-place-reads.Asked,
   next-place-reads.Learnt,
@@ -197,7 +180,6 @@ walk-type-returns : (t : ℕ) → walk-type-lts.Need-returns (
 ) (walk-type-at t) walk-type.Post walk-type-Inv-loop walk-type-μ-loop
 walk-type-returns t c = search type-ends
 
--- src/marks.rt:152:9
 walk-type-walk-field-requires : (t : ℕ) → walk-type-lts.Need-walk-field-requires (
   next-place-reads.Asked,
   next-place-reads.Learnt,
@@ -206,7 +188,6 @@ walk-type-walk-field-requires : (t : ℕ) → walk-type-lts.Need-walk-field-requ
 ) (walk-type-at t) walk-type.Post walk-type-Inv-loop walk-type-μ-loop
 walk-type-walk-field-requires t c κs = (search going-less, (search going-ready, search place-inside))
 
--- src/marks.rt:148:5
 walk-type-loop-less : (t : ℕ) → walk-type-lts.Need-loop-less (
   next-place-reads.Asked,
   next-place-reads.Learnt,
@@ -215,7 +196,6 @@ walk-type-loop-less : (t : ℕ) → walk-type-lts.Need-loop-less (
 ) (walk-type-at t) walk-type.Post walk-type-Inv-loop walk-type-μ-loop
 walk-type-loop-less t c = search places-nearer
 
--- src/marks.rt:148:5
 walk-type-loop-again : (t : ℕ) → walk-type-lts.Need-loop-again (
   next-place-reads.Asked,
   next-place-reads.Learnt,

@@ -14,31 +14,24 @@ Inv-loop marks₀ i₀ marks i = ClearTo marks₀ marks i
 abbrev μ-loop : tie.MeasureT-loop
 μ-loop marks₀ i₀ marks i = length marks - i
 
--- src/marks.rt:153:5
 loop-holds : tie.Need-loop-holds Inv-loop μ-loop
 loop-holds c = search clear-laws
 
--- src/marks.rt:154:9
 slice-write-marks : tie.Need-slice-write-marks Inv-loop μ-loop
 slice-write-marks c = search needs
 
--- src/marks.rt:155:9
 add-i : tie.Need-add-i Inv-loop μ-loop
 add-i c = search needs
 
--- src/marks.rt:153:5
 loop-less : tie.Need-loop-less Inv-loop μ-loop
 loop-less c = simp length-set (omega arith)
 
--- src/marks.rt:153:5
 loop-again : tie.Need-loop-again Inv-loop μ-loop
 loop-again c = search clear-laws
 
--- src/marks.rt:149:1
 same-length : tie.Need-same-length Inv-loop μ-loop
 same-length c = search needs
 
--- src/marks.rt:149:1
 returns : tie.Need-returns Inv-loop μ-loop
 returns c = search clear-laws
 

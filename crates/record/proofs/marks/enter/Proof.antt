@@ -10,50 +10,39 @@ use Rattle.record.proofs.index.find_declared.Reads as find-declared-rea
 use Rattle.record.proofs.marks.family_fields.Reads as family-fields-reads
 use Rattle.record.proofs.operands.opt_text_at.Reads as opt-text-at-reads
 
--- src/marks.rt:103:36
 find-declared-requires : tie.Need-find-declared-requires
 find-declared-requires c κs = search needs
 
--- src/marks.rt:103:20
 enum-known-place : tie.Need-enum-known-place
 enum-known-place c = search needs
 
--- src/marks.rt:104:31
 enum-told : tie.Need-enum-told
 enum-told c = search needs
 
--- src/marks.rt:104:31
 family-fields-requires : tie.Need-family-fields-requires
 family-fields-requires c κs = search needs
 
--- src/marks.rt:104:9
 returns : tie.Need-returns
 returns c = λ i. search enter-laws
 
--- src/marks.rt:106:28
 from-requires : tie.Need-from-requires
 from-requires c κs = search needs
 
--- src/marks.rt:106:9
 opt-text-at-requires : tie.Need-opt-text-at-requires
 opt-text-at-requires c κs = search needs
 
--- src/marks.rt:108:9
 enum-told-2 : tie.Need-enum-told-2
 enum-told-2 c = search needs
 
--- src/marks.rt:108:9
 returns-2 : tie.Need-returns-2
 returns-2 c = λ i. search enter-laws
 
 enum-told-3 : tie.Need-enum-told-3
 enum-told-3 c = search needs
 
--- src/marks.rt:111:15
 place-requires : tie.Need-place-requires
 place-requires c κs = search needs
 
--- src/marks.rt:100:1
 returns-3 : tie.Need-returns-3
 returns-3 c = λ i. search enter-laws
 

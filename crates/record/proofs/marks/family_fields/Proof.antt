@@ -7,30 +7,24 @@ use Rattle.record.proofs.marks.family_fields.Lts as lts
 use Rattle.record.proofs.command.Cursor.place.Reads as place-reads
 use Rattle.record.proofs.index.find_declared.Reads as find-declared-reads
 
--- src/marks.rt:34:35
 find-declared-requires : tie.Need-find-declared-requires
 find-declared-requires c κs = search needs
 
--- src/marks.rt:34:26
 enum-known-after : tie.Need-enum-known-after
 enum-known-after c = search needs
 
--- src/marks.rt:36:19
 place-requires : tie.Need-place-requires
 place-requires c κs = search needs
 
--- src/marks.rt:35:9
 returns : tie.Need-returns
 returns c = λ i d. search family-laws
 
 enum-told : tie.Need-enum-told
 enum-told c = search needs
 
--- src/marks.rt:41:15
 place-requires-2 : tie.Need-place-requires-2
 place-requires-2 c κs = search needs
 
--- src/marks.rt:31:1
 returns-2 : tie.Need-returns-2
 returns-2 c = λ i d. search family-laws
 

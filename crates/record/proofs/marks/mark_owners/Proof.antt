@@ -6,19 +6,15 @@ use Rattle.record.proofs.marks.mark_owners.Reads as reads
 use Rattle.record.proofs.marks.mark_owners.Lts as lts
 use Rattle.record.proofs.marks.mark_roots.Reads as mark-roots-reads
 
--- src/marks.rt:173:9
 returns : tie.Need-returns
 returns c = search marks-short
 
--- src/marks.rt:175:5
 mark-roots-requires : tie.Need-mark-roots-requires
 mark-roots-requires c κs = search needs
 
--- src/marks.rt:169:1
 same-length : tie.Need-same-length
 same-length c = search needs
 
--- src/marks.rt:169:1
 returns-2 : tie.Need-returns-2
 returns-2 c = search marks-filled
 

@@ -8,31 +8,24 @@ use Rattle.record.proofs.command.Cursor.place.Reads as place-reads
 use Rattle.record.proofs.marks.between.Reads as between-reads
 use Rattle.record.proofs.seek.seek.Reads as seek-reads
 
--- src/marks.rt:77:62
 between-requires : tie.Need-between-requires
 between-requires c κs = search needs
 
--- src/marks.rt:77:36
 seek-requires : tie.Need-seek-requires
 seek-requires c κs = search needs
 
--- src/marks.rt:77:20
 enum-known-place : tie.Need-enum-known-place
 enum-known-place c = search needs
 
--- src/marks.rt:78:9
 enum-told : tie.Need-enum-told
 enum-told c = search needs
 
--- src/marks.rt:78:9
 returns : tie.Need-returns
 returns c = search place-laws
 
--- src/marks.rt:80:30
 place-requires : tie.Need-place-requires
 place-requires c κs = search needs
 
--- src/marks.rt:74:1
 returns-2 : tie.Need-returns-2
 returns-2 c = search place-laws
 

@@ -7,15 +7,12 @@ use Rattle.record.proofs.marks.reference_at.Lts as lts
 use Rattle.record.proofs.cut.from.Reads as from-reads
 use Rattle.record.proofs.references.referenced_type.Reads as referenced-type-reads
 
--- src/marks.rt:87:27
 from-requires : tie.Need-from-requires
 from-requires c κs = search needs
 
--- src/marks.rt:87:5
 referenced-type-requires : tie.Need-referenced-type-requires
 referenced-type-requires c κs = search needs
 
--- src/marks.rt:84:1
 returns : tie.Need-returns
 returns c = search reference-is
 

@@ -8,31 +8,24 @@ use Rattle.record.proofs.marks.enter.Reads as enter-reads
 use Rattle.record.proofs.marks.reference_at.Reads as reference-at-reads
 use Rattle.record.proofs.text.bytes_of.Reads as bytes-of-reads
 
--- src/marks.rt:120:32
 reference-at-requires : tie.Need-reference-at-requires
 reference-at-requires c κs = search needs
 
--- src/marks.rt:120:24
 enum-known-name : tie.Need-enum-known-name
 enum-known-name c = search needs
 
--- src/marks.rt:121:9
 enum-told : tie.Need-enum-told
 enum-told c = search needs
 
--- src/marks.rt:121:9
 returns : tie.Need-returns
 returns c = λ i. search target-laws
 
--- src/marks.rt:123:32
 bytes-of-requires : tie.Need-bytes-of-requires
 bytes-of-requires c κs = search needs
 
--- src/marks.rt:123:5
 enter-requires : tie.Need-enter-requires
 enter-requires c κs = search needs
 
--- src/marks.rt:117:1
 returns-2 : tie.Need-returns-2
 returns-2 c = λ i. search target-laws
 

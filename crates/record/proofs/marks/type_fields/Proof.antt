@@ -8,31 +8,24 @@ use Rattle.record.proofs.command.Cursor.place.Reads as place-reads
 use Rattle.record.proofs.index.find_declared.Reads as find-declared-reads
 use Rattle.record.proofs.marks.family_fields.Reads as family-fields-reads
 
--- src/marks.rt:50:32
 find-declared-requires : tie.Need-find-declared-requires
 find-declared-requires c κs = search needs
 
--- src/marks.rt:50:23
 enum-known-after : tie.Need-enum-known-after
 enum-known-after c = search needs
 
--- src/marks.rt:51:9
 enum-told : tie.Need-enum-told
 enum-told c = search needs
 
--- src/marks.rt:51:9
 family-fields-requires : tie.Need-family-fields-requires
 family-fields-requires c κs = search needs
 
--- src/marks.rt:51:9
 returns : tie.Need-returns
 returns c = λ i. search body-laws
 
--- src/marks.rt:54:15
 place-requires : tie.Need-place-requires
 place-requires c κs = search needs
 
--- src/marks.rt:47:1
 returns-2 : tie.Need-returns-2
 returns-2 c = λ i. search body-laws
 

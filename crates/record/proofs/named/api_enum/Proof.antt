@@ -7,15 +7,12 @@ use Rattle.record.proofs.named.api_enum.Lts as lts
 use Rattle.record.proofs.index.find_last.Reads as find-last-reads
 use Rattle.record.proofs.named.enum_there.Reads as enum-there-reads
 
--- src/named.rt:65:24
 find-last-requires : tie.Need-find-last-requires
 find-last-requires c κs = search needs
 
--- src/named.rt:65:5
 enum-there-requires : tie.Need-enum-there-requires
 enum-there-requires c κs = search needs
 
--- src/named.rt:62:1
 returns : tie.Need-returns
 returns c = search named-laws
 

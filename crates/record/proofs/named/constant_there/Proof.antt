@@ -8,31 +8,24 @@ use Rattle.record.proofs.command.Cursor.place.Reads as place-reads
 use Rattle.record.proofs.command.constant_at.Reads as constant-at-reads
 use Rattle.record.proofs.cut.from.Reads as from-reads
 
--- src/named.rt:17:20
 enum-known-there : tie.Need-enum-known-there
 enum-known-there c = search needs
 
--- src/named.rt:18:9
 enum-told : tie.Need-enum-told
 enum-told c = search needs
 
--- src/named.rt:18:9
 returns : tie.Need-returns
 returns c = search there-laws
 
--- src/named.rt:20:41
 from-requires : tie.Need-from-requires
 from-requires c κs = search needs
 
--- src/named.rt:20:29
 constant-at-requires : tie.Need-constant-at-requires
 constant-at-requires c κs = search needs
 
--- src/named.rt:20:68
 place-requires : tie.Need-place-requires
 place-requires c κs = search needs
 
--- src/named.rt:14:1
 returns-2 : tie.Need-returns-2
 returns-2 c = search there-laws
 

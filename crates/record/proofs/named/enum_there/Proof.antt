@@ -8,31 +8,24 @@ use Rattle.record.proofs.command.Cursor.place.Reads as place-reads
 use Rattle.record.proofs.command.enum_at.Reads as enum-at-reads
 use Rattle.record.proofs.cut.from.Reads as from-reads
 
--- src/named.rt:27:20
 enum-known-there : tie.Need-enum-known-there
 enum-known-there c = search needs
 
--- src/named.rt:28:9
 enum-told : tie.Need-enum-told
 enum-told c = search needs
 
--- src/named.rt:28:9
 returns : tie.Need-returns
 returns c = search there-laws
 
--- src/named.rt:30:30
 from-requires : tie.Need-from-requires
 from-requires c κs = search needs
 
--- src/named.rt:30:22
 enum-at-requires : tie.Need-enum-at-requires
 enum-at-requires c κs = search needs
 
--- src/named.rt:30:57
 place-requires : tie.Need-place-requires
 place-requires c κs = search needs
 
--- src/named.rt:24:1
 returns-2 : tie.Need-returns-2
 returns-2 c = search there-laws
 

@@ -7,15 +7,12 @@ use Rattle.record.proofs.named.first_constant.Lts as lts
 use Rattle.record.proofs.index.find_declared.Reads as find-declared-reads
 use Rattle.record.proofs.named.constant_there.Reads as constant-there-reads
 
--- src/named.rt:37:28
 find-declared-requires : tie.Need-find-declared-requires
 find-declared-requires c κs = search needs
 
--- src/named.rt:37:5
 constant-there-requires : tie.Need-constant-there-requires
 constant-there-requires c κs = search needs
 
--- src/named.rt:34:1
 returns : tie.Need-returns
 returns c = search named-laws
 

@@ -7,15 +7,12 @@ use Rattle.record.proofs.named.first_enum.Lts as lts
 use Rattle.record.proofs.index.find_declared.Reads as find-declared-reads
 use Rattle.record.proofs.named.enum_there.Reads as enum-there-reads
 
--- src/named.rt:58:24
 find-declared-requires : tie.Need-find-declared-requires
 find-declared-requires c κs = search needs
 
--- src/named.rt:58:5
 enum-there-requires : tie.Need-enum-there-requires
 enum-there-requires c κs = search needs
 
--- src/named.rt:55:1
 returns : tie.Need-returns
 returns c = search named-laws
 

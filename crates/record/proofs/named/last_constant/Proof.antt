@@ -7,15 +7,12 @@ use Rattle.record.proofs.named.last_constant.Lts as lts
 use Rattle.record.proofs.index.find_last.Reads as find-last-reads
 use Rattle.record.proofs.named.constant_there.Reads as constant-there-reads
 
--- src/named.rt:44:28
 find-last-requires : tie.Need-find-last-requires
 find-last-requires c κs = search needs
 
--- src/named.rt:44:5
 constant-there-requires : tie.Need-constant-there-requires
 constant-there-requires c κs = search needs
 
--- src/named.rt:41:1
 returns : tie.Need-returns
 returns c = search named-laws
 

@@ -9,35 +9,27 @@ use Rattle.record.proofs.command.key_at.Reads as key-at-reads
 use Rattle.record.proofs.cut.from.Reads as from-reads
 use Rattle.record.proofs.index.find_last.Reads as find-last-reads
 
--- src/named.rt:74:36
 find-last-requires : tie.Need-find-last-requires
 find-last-requires c κs = search needs
 
--- src/named.rt:74:20
 enum-known-place : tie.Need-enum-known-place
 enum-known-place c = search needs
 
--- src/named.rt:75:9
 enum-told : tie.Need-enum-told
 enum-told c = search needs
 
--- src/named.rt:75:9
 returns : tie.Need-returns
 returns c = search last-unstored-laws
 
--- src/named.rt:77:37
 from-requires : tie.Need-from-requires
 from-requires c κs = search needs
 
--- src/named.rt:77:30
 key-at-requires : tie.Need-key-at-requires
 key-at-requires c κs = search needs
 
--- src/named.rt:77:64
 place-requires : tie.Need-place-requires
 place-requires c κs = search needs
 
--- src/named.rt:71:1
 returns-2 : tie.Need-returns-2
 returns-2 c = search last-unstored-laws
 

@@ -6,11 +6,9 @@ use Rattle.record.proofs.operands.flag_at.Reads as reads
 use Rattle.record.proofs.operands.flag_at.Lts as lts
 use Rattle.record.proofs.le.byte_at.Reads as byte-at-reads
 
--- src/operands.rt:44:5
 byte-at-requires : tie.Need-byte-at-requires
 byte-at-requires c κs = search needs
 
--- src/operands.rt:41:1
 returns : tie.Need-returns
 unfolding flagAt
 returns c = cc

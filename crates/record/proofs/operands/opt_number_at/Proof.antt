@@ -7,27 +7,21 @@ use Rattle.record.proofs.operands.opt_number_at.Lts as lts
 use Rattle.record.proofs.le.byte_at.Reads as byte-at-reads
 use Rattle.record.proofs.le.u32_at.Reads as u32-at-reads
 
--- src/operands.rt:52:12
 byte-at-requires : tie.Need-byte-at-requires
 byte-at-requires c κs = search needs
 
--- src/operands.rt:53:52
 add-u32-at : tie.Need-add-u32-at
 add-u32-at c = search needs
 
--- src/operands.rt:53:38
 u32-at-requires : tie.Need-u32-at-requires
 u32-at-requires c κs = search needs
 
--- src/operands.rt:53:13
 returns : tie.Need-returns
 returns c = search operand-laws
 
--- src/operands.rt:48:1
 returns-2 : tie.Need-returns-2
 returns-2 c = search operand-laws
 
--- src/operands.rt:48:1
 returns-3 : tie.Need-returns-3
 returns-3 c = search operand-laws
 

@@ -4,15 +4,12 @@ use Rattle.record.proofs.operands.opt_text.Tie as tie
 use Rattle.record.proofs.operands.opt_text.Reads as reads
 use Rattle.record.proofs.operands.opt_text.Lts as lts
 
--- src/operands.rt:59:13
 returns : tie.Need-returns
 returns c = search opt-text-laws
 
--- src/operands.rt:54:1
 returns-2 : tie.Need-returns-2
 returns-2 c = search opt-text-laws
 
--- src/operands.rt:54:1
 returns-3 : tie.Need-returns-3
 returns-3 c = search opt-text-laws
 

@@ -7,15 +7,12 @@ use Rattle.record.proofs.operands.opt_text_at.Lts as lts
 use Rattle.record.proofs.operands.opt_text.Reads as opt-text-reads
 use Rattle.record.proofs.operands.text_at.Reads as text-at-reads
 
--- src/operands.rt:68:14
 text-at-requires : tie.Need-text-at-requires
 text-at-requires c κs = search needs
 
--- src/operands.rt:68:5
 opt-text-requires : tie.Need-opt-text-requires
 opt-text-requires c κs = search needs
 
--- src/operands.rt:65:1
 returns : tie.Need-returns
 returns c = search operand-laws
 

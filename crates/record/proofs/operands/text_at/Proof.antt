@@ -8,35 +8,27 @@ use Rattle.record.proofs.le.byte_at.Reads as byte-at-reads
 use Rattle.record.proofs.le.u16_at.Reads as u16-at-reads
 use Rattle.record.proofs.operands.whole_text.Reads as whole-text-reads
 
--- src/operands.rt:41:17
 sub-if2 : tie.Need-sub-if2
 sub-if2 c = search needs
 
--- src/operands.rt:42:13
 whole-text-requires : tie.Need-whole-text-requires
 whole-text-requires c κs = search needs
 
--- src/operands.rt:42:13
 returns : tie.Need-returns
 returns c = search needs
 
--- src/operands.rt:45:20
 u16-at-requires : tie.Need-u16-at-requires
 u16-at-requires c κs = search needs
 
--- src/operands.rt:46:33
 add-byte-at : tie.Need-add-byte-at
 add-byte-at c = search needs
 
--- src/operands.rt:46:18
 byte-at-requires : tie.Need-byte-at-requires
 byte-at-requires c κs = search needs
 
--- src/operands.rt:37:1
 returns-2 : tie.Need-returns-2
 returns-2 c = search operand-laws
 
--- src/operands.rt:37:1
 returns-3 : tie.Need-returns-3
 returns-3 c = search operand-laws
 

@@ -6,23 +6,18 @@ use Rattle.record.proofs.ownership.eight_clear.Reads as reads
 use Rattle.record.proofs.ownership.eight_clear.Lts as lts
 use Rattle.record.proofs.le.word.Reads as word-reads
 
--- src/ownership.rt:46:9
 returns : tie.Need-returns
 returns c = search eight-laws
 
--- src/ownership.rt:48:8
 sub-if2 : tie.Need-sub-if2
 sub-if2 c = search needs
 
--- src/ownership.rt:49:9
 returns-2 : tie.Need-returns-2
 returns-2 c = search eight-laws
 
--- src/ownership.rt:51:5
 word-requires : tie.Need-word-requires
 word-requires c κs = search needs
 
--- src/ownership.rt:42:1
 returns-3 : tie.Need-returns-3
 returns-3 c = search eight-laws
 

@@ -7,35 +7,27 @@ use Rattle.record.proofs.ownership.marked_by.Lts as lts
 use Rattle.record.proofs.ownership.marked_first.Reads as marked-first-reads
 use Rattle.record.proofs.ownership.marked_name.Reads as marked-name-reads
 
--- src/ownership.rt:114:26
 enum-told : tie.Need-enum-told
 enum-told c = search needs
 
--- src/ownership.rt:114:26
 marked-name-requires : tie.Need-marked-name-requires
 marked-name-requires c κs = search needs
 
--- src/ownership.rt:115:26
 enum-told-2 : tie.Need-enum-told-2
 enum-told-2 c = search needs
 
--- src/ownership.rt:116:22
 enum-known-lead : tie.Need-enum-known-lead
 enum-known-lead c = search needs
 
--- src/ownership.rt:116:32
 marked-first-requires : tie.Need-marked-first-requires
 marked-first-requires c κs = search needs
 
--- src/ownership.rt:109:1
 returns : tie.Need-returns
 returns c = search needs
 
--- src/ownership.rt:109:1
 returns-2 : tie.Need-returns-2
 returns-2 c = λ l. search lead-none
 
--- src/ownership.rt:109:1
 returns-3 : tie.Need-returns-3
 returns-3 c = λ l. search lead-told
 

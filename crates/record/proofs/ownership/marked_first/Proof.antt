@@ -8,27 +8,21 @@ use Rattle.record.proofs.le.byte_at.Reads as byte-at-reads
 use Rattle.record.proofs.ownership.marked_name.Reads as marked-name-reads
 use Rattle.record.proofs.ownership.refers_to.Reads as refers-to-reads
 
--- src/ownership.rt:73:9
 byte-at-requires : tie.Need-byte-at-requires
 byte-at-requires c κs = search needs
 
--- src/ownership.rt:75:9
 returns : tie.Need-returns
 returns c = λ l. search lead-later
 
--- src/ownership.rt:78:12
 refers-to-requires : tie.Need-refers-to-requires
 refers-to-requires c κs = search needs
 
--- src/ownership.rt:79:13
 returns-2 : tie.Need-returns-2
 returns-2 c = λ l. search lead-same
 
--- src/ownership.rt:82:5
 marked-name-requires : tie.Need-marked-name-requires
 marked-name-requires c κs = search needs
 
--- src/ownership.rt:62:1
 returns-3 : tie.Need-returns-3
 returns-3 c = search needs
 

@@ -15,63 +15,48 @@ Inv-loop stream pool marks name mark place₀ place = NoneTo stream pool marks n
 abbrev μ-loop : tie.MeasureT-loop
 μ-loop stream pool marks name mark place₀ place = length marks - place
 
--- src/ownership.rt:60:5
 loop-holds : tie.Need-loop-holds Inv-loop μ-loop
 loop-holds c = search none-yet
 
--- src/ownership.rt:61:12
 eight-clear-requires : tie.Need-eight-clear-requires Inv-loop μ-loop
 eight-clear-requires c κs = search needs
 
--- src/ownership.rt:62:13
 add-place : tie.Need-add-place Inv-loop μ-loop
 add-place c = search needs
 
--- src/ownership.rt:60:5
 loop-less : tie.Need-loop-less Inv-loop μ-loop
 loop-less c = search needs
 
--- src/ownership.rt:60:5
 loop-again : tie.Need-loop-again Inv-loop μ-loop
 loop-again c = search none-eight
 
--- src/ownership.rt:65:12
 shared-slice-read-if2 : tie.Need-shared-slice-read-if2 Inv-loop μ-loop
 shared-slice-read-if2 c = search needs
 
--- src/ownership.rt:66:13
 add-place-2 : tie.Need-add-place-2 Inv-loop μ-loop
 add-place-2 c = search needs
 
--- src/ownership.rt:60:5
 loop-less-2 : tie.Need-loop-less-2 Inv-loop μ-loop
 loop-less-2 c = search needs
 
--- src/ownership.rt:60:5
 loop-again-2 : tie.Need-loop-again-2 Inv-loop μ-loop
 loop-again-2 c = search none-marked
 
--- src/ownership.rt:69:12
 refers-to-requires : tie.Need-refers-to-requires Inv-loop μ-loop
 refers-to-requires c κs = search needs
 
--- src/ownership.rt:70:13
 returns : tie.Need-returns Inv-loop μ-loop
 returns c = search one-found
 
--- src/ownership.rt:72:9
 add-place-3 : tie.Need-add-place-3 Inv-loop μ-loop
 add-place-3 c = search needs
 
--- src/ownership.rt:60:5
 loop-less-3 : tie.Need-loop-less-3 Inv-loop μ-loop
 loop-less-3 c = search needs
 
--- src/ownership.rt:60:5
 loop-again-3 : tie.Need-loop-again-3 Inv-loop μ-loop
 loop-again-3 c = none-other _ _ _ _ _ _ (c .before .before .before .before .before .before .before .loop .inv) _ (c .before .refers-to .ensures) (c .if3 .left)
 
--- src/ownership.rt:55:1
 returns-2 : tie.Need-returns-2 Inv-loop μ-loop
 returns-2 c = search none-ends
 

@@ -6,15 +6,12 @@ use Rattle.record.proofs.ownership.owner_among.Lts as lts
 use Rattle.record.proofs.leads.lead_to.Reads as lead-to-reads
 use Rattle.record.proofs.ownership.owner_by.Reads as owner-by-reads
 
--- src/ownership.rt:186:9
 lead-to-requires : tie.Need-lead-to-requires
 lead-to-requires c κs = search needs
 
--- src/ownership.rt:187:5
 owner-by-requires : tie.Need-owner-by-requires
 owner-by-requires c κs = search needs
 
--- src/ownership.rt:175:1
 returns : tie.Need-returns
 returns c = λ g i l. c .owner-by .ensures g i (c .before .lead-to .ensures .by (g .index) _ l)
 

@@ -6,41 +6,33 @@ use Rattle.record.proofs.ownership.owner_by.Reads as reads
 use Rattle.record.proofs.ownership.owner_by.Lts as lts
 use Rattle.record.proofs.ownership.owner_in.Reads as owner-in-reads
 
--- src/ownership.rt:163:30
 owner-in-requires : tie.Need-owner-in-requires
 owner-in-requires c κs = search needs
 
--- src/ownership.rt:163:25
 enum-known-t : tie.Need-enum-known-t
 enum-known-t c = search needs
 
--- src/ownership.rt:164:9
 returns : tie.Need-returns
 returns c = λ g i l. search answer-first
 
 enum-told : tie.Need-enum-told
 enum-told c = search needs
 
--- src/ownership.rt:167:30
 owner-in-requires-2 : tie.Need-owner-in-requires-2
 owner-in-requires-2 c κs = search needs
 
--- src/ownership.rt:167:25
 enum-known-t-2 : tie.Need-enum-known-t-2
 enum-known-t-2 c = search needs
 
--- src/ownership.rt:168:9
 returns-2 : tie.Need-returns-2
 returns-2 c = λ g i l. search answer-second
 
 enum-told-2 : tie.Need-enum-told-2
 enum-told-2 c = search needs
 
--- src/ownership.rt:171:5
 owner-in-requires-3 : tie.Need-owner-in-requires-3
 owner-in-requires-3 c κs = search needs
 
--- src/ownership.rt:151:1
 returns-3 : tie.Need-returns-3
 returns-3 c = λ g i l. search answer-third
 

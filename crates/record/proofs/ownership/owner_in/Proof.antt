@@ -9,47 +9,36 @@ use Rattle.record.proofs.references.has_slot.Reads as has-slot-reads
 use Rattle.record.proofs.text.bytes_of.Reads as bytes-of-reads
 use Rattle.record.proofs.text.same.Reads as same-reads
 
--- src/ownership.rt:134:29
 enum-known-root : tie.Need-enum-known-root
 enum-known-root c = search needs
 
--- src/ownership.rt:135:9
 enum-told : tie.Need-enum-told
 enum-told c = search needs
 
--- src/ownership.rt:135:9
 returns : tie.Need-returns
 returns c = search owner-in-laws
 
--- src/ownership.rt:138:13
 bytes-of-requires : tie.Need-bytes-of-requires
 bytes-of-requires c κs = search needs
 
--- src/ownership.rt:138:8
 same-requires : tie.Need-same-requires
 same-requires c κs = search needs
 
--- src/ownership.rt:139:9
 returns-2 : tie.Need-returns-2
 returns-2 c = search owner-in-laws
 
--- src/ownership.rt:141:8
 has-slot-requires : tie.Need-has-slot-requires
 has-slot-requires c κs = search needs
 
--- src/ownership.rt:142:9
 returns-3 : tie.Need-returns-3
 returns-3 c = search owner-in-laws
 
--- src/ownership.rt:144:8
 marked-by-requires : tie.Need-marked-by-requires
 marked-by-requires c κs = search needs
 
--- src/ownership.rt:145:9
 returns-4 : tie.Need-returns-4
 returns-4 c = search owner-in-laws
 
--- src/ownership.rt:121:1
 returns-5 : tie.Need-returns-5
 returns-5 c = search owner-in-laws
 

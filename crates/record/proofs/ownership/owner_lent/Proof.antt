@@ -9,31 +9,24 @@ use Rattle.record.proofs.marks.mark_owners.Reads as mark-owners-reads
 use Rattle.record.proofs.ownership.owner_by.Reads as owner-by-reads
 use Rattle.record.proofs.versioned.versioned_structs.Reads as versioned-structs-reads
 
--- src/ownership.rt:197:5
 fill-index-requires : tie.Need-fill-index-requires
 fill-index-requires c κs = search needs
 
--- src/ownership.rt:198:9
 versioned-structs-requires : tie.Need-versioned-structs-requires
 versioned-structs-requires c κs = search needs
 
--- src/ownership.rt:199:5
 mark-owners-requires : tie.Need-mark-owners-requires
 mark-owners-requires c κs = search needs
 
--- src/ownership.rt:200:5
 owner-by-requires : tie.Need-owner-by-requires
 owner-by-requires c κs = search needs
 
--- src/ownership.rt:193:1
 same-length : tie.Need-same-length
 same-length c = search needs
 
--- src/ownership.rt:193:1
 same-length-2 : tie.Need-same-length-2
 same-length-2 c = search needs
 
--- src/ownership.rt:193:1
 returns : tie.Need-returns
 returns c = search answered-lent
 

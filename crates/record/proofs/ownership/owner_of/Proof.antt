@@ -7,23 +7,18 @@ use Rattle.record.proofs.ownership.owner_of.Lts as lts
 use Rattle.record.proofs.ownership.owner_long.Reads as owner-long-reads
 use Rattle.record.proofs.ownership.owner_short.Reads as owner-short-reads
 
--- src/ownership.rt:228:9
 owner-short-requires : tie.Need-owner-short-requires
 owner-short-requires c κs = search needs
 
--- src/ownership.rt:228:9
 returns : tie.Need-returns
 returns c = found-within _ _ _ _ (search needs) (search needs)
 
--- src/ownership.rt:231:9
 returns-2 : tie.Need-returns-2
 returns-2 c = search found-beyond
 
--- src/ownership.rt:233:5
 owner-long-requires : tie.Need-owner-long-requires
 owner-long-requires c κs = search needs
 
--- src/ownership.rt:224:1
 returns-3 : tie.Need-returns-3
 returns-3 c = found-within _ _ _ _ (search needs) (search needs)
 

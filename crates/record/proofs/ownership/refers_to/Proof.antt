@@ -9,51 +9,39 @@ use Rattle.record.proofs.marks.reference_at.Reads as reference-at-reads
 use Rattle.record.proofs.operands.opt_text_at.Reads as opt-text-at-reads
 use Rattle.record.proofs.references.is_text.Reads as is-text-reads
 
--- src/ownership.rt:31:9
 from-requires : tie.Need-from-requires
 from-requires c κs = search needs
 
--- src/ownership.rt:32:22
 opt-text-at-requires : tie.Need-opt-text-at-requires
 opt-text-at-requires c κs = search needs
 
--- src/ownership.rt:32:8
 is-text-requires : tie.Need-is-text-requires
 is-text-requires c κs = search needs
 
--- src/ownership.rt:33:30
 reference-at-requires : tie.Need-reference-at-requires
 reference-at-requires c κs = search needs
 
--- src/ownership.rt:33:9
 is-text-requires-2 : tie.Need-is-text-requires-2
 is-text-requires-2 c κs = search needs
 
--- src/ownership.rt:33:9
 returns : tie.Need-returns
 returns c = search refers-laws
 
--- src/ownership.rt:35:22
 opt-text-at-requires-2 : tie.Need-opt-text-at-requires-2
 opt-text-at-requires-2 c κs = search needs
 
--- src/ownership.rt:35:8
 is-text-requires-3 : tie.Need-is-text-requires-3
 is-text-requires-3 c κs = search needs
 
--- src/ownership.rt:36:30
 reference-at-requires-2 : tie.Need-reference-at-requires-2
 reference-at-requires-2 c κs = search needs
 
--- src/ownership.rt:36:9
 is-text-requires-4 : tie.Need-is-text-requires-4
 is-text-requires-4 c κs = search needs
 
--- src/ownership.rt:36:9
 returns-2 : tie.Need-returns-2
 returns-2 c = search refers-laws
 
--- src/ownership.rt:28:1
 returns-3 : tie.Need-returns-3
 returns-3 c = search refers-laws
 

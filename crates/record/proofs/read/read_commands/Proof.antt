@@ -19,43 +19,33 @@ Inv-loop side stream pool cursor₀ cursor = outcomeOf (parsedFrom side stream (
 abbrev μ-loop : tie.MeasureT-loop
 μ-loop side stream pool cursor₀ cursor = length stream - cursor .at
 
--- src/read.rt:32:9
 new-requires : tie.Need-new-requires Inv-loop μ-loop
 new-requires c κs = search needs
 
--- src/read.rt:33:5
 loop-holds : tie.Need-loop-holds Inv-loop μ-loop
 loop-holds c = rw (c .new .ensures)
 
--- src/read.rt:34:15
 judged-requires : tie.Need-judged-requires Inv-loop μ-loop
 judged-requires c κs = search needs
 
--- src/read.rt:35:29
 enum-known-after : tie.Need-enum-known-after Inv-loop μ-loop
 enum-known-after c = search needs
 
--- src/read.rt:33:5
 loop-less : tie.Need-loop-less Inv-loop μ-loop
 loop-less c = search commands-nearer
 
--- src/read.rt:33:5
 loop-again : tie.Need-loop-again Inv-loop μ-loop
 loop-again c = search (kept, commands-laws)
 
--- src/read.rt:39:17
 enum-told : tie.Need-enum-told Inv-loop μ-loop
 enum-told c = search needs
 
--- src/read.rt:39:17
 returns : tie.Need-returns Inv-loop μ-loop
 returns c = search (ended, commands-laws)
 
--- src/read.rt:41:29
 enum-known-refusal : tie.Need-enum-known-refusal Inv-loop μ-loop
 enum-known-refusal c = search needs
 
--- src/read.rt:42:17
 returns-2 : tie.Need-returns-2 Inv-loop μ-loop
 returns-2 c = search (ended, commands-laws)
 

@@ -8,60 +8,48 @@ use Rattle.record.proofs.letters.odd_letter.Reads as odd-letter-reads
 use Rattle.record.proofs.read.read_commands.Reads as read-commands-reads
 use Rattle.record.proofs.bound.vast_type.Reads as vast-type-reads
 
--- src/read.rt:53:9
 returns : tie.Need-returns
 returns c = search read-long
 
--- src/read.rt:56:9
 returns-2 : tie.Need-returns-2
 returns-2 c = search read-wide
 
--- src/read.rt:58:30
 odd-letter-requires : tie.Need-odd-letter-requires
 odd-letter-requires c κs = search needs
 
--- src/read.rt:58:25
 enum-known-i : tie.Need-enum-known-i
 enum-known-i c = search needs
 
--- src/read.rt:59:9
 returns-3 : tie.Need-returns-3
 returns-3 c = search read-letter
 
 enum-told : tie.Need-enum-told
 enum-told c = search needs
 
--- src/read.rt:61:47
 read-commands-requires : tie.Need-read-commands-requires
 read-commands-requires c κs = search needs
 
--- src/read.rt:61:29
 enum-known-refusal : tie.Need-enum-known-refusal
 enum-known-refusal c = search needs
 
--- src/read.rt:62:9
 returns-4 : tie.Need-returns-4
 returns-4 c = search read-refused
 
 enum-told-2 : tie.Need-enum-told-2
 enum-told-2 c = search needs
 
--- src/read.rt:64:34
 vast-type-requires : tie.Need-vast-type-requires
 vast-type-requires c κs = search needs
 
--- src/read.rt:64:25
 enum-known-place : tie.Need-enum-known-place
 enum-known-place c = search needs
 
--- src/read.rt:65:9
 returns-5 : tie.Need-returns-5
 returns-5 c = search read-vast
 
 enum-told-3 : tie.Need-enum-told-3
 enum-told-3 c = search needs
 
--- src/read.rt:49:1
 returns-6 : tie.Need-returns-6
 returns-6 c = search read-whole
 

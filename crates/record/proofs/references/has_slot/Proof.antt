@@ -8,42 +8,33 @@ use Rattle.record.proofs.cut.from.Reads as from-reads
 use Rattle.record.proofs.index.find_declared.Reads as find-declared-reads
 use Rattle.record.proofs.operands.opt_text_at.Reads as opt-text-at-reads
 
--- src/references.rt:39:32
 find-declared-requires : tie.Need-find-declared-requires
 find-declared-requires c κs = search needs
 
--- src/references.rt:39:20
 enum-known-place : tie.Need-enum-known-place
 enum-known-place c = search needs
 
--- src/references.rt:40:9
 enum-told : tie.Need-enum-told
 enum-told c = search needs
 
--- src/references.rt:40:9
 returns : tie.Need-returns
 returns c = search has-slot-laws
 
--- src/references.rt:42:28
 from-requires : tie.Need-from-requires
 from-requires c κs = search needs
 
--- src/references.rt:42:9
 opt-text-at-requires : tie.Need-opt-text-at-requires
 opt-text-at-requires c κs = search needs
 
 enum-told-2 : tie.Need-enum-told-2
 enum-told-2 c = search needs
 
--- src/references.rt:44:9
 enum-told-3 : tie.Need-enum-told-3
 enum-told-3 c = search needs
 
--- src/references.rt:44:9
 returns-2 : tie.Need-returns-2
 returns-2 c = search has-slot-laws
 
--- src/references.rt:36:1
 returns-3 : tie.Need-returns-3
 returns-3 c = search has-slot-laws
 

@@ -7,27 +7,21 @@ use Rattle.record.proofs.references.is_text.Lts as lts
 use Rattle.record.proofs.text.bytes_of.Reads as bytes-of-reads
 use Rattle.record.proofs.text.same.Reads as same-reads
 
--- src/references.rt:58:24
 enum-known-given : tie.Need-enum-known-given
 enum-known-given c = search needs
 
--- src/references.rt:59:9
 enum-told : tie.Need-enum-told
 enum-told c = search needs
 
--- src/references.rt:59:9
 returns : tie.Need-returns
 returns c = search is-text-laws
 
--- src/references.rt:61:10
 bytes-of-requires : tie.Need-bytes-of-requires
 bytes-of-requires c κs = search needs
 
--- src/references.rt:61:5
 same-requires : tie.Need-same-requires
 same-requires c κs = search needs
 
--- src/references.rt:55:1
 returns-2 : tie.Need-returns-2
 returns-2 c = search is-text-laws
 

@@ -9,35 +9,27 @@ use Rattle.record.proofs.operands.opt_text_at.Reads as opt-text-at-read
 use Rattle.record.proofs.operands.text_at.Reads as text-at-reads
 use Rattle.record.proofs.text.bytes_of.Reads as bytes-of-reads
 
--- src/references.rt:27:39
 text-at-requires : tie.Need-text-at-requires
 text-at-requires c κs = search needs
 
--- src/references.rt:27:24
 bytes-of-requires : tie.Need-bytes-of-requires
 bytes-of-requires c κs = search needs
 
--- src/references.rt:27:9
 kind-of-requires : tie.Need-kind-of-requires
 kind-of-requires c κs = search needs
 
--- src/references.rt:29:70
 opt-text-at-requires : tie.Need-opt-text-at-requires
 opt-text-at-requires c κs = search needs
 
--- src/references.rt:30:59
 opt-text-at-requires-2 : tie.Need-opt-text-at-requires-2
 opt-text-at-requires-2 c κs = search needs
 
--- src/references.rt:24:1
 returns : tie.Need-returns
 returns c = search reference-laws
 
--- src/references.rt:24:1
 returns-2 : tie.Need-returns-2
 returns-2 c = search reference-laws
 
--- src/references.rt:24:1
 returns-3 : tie.Need-returns-3
 returns-3 c = search reference-laws
 

@@ -18,47 +18,36 @@ Inv-loop rows word at₀ at = (at ≤ length rows) × (primSize (scalarsOf rows)
 abbrev μ-loop : tie.MeasureT-loop
 μ-loop rows word at₀ at = length rows - at
 
--- src/scalars.rt:47:5
 loop-holds : tie.Need-loop-holds Inv-loop μ-loop
 loop-holds c = (search needs, search prim-begin)
 
--- src/scalars.rt:47:16
 sub-loop : tie.Need-sub-loop Inv-loop μ-loop
 sub-loop c = search needs
 
--- src/scalars.rt:48:12
 row-is-requires : tie.Need-row-is-requires Inv-loop μ-loop
 row-is-requires c κs = search needs
 
--- src/scalars.rt:49:30
 add-wide : tie.Need-add-wide Inv-loop μ-loop
 add-wide c = search needs
 
--- src/scalars.rt:49:25
 shared-slice-read-wide : tie.Need-shared-slice-read-wide Inv-loop μ-loop
 shared-slice-read-wide c = search needs
 
--- src/scalars.rt:49:13
 wide-requires : tie.Need-wide-requires Inv-loop μ-loop
 wide-requires c κs = search needs
 
--- src/scalars.rt:49:13
 returns : tie.Need-returns Inv-loop μ-loop
 returns c = search (ended, prim-laws)
 
--- src/scalars.rt:51:9
 add-at : tie.Need-add-at Inv-loop μ-loop
 add-at c = search needs
 
--- src/scalars.rt:47:5
 loop-less : tie.Need-loop-less Inv-loop μ-loop
 loop-less c = search needs
 
--- src/scalars.rt:47:5
 loop-again : tie.Need-loop-again Inv-loop μ-loop
 loop-again c = (search needs, search (kept, prim-laws))
 
--- src/scalars.rt:43:1
 returns-2 : tie.Need-returns-2 Inv-loop μ-loop
 returns-2 c = search (ended, prim-laws)
 

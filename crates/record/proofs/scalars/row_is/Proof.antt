@@ -6,39 +6,30 @@ use Rattle.record.proofs.scalars.row_is.Reads as reads
 use Rattle.record.proofs.scalars.row_is.Lts as lts
 use Rattle.record.proofs.scalars.row_spells.Reads as row-spells-reads
 
--- src/scalars.rt:40:9
 returns : tie.Need-returns
 returns c = search row-short
 
--- src/scalars.rt:43:17
 add-if3 : tie.Need-add-if3
 add-if3 c = search needs
 
--- src/scalars.rt:43:17
 sub-if3 : tie.Need-sub-if3
 sub-if3 c = search needs
 
--- src/scalars.rt:43:12
 shared-slice-read-if3 : tie.Need-shared-slice-read-if3
 shared-slice-read-if3 c = search needs
 
--- src/scalars.rt:43:37
 sub-if3-2 : tie.Need-sub-if3-2
 sub-if3-2 c = search needs
 
--- src/scalars.rt:43:32
 shared-slice-read-if3-2 : tie.Need-shared-slice-read-if3-2
 shared-slice-read-if3-2 c = search needs
 
--- src/scalars.rt:44:13
 returns-2 : tie.Need-returns-2
 returns-2 c = row-other (c .before .before .before .before .before .before .before .args .rows .now) (c .before .before .before .before .before .before .before .args .word .now) _ (c .before .before .before .if2 .taken) (c .before .before .before .before .if1 .left) (c .if3 .taken)
 
--- src/scalars.rt:47:5
 row-spells-requires : tie.Need-row-spells-requires
 row-spells-requires c κs = search needs
 
--- src/scalars.rt:34:1
 returns-3 : tie.Need-returns-3
 returns-3 c = search needs
 

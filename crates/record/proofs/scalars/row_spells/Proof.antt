@@ -17,78 +17,62 @@ Inv-loop rows at word n i₀ i = (i ≤ length word) × (eqs (beforeZero (take 8
 abbrev μ-loop : tie.MeasureT-loop
 μ-loop rows at word n i₀ i = length word - i
 
--- src/scalars.rt:15:5
 loop-holds : tie.Need-loop-holds Inv-loop μ-loop
 loop-holds c = (search needs, search needs)
 
--- src/scalars.rt:16:17
 add-if1 : tie.Need-add-if1 Inv-loop μ-loop
 add-if1 c = search needs
 
--- src/scalars.rt:16:12
 shared-slice-read-if1 : tie.Need-shared-slice-read-if1 Inv-loop μ-loop
 shared-slice-read-if1 c = search needs
 
--- src/scalars.rt:17:13
 returns : tie.Need-returns Inv-loop μ-loop
 returns c =
     ended (c .before .before .before .loop .inv .1)
     (row-zero (c .before .before .before .before .args .rows .now) (c .before .before .before .before .args .at) (c .before .before .before .before .pre .0) (c .before .before .before .before .args .word .now) (c .before .before .before .before .pre .1) (c .before .before .before .loop .i) (c .before .before .loop-test .taken) (c .if1 .taken))
 
--- src/scalars.rt:19:17
 add-if2 : tie.Need-add-if2 Inv-loop μ-loop
 add-if2 c = search needs
 
--- src/scalars.rt:19:12
 shared-slice-read-if2 : tie.Need-shared-slice-read-if2 Inv-loop μ-loop
 shared-slice-read-if2 c = search needs
 
--- src/scalars.rt:19:28
 shared-slice-read-if2-2 : tie.Need-shared-slice-read-if2-2 Inv-loop μ-loop
 shared-slice-read-if2-2 c = search needs
 
--- src/scalars.rt:20:13
 returns-2 : tie.Need-returns-2 Inv-loop μ-loop
 returns-2 c =
     ended (c .before .before .before .before .before .before .loop .inv .1)
     (row-differs (c .before .before .before .before .before .before .before .args .rows .now) (c .before .before .before .before .before .before .before .args .at) (c .before .before .before .before .before .before .before .pre .0) (c .before .before .before .before .before .before .before .args .word .now) (c .before .before .before .before .before .before .before .pre .1) (c .before .before .before .before .before .before .loop .i) (c .before .before .before .before .before .loop-test .taken) (c .before .before .before .if1 .left) (c .if2 .taken))
 
--- src/scalars.rt:22:9
 add-i : tie.Need-add-i Inv-loop μ-loop
 add-i c = search needs
 
--- src/scalars.rt:15:5
 loop-less : tie.Need-loop-less Inv-loop μ-loop
 loop-less c = search needs
 
--- src/scalars.rt:15:5
 loop-again : tie.Need-loop-again Inv-loop μ-loop
 loop-again c = (
   search needs,
   kept (c .before .before .before .before .before .before .loop .inv .1) (row-next (c .before .before .before .before .before .before .before .args .rows .now) (c .before .before .before .before .before .before .before .args .at) (c .before .before .before .before .before .before .before .pre .0) (c .before .before .before .before .before .before .before .args .word .now) (c .before .before .before .before .before .before .before .pre .1) (c .before .before .before .before .before .before .loop .i) (c .before .before .before .before .before .loop-test .taken) (c .before .before .before .if1 .left) (c .if2 .left)),
 )
 
--- src/scalars.rt:25:9
 returns-3 : tie.Need-returns-3 Inv-loop μ-loop
 returns-3 c =
     ended (c .before .before .loop .inv .1)
     (row-full (c .before .before .before .args .rows .now) (c .before .before .before .args .at) (c .before .before .before .pre .0) (c .before .before .before .args .word .now) (c .before .before .before .pre .1) (c .before .before .loop .i) (c .before .loop-test .left) (c .if3 .taken))
 
--- src/scalars.rt:27:13
 add-if4 : tie.Need-add-if4 Inv-loop μ-loop
 add-if4 c = search needs
 
--- src/scalars.rt:27:8
 shared-slice-read-if4 : tie.Need-shared-slice-read-if4 Inv-loop μ-loop
 shared-slice-read-if4 c = search needs
 
--- src/scalars.rt:28:9
 returns-4 : tie.Need-returns-4 Inv-loop μ-loop
 returns-4 c =
     ended (c .before .before .before .before .loop .inv .1)
     (row-longer (c .before .before .before .before .before .args .rows .now) (c .before .before .before .before .before .args .at) (c .before .before .before .before .before .pre .0) (c .before .before .before .before .before .args .word .now) (c .before .before .before .before .before .pre .1) (c .before .before .before .before .loop .i) (c .before .before .before .loop-test .left) (c .before .before .before .before .loop .inv .0) (c .before .before .if3 .left) (c .if4 .taken))
 
--- src/scalars.rt:9:1
 returns-5 : tie.Need-returns-5 Inv-loop μ-loop
 returns-5 c =
     ended (c .before .before .before .before .loop .inv .1)

@@ -6,19 +6,15 @@ use Rattle.record.proofs.seek.after_at.Reads as reads
 use Rattle.record.proofs.seek.after_at.Lts as lts
 use Rattle.record.proofs.seek.end_of.Reads as end-of-reads
 
--- src/seek.rt:46:9
 returns : tie.Need-returns
 returns c = search after-end
 
--- src/seek.rt:48:19
 shared-slice-read-end-of : tie.Need-shared-slice-read-end-of
 shared-slice-read-end-of c = search needs
 
--- src/seek.rt:48:5
 end-of-requires : tie.Need-end-of-requires
 end-of-requires c κs = search needs
 
--- src/seek.rt:42:1
 returns-2 : tie.Need-returns-2
 returns-2 c = search needs
 

@@ -6,31 +6,24 @@ use Rattle.record.proofs.seek.end_of.Reads as reads
 use Rattle.record.proofs.seek.end_of.Lts as lts
 use Rattle.record.proofs.command.width_of.Reads as width-of-reads
 
--- src/seek.rt:29:9
 returns : tie.Need-returns
 returns c = search after-laws
 
--- src/seek.rt:31:9
 width-of-requires : tie.Need-width-of-requires
 width-of-requires c κs = search needs
 
--- src/seek.rt:33:9
 returns-2 : tie.Need-returns-2
 returns-2 c = search after-laws
 
--- src/seek.rt:35:8
 sub-if3 : tie.Need-sub-if3
 sub-if3 c = search needs
 
--- src/seek.rt:36:9
 returns-3 : tie.Need-returns-3
 returns-3 c = search after-laws
 
--- src/seek.rt:38:5
 add-result : tie.Need-add-result
 add-result c = search needs
 
--- src/seek.rt:24:1
 returns-4 : tie.Need-returns-4
 returns-4 c = search after-laws
 

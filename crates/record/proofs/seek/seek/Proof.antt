@@ -15,51 +15,39 @@ Inv-loop s from number between at₀ at = Passing s between number from at
 abbrev μ-loop : tie.MeasureT-loop
 μ-loop s from number between at₀ at = length s - at
 
--- src/seek.rt:80:5
 loop-holds : tie.Need-loop-holds Inv-loop μ-loop
 loop-holds c = search passing-here
 
--- src/seek.rt:82:13
 returns : tie.Need-returns Inv-loop μ-loop
 returns c = search seek-laws
 
--- src/seek.rt:84:20
 shared-slice-read-byte : tie.Need-shared-slice-read-byte Inv-loop μ-loop
 shared-slice-read-byte c = search needs
 
--- src/seek.rt:86:17
 end-of-requires : tie.Need-end-of-requires Inv-loop μ-loop
 end-of-requires c κs = search needs
 
--- src/seek.rt:88:17
 returns-2 : tie.Need-returns-2 Inv-loop μ-loop
 returns-2 c = search seek-laws
 
--- src/seek.rt:90:13
 returns-3 : tie.Need-returns-3 Inv-loop μ-loop
 returns-3 c = search seek-laws
 
--- src/seek.rt:92:13
 end-of-requires-2 : tie.Need-end-of-requires-2 Inv-loop μ-loop
 end-of-requires-2 c κs = search needs
 
--- src/seek.rt:94:13
 returns-4 : tie.Need-returns-4 Inv-loop μ-loop
 returns-4 c = search seek-laws
 
--- src/seek.rt:96:12
 passes-requires : tie.Need-passes-requires Inv-loop μ-loop
 passes-requires c κs = search needs
 
--- src/seek.rt:80:5
 loop-less : tie.Need-loop-less Inv-loop μ-loop
 loop-less c = search after-nearer
 
--- src/seek.rt:80:5
 loop-again : tie.Need-loop-again Inv-loop μ-loop
 loop-again c = search seek-laws
 
--- src/seek.rt:99:13
 returns-5 : tie.Need-returns-5 Inv-loop μ-loop
 returns-5 c = search seek-laws
 

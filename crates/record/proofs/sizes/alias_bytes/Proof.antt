@@ -8,31 +8,24 @@ use Rattle.record.proofs.sizes.alias_size.Reads as alias-size-reads
 use Rattle.record.proofs.sizes.or_else.Reads as or-else-reads
 use Rattle.record.proofs.text.bytes_of.Reads as bytes-of-reads
 
--- src/sizes.rt:128:24
 enum-known-name : tie.Need-enum-known-name
 enum-known-name c = search needs
 
--- src/sizes.rt:129:9
 enum-told : tie.Need-enum-told
 enum-told c = search needs
 
--- src/sizes.rt:129:9
 returns : tie.Need-returns
 returns c = λ f. search sized-laws
 
--- src/sizes.rt:131:44
 bytes-of-requires : tie.Need-bytes-of-requires
 bytes-of-requires c κs = search needs
 
--- src/sizes.rt:131:13
 alias-size-requires : tie.Need-alias-size-requires
 alias-size-requires c κs = search needs
 
--- src/sizes.rt:131:5
 or-else-requires : tie.Need-or-else-requires
 or-else-requires c κs = search needs
 
--- src/sizes.rt:125:1
 returns-2 : tie.Need-returns-2
 returns-2 c = λ f. search (sized-laws, c .before .alias-size .ensures f)
 

@@ -8,27 +8,21 @@ use Rattle.record.proofs.sizes.number_at.Reads as number-at-reads
 use Rattle.record.proofs.sizes.product.Reads as product-reads
 use Rattle.record.proofs.sizes.scalar_at.Reads as scalar-at-reads
 
--- src/sizes.rt:190:24
 scalar-at-requires : tie.Need-scalar-at-requires
 scalar-at-requires c κs = search needs
 
--- src/sizes.rt:190:54
 number-at-requires : tie.Need-number-at-requires
 number-at-requires c κs = search needs
 
--- src/sizes.rt:190:9
 product-requires : tie.Need-product-requires
 product-requires c κs = search needs
 
--- src/sizes.rt:191:19
 number-at-requires-2 : tie.Need-number-at-requires-2
 number-at-requires-2 c κs = search needs
 
--- src/sizes.rt:191:5
 product-requires-2 : tie.Need-product-requires-2
 product-requires-2 c κs = search needs
 
--- src/sizes.rt:187:1
 returns : tie.Need-returns
 returns c = search array2d-is
 

@@ -8,31 +8,24 @@ use Rattle.record.proofs.sizes.bitfield_size.Reads as bitfield-size-rea
 use Rattle.record.proofs.sizes.or_else.Reads as or-else-reads
 use Rattle.record.proofs.text.bytes_of.Reads as bytes-of-reads
 
--- src/sizes.rt:138:24
 enum-known-name : tie.Need-enum-known-name
 enum-known-name c = search needs
 
--- src/sizes.rt:139:9
 enum-told : tie.Need-enum-told
 enum-told c = search needs
 
--- src/sizes.rt:139:9
 returns : tie.Need-returns
 returns c = λ f. search sized-laws
 
--- src/sizes.rt:141:41
 bytes-of-requires : tie.Need-bytes-of-requires
 bytes-of-requires c κs = search needs
 
--- src/sizes.rt:141:13
 bitfield-size-requires : tie.Need-bitfield-size-requires
 bitfield-size-requires c κs = search needs
 
--- src/sizes.rt:141:5
 or-else-requires : tie.Need-or-else-requires
 or-else-requires c κs = search needs
 
--- src/sizes.rt:135:1
 returns-2 : tie.Need-returns-2
 returns-2 c = λ f. search (sized-laws, c .before .bitfield-size .ensures f)
 

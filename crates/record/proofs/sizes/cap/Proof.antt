@@ -5,15 +5,12 @@ use Rattle.record.proofs.sizes.cap.Tie as tie
 use Rattle.record.proofs.sizes.cap.Reads as reads
 use Rattle.record.proofs.sizes.cap.Lts as lts
 
--- src/sizes.rt:34:32
 add-result : tie.Need-add-result
 add-result c = search needs
 
--- src/sizes.rt:31:1
 returns : tie.Need-returns
 returns c = search cap-laws
 
--- src/sizes.rt:31:1
 returns-2 : tie.Need-returns-2
 returns-2 c = search cap-laws
 

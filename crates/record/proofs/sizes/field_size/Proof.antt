@@ -18,231 +18,174 @@ use Rattle.record.proofs.sizes.scalar_at.Reads as scalar-at-reads
 use Rattle.record.proofs.sizes.wide.Reads as wide-reads
 use Rattle.record.proofs.text.bytes_of.Reads as bytes-of-reads
 
--- src/sizes.rt:166:34
 text-at-requires : tie.Need-text-at-requires
 text-at-requires c κs = search needs
 
--- src/sizes.rt:166:19
 bytes-of-requires : tie.Need-bytes-of-requires
 bytes-of-requires c κs = search needs
 
--- src/sizes.rt:166:11
 kind-of-requires : tie.Need-kind-of-requires
 kind-of-requires c κs = search needs
 
--- src/sizes.rt:167:29
 enum-told : tie.Need-enum-told
 enum-told c = search needs
 
--- src/sizes.rt:167:29
 scalar-at-requires : tie.Need-scalar-at-requires
 scalar-at-requires c κs = search needs
 
--- src/sizes.rt:167:25
 cap-requires : tie.Need-cap-requires
 cap-requires c κs = search needs
 
--- src/sizes.rt:168:57
 enum-told-2 : tie.Need-enum-told-2
 enum-told-2 c = search needs
 
--- src/sizes.rt:168:57
 opt-text-at-requires : tie.Need-opt-text-at-requires
 opt-text-at-requires c κs = search needs
 
--- src/sizes.rt:168:32
 enum-bytes-requires : tie.Need-enum-bytes-requires
 enum-bytes-requires c κs = search needs
 
--- src/sizes.rt:168:27
 wide-requires : tie.Need-wide-requires
 wide-requires c κs = search needs
 
--- src/sizes.rt:168:23
 cap-requires-2 : tie.Need-cap-requires-2
 cap-requires-2 c κs = search needs
 
--- src/sizes.rt:169:69
 enum-told-3 : tie.Need-enum-told-3
 enum-told-3 c = search needs
 
--- src/sizes.rt:169:69
 opt-text-at-requires-2 : tie.Need-opt-text-at-requires-2
 opt-text-at-requires-2 c κs = search needs
 
--- src/sizes.rt:169:37
 alias-bytes-requires : tie.Need-alias-bytes-requires
 alias-bytes-requires c κs = search needs
 
--- src/sizes.rt:169:32
 wide-requires-2 : tie.Need-wide-requires-2
 wide-requires-2 c κs = search needs
 
--- src/sizes.rt:169:28
 cap-requires-3 : tie.Need-cap-requires-3
 cap-requires-3 c κs = search needs
 
--- src/sizes.rt:170:65
 enum-told-4 : tie.Need-enum-told-4
 enum-told-4 c = search needs
 
--- src/sizes.rt:170:65
 opt-text-at-requires-3 : tie.Need-opt-text-at-requires-3
 opt-text-at-requires-3 c κs = search needs
 
--- src/sizes.rt:170:36
 bitfield-bytes-requires : tie.Need-bitfield-bytes-requires
 bitfield-bytes-requires c κs = search needs
 
--- src/sizes.rt:170:31
 wide-requires-3 : tie.Need-wide-requires-3
 wide-requires-3 c κs = search needs
 
--- src/sizes.rt:170:27
 cap-requires-4 : tie.Need-cap-requires-4
 cap-requires-4 c κs = search needs
 
--- src/sizes.rt:171:38
 enum-told-5 : tie.Need-enum-told-5
 enum-told-5 c = search needs
 
--- src/sizes.rt:171:38
 scalar-at-requires-2 : tie.Need-scalar-at-requires-2
 scalar-at-requires-2 c κs = search needs
 
--- src/sizes.rt:171:68
 number-at-requires : tie.Need-number-at-requires
 number-at-requires c κs = search needs
 
--- src/sizes.rt:171:30
 product-requires : tie.Need-product-requires
 product-requires c κs = search needs
 
--- src/sizes.rt:172:32
 enum-told-6 : tie.Need-enum-told-6
 enum-told-6 c = search needs
 
--- src/sizes.rt:172:32
 array2d-size-requires : tie.Need-array2d-size-requires
 array2d-size-requires c κs = search needs
 
--- src/sizes.rt:173:26
 enum-told-7 : tie.Need-enum-told-7
 enum-told-7 c = search needs
 
--- src/sizes.rt:174:28
 enum-told-8 : tie.Need-enum-told-8
 enum-told-8 c = search needs
 
--- src/sizes.rt:175:33
 enum-told-9 : tie.Need-enum-told-9
 enum-told-9 c = search needs
 
--- src/sizes.rt:176:36
 enum-told-10 : tie.Need-enum-told-10
 enum-told-10 c = search needs
 
--- src/sizes.rt:177:31
 enum-told-11 : tie.Need-enum-told-11
 enum-told-11 c = search needs
 
--- src/sizes.rt:178:31
 enum-told-12 : tie.Need-enum-told-12
 enum-told-12 c = search needs
 
--- src/sizes.rt:179:28
 enum-told-13 : tie.Need-enum-told-13
 enum-told-13 c = search needs
 
--- src/sizes.rt:180:24
 enum-told-14 : tie.Need-enum-told-14
 enum-told-14 c = search needs
 
--- src/sizes.rt:181:30
 enum-told-15 : tie.Need-enum-told-15
 enum-told-15 c = search needs
 
--- src/sizes.rt:181:30
 number-at-requires-2 : tie.Need-number-at-requires-2
 number-at-requires-2 c κs = search needs
 
--- src/sizes.rt:181:26
 cap-requires-5 : tie.Need-cap-requires-5
 cap-requires-5 c κs = search needs
 
--- src/sizes.rt:182:23
 enum-told-16 : tie.Need-enum-told-16
 enum-told-16 c = search needs
 
--- src/sizes.rt:183:24
 enum-told-17 : tie.Need-enum-told-17
 enum-told-17 c = search needs
 
--- src/sizes.rt:163:1
 returns : tie.Need-returns
 returns c = λ f. search shape-scalar
 
--- src/sizes.rt:163:1
 returns-2 : tie.Need-returns-2
 returns-2 c = λ f. search (shape-enum, c .before .before .enum-bytes .ensures f)
 
--- src/sizes.rt:163:1
 returns-3 : tie.Need-returns-3
 returns-3 c = λ f. search (shape-alias, c .before .before .alias-bytes .ensures f)
 
--- src/sizes.rt:163:1
 returns-4 : tie.Need-returns-4
 returns-4 c = λ f. search (shape-bitfield, c .before .before .bitfield-bytes .ensures f)
 
--- src/sizes.rt:163:1
 returns-5 : tie.Need-returns-5
 returns-5 c = λ f. search shape-array
 
--- src/sizes.rt:163:1
 returns-6 : tie.Need-returns-6
 returns-6 c = λ f. search shape-array2d
 
--- src/sizes.rt:163:1
 returns-7 : tie.Need-returns-7
 returns-7 c = λ f. search shape-CstrPtr
 
--- src/sizes.rt:163:1
 returns-8 : tie.Need-returns-8
 returns-8 c = λ f. search shape-StructPtr
 
--- src/sizes.rt:163:1
 returns-9 : tie.Need-returns-9
 returns-9 c = λ f. search shape-StructArrayPtr
 
--- src/sizes.rt:163:1
 returns-10 : tie.Need-returns-10
 returns-10 c = λ f. search shape-StructPtrArrayPtr
 
--- src/sizes.rt:163:1
 returns-11 : tie.Need-returns-11
 returns-11 c = λ f. search shape-TaggedFamPtr
 
--- src/sizes.rt:163:1
 returns-12 : tie.Need-returns-12
 returns-12 c = λ f. search shape-SimpleFamPtr
 
--- src/sizes.rt:163:1
 returns-13 : tie.Need-returns-13
 returns-13 c = λ f. search shape-OpaquePtr
 
--- src/sizes.rt:163:1
 returns-14 : tie.Need-returns-14
 returns-14 c = λ f. search shape-FnPtr
 
--- src/sizes.rt:163:1
 returns-15 : tie.Need-returns-15
 returns-15 c = λ f. search shape-padding
 
--- src/sizes.rt:163:1
 returns-16 : tie.Need-returns-16
 returns-16 c = λ f. search shape-Text
 
--- src/sizes.rt:163:1
 returns-17 : tie.Need-returns-17
 returns-17 c = λ f. search shape-Other
 

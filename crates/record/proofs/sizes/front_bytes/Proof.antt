@@ -6,15 +6,12 @@ use Rattle.record.proofs.sizes.front_bytes.Reads as reads
 use Rattle.record.proofs.sizes.front_bytes.Lts as lts
 use Rattle.record.proofs.sizes.enum_bytes.Reads as enum-bytes-reads
 
--- src/sizes.rt:131:30
 slice-aggregate-enum-bytes : tie.Need-slice-aggregate-enum-bytes
 slice-aggregate-enum-bytes c = search needs
 
--- src/sizes.rt:131:5
 enum-bytes-requires : tie.Need-enum-bytes-requires
 enum-bytes-requires c κs = search needs
 
--- src/sizes.rt:128:1
 returns : tie.Need-returns
 returns c = c .enum-bytes .ensures (no-index _ _)
 

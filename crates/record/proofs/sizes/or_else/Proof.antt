@@ -5,19 +5,15 @@ use Rattle.record.proofs.sizes.or_else.Tie as tie
 use Rattle.record.proofs.sizes.or_else.Reads as reads
 use Rattle.record.proofs.sizes.or_else.Lts as lts
 
--- src/sizes.rt:71:27
 enum-known-n : tie.Need-enum-known-n
 enum-known-n c = search needs
 
--- src/sizes.rt:72:9
 enum-told : tie.Need-enum-told
 enum-told c = search needs
 
--- src/sizes.rt:72:9
 returns : tie.Need-returns
 returns c = search or-laws
 
--- src/sizes.rt:68:1
 returns-2 : tie.Need-returns-2
 returns-2 c = search or-laws
 

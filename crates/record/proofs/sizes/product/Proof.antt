@@ -5,27 +5,21 @@ use Rattle.record.proofs.sizes.product.Tie as tie
 use Rattle.record.proofs.sizes.product.Reads as reads
 use Rattle.record.proofs.sizes.product.Lts as lts
 
--- src/sizes.rt:60:9
 returns : tie.Need-returns
 returns c = search product-laws
 
--- src/sizes.rt:62:8
 div-if2 : tie.Need-div-if2
 div-if2 c = search needs
 
--- src/sizes.rt:63:16
 add-result : tie.Need-add-result
 add-result c = search needs
 
--- src/sizes.rt:63:9
 returns-2 : tie.Need-returns-2
 returns-2 c = search product-laws
 
--- src/sizes.rt:65:5
 mul-result : tie.Need-mul-result
 mul-result c = search product-fits
 
--- src/sizes.rt:56:1
 returns-3 : tie.Need-returns-3
 returns-3 c = search product-laws
 

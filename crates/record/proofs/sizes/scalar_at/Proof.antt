@@ -8,19 +8,15 @@ use Rattle.record.proofs.operands.opt_text_at.Reads as opt-text-at-read
 use Rattle.record.proofs.sizes.scalar_bytes.Reads as scalar-bytes-reads
 use Rattle.record.proofs.sizes.wide.Reads as wide-reads
 
--- src/sizes.rt:152:35
 opt-text-at-requires : tie.Need-opt-text-at-requires
 opt-text-at-requires c κs = search needs
 
--- src/sizes.rt:152:10
 scalar-bytes-requires : tie.Need-scalar-bytes-requires
 scalar-bytes-requires c κs = search needs
 
--- src/sizes.rt:152:5
 wide-requires : tie.Need-wide-requires
 wide-requires c κs = search needs
 
--- src/sizes.rt:149:1
 returns : tie.Need-returns
 returns c = search scalar-at-is
 

@@ -8,36 +8,28 @@ use Rattle.record.proofs.sizes.scalar_bytes.Lts as lts
 use Rattle.record.proofs.scalars.prim_size.Reads as prim-size-reads
 use Rattle.record.proofs.text.bytes_of.Reads as bytes-of-reads
 
--- src/sizes.rt:108:24
 enum-known-word : tie.Need-enum-known-word
 enum-known-word c = search needs
 
--- src/sizes.rt:109:32
 enum-told : tie.Need-enum-told
 enum-told c = search needs
 
--- src/sizes.rt:109:32
 slice-aggregate-prim-size : tie.Need-slice-aggregate-prim-size
 slice-aggregate-prim-size c = search needs
 
--- src/sizes.rt:109:9
 prim-size-requires : tie.Need-prim-size-requires
 prim-size-requires c κs = search needs
 
--- src/sizes.rt:109:9
 returns : tie.Need-returns
 unfolding bytes
 returns c = search scalar-laws
 
--- src/sizes.rt:111:21
 bytes-of-requires : tie.Need-bytes-of-requires
 bytes-of-requires c κs = search needs
 
--- src/sizes.rt:111:5
 prim-size-requires-2 : tie.Need-prim-size-requires-2
 prim-size-requires-2 c κs = search needs
 
--- src/sizes.rt:105:1
 returns-2 : tie.Need-returns-2
 returns-2 c = search scalar-laws
 

@@ -6,15 +6,12 @@ use Rattle.record.proofs.sizes.size_unindexed.Reads as reads
 use Rattle.record.proofs.sizes.size_unindexed.Lts as lts
 use Rattle.record.proofs.sizes.field_size.Reads as field-size-reads
 
--- src/sizes.rt:197:36
 slice-aggregate-field-size : tie.Need-slice-aggregate-field-size
 slice-aggregate-field-size c = search needs
 
--- src/sizes.rt:197:5
 field-size-requires : tie.Need-field-size-requires
 field-size-requires c κs = search needs
 
--- src/sizes.rt:194:1
 returns : tie.Need-returns
 returns c = c .field-size .ensures (no-index _ _)
 

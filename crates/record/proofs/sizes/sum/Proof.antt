@@ -5,27 +5,21 @@ use Rattle.record.proofs.sizes.sum.Tie as tie
 use Rattle.record.proofs.sizes.sum.Reads as reads
 use Rattle.record.proofs.sizes.sum.Lts as lts
 
--- src/sizes.rt:47:16
 add-result : tie.Need-add-result
 add-result c = search needs
 
--- src/sizes.rt:47:9
 returns : tie.Need-returns
 returns c = search sum-laws
 
--- src/sizes.rt:50:16
 add-result-2 : tie.Need-add-result-2
 add-result-2 c = search needs
 
--- src/sizes.rt:50:9
 returns-2 : tie.Need-returns-2
 returns-2 c = search sum-laws
 
--- src/sizes.rt:52:5
 add-result-3 : tie.Need-add-result-3
 add-result-3 c = search needs
 
--- src/sizes.rt:43:1
 returns-3 : tie.Need-returns-3
 returns-3 c = search sum-laws
 

@@ -8,35 +8,27 @@ use Rattle.record.proofs.text.same_bytes.Reads as same-bytes-reads
 use Rattle.record.proofs.text.same_halves.Reads as same-halves-reads
 use Rattle.record.proofs.text.same_words.Reads as same-words-reads
 
--- src/text.rt:39:9
 returns : tie.Need-returns
 returns c = search same-length
 
--- src/text.rt:42:9
 same-words-requires : tie.Need-same-words-requires
 same-words-requires c κs = search needs
 
--- src/text.rt:42:9
 returns-2 : tie.Need-returns-2
 returns-2 c = search needs
 
--- src/text.rt:45:9
 same-halves-requires : tie.Need-same-halves-requires
 same-halves-requires c κs = search needs
 
--- src/text.rt:45:9
 returns-3 : tie.Need-returns-3
 returns-3 c = search needs
 
--- src/text.rt:48:9
 returns-4 : tie.Need-returns-4
 returns-4 c = search none-same
 
--- src/text.rt:50:5
 same-bytes-requires : tie.Need-same-bytes-requires
 same-bytes-requires c κs = search needs
 
--- src/text.rt:34:1
 returns-5 : tie.Need-returns-5
 returns-5 c = search needs
 

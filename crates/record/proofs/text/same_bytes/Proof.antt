@@ -5,47 +5,36 @@ use Rattle.record.proofs.text.same_bytes.Tie as tie
 use Rattle.record.proofs.text.same_bytes.Reads as reads
 use Rattle.record.proofs.text.same_bytes.Lts as lts
 
--- src/text.rt:94:16
 sub-last : tie.Need-sub-last
 sub-last c = search needs
 
--- src/text.rt:95:8
 shared-slice-read-if1 : tie.Need-shared-slice-read-if1
 shared-slice-read-if1 c = search needs
 
--- src/text.rt:95:19
 shared-slice-read-if1-2 : tie.Need-shared-slice-read-if1-2
 shared-slice-read-if1-2 c = search needs
 
--- src/text.rt:96:9
 returns : tie.Need-returns
 returns c = byte-differs _ _ _ (c .if1 .taken)
 
--- src/text.rt:98:8
 shared-slice-read-if2 : tie.Need-shared-slice-read-if2
 shared-slice-read-if2 c = search needs
 
--- src/text.rt:98:16
 shared-slice-read-if2-2 : tie.Need-shared-slice-read-if2-2
 shared-slice-read-if2-2 c = search needs
 
--- src/text.rt:99:9
 returns-2 : tie.Need-returns-2
 returns-2 c = byte-differs _ _ _ (c .if2 .taken)
 
--- src/text.rt:102:8
 shared-slice-read-if3 : tie.Need-shared-slice-read-if3
 shared-slice-read-if3 c = search needs
 
--- src/text.rt:102:21
 shared-slice-read-if3-2 : tie.Need-shared-slice-read-if3-2
 shared-slice-read-if3-2 c = search needs
 
--- src/text.rt:103:9
 returns-3 : tie.Need-returns-3
 returns-3 c = byte-differs _ _ _ (c .if3 .taken)
 
--- src/text.rt:89:1
 returns-4 : tie.Need-returns-4
 returns-4 c = search bytes-same
 

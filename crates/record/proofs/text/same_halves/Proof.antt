@@ -6,35 +6,27 @@ use Rattle.record.proofs.text.same_halves.Reads as reads
 use Rattle.record.proofs.text.same_halves.Lts as lts
 use Rattle.record.proofs.le.half.Reads as half-reads
 
--- src/text.rt:78:16
 sub-last : tie.Need-sub-last
 sub-last c = search needs
 
--- src/text.rt:79:8
 half-requires : tie.Need-half-requires
 half-requires c κs = search needs
 
--- src/text.rt:79:25
 half-requires-2 : tie.Need-half-requires-2
 half-requires-2 c κs = search needs
 
--- src/text.rt:80:9
 returns : tie.Need-returns
 returns c = search half-differs
 
--- src/text.rt:82:8
 half-requires-3 : tie.Need-half-requires-3
 half-requires-3 c κs = search needs
 
--- src/text.rt:82:22
 half-requires-4 : tie.Need-half-requires-4
 half-requires-4 c κs = search needs
 
--- src/text.rt:83:9
 returns-2 : tie.Need-returns-2
 returns-2 c = search half-differs
 
--- src/text.rt:74:1
 returns-3 : tie.Need-returns-3
 returns-3 c =
     halves-same _ _ (c .before .before .before .before .before .before .before .shared-slice-known .given) (c .before .before .before .before .before .before .shared-slice-known2 .given) _ _ _ _ _ (c .before .before .before .before .before .half .ensures .0) (c .before .before .before .before .half2 .ensures .0) (c .before .before .before .if1 .left)

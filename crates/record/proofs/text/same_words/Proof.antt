@@ -14,53 +14,41 @@ Inv-loop a b last i₀ i = Skipped a b i
 abbrev μ-loop : tie.MeasureT-loop
 μ-loop a b last i₀ i = last - i
 
--- src/text.rt:59:16
 sub-last : tie.Need-sub-last Inv-loop μ-loop
 sub-last c = search needs
 
--- src/text.rt:60:8
 word-requires : tie.Need-word-requires Inv-loop μ-loop
 word-requires c κs = search needs
 
--- src/text.rt:60:25
 word-requires-2 : tie.Need-word-requires-2 Inv-loop μ-loop
 word-requires-2 c κs = search needs
 
--- src/text.rt:61:9
 returns : tie.Need-returns Inv-loop μ-loop
 returns c = search word-differs
 
--- src/text.rt:64:5
 loop-holds : tie.Need-loop-holds Inv-loop μ-loop
 loop-holds c = skip-none _ _
 
--- src/text.rt:65:12
 word-requires-3 : tie.Need-word-requires-3 Inv-loop μ-loop
 word-requires-3 c κs = search needs
 
--- src/text.rt:65:26
 word-requires-4 : tie.Need-word-requires-4 Inv-loop μ-loop
 word-requires-4 c κs = search needs
 
--- src/text.rt:66:13
 returns-2 : tie.Need-returns-2 Inv-loop μ-loop
 returns-2 c = search word-differs
 
--- src/text.rt:68:9
 add-i : tie.Need-add-i Inv-loop μ-loop
 add-i c = search needs
 
--- src/text.rt:64:5
 loop-less : tie.Need-loop-less Inv-loop μ-loop
 loop-less c = search needs
 
--- src/text.rt:64:5
 loop-again : tie.Need-loop-again Inv-loop μ-loop
 loop-again c =
     word-more _ _ (c .before .before .before .before .before .before .before .before .before .shared-slice-known .given) (c .before .before .before .before .before .before .before .before .shared-slice-known2 .given) _ _ _ _ (c .before .before .before .before .loop .inv) (c .before .before .word3 .ensures) (c .before .word4 .ensures) (c .if2 .left)
     (c .before .before .before .loop-test .taken) (search needs) (search needs)
 
--- src/text.rt:55:1
 returns-3 : tie.Need-returns-3 Inv-loop μ-loop
 returns-3 c =
     words-same _ _ (c .before .before .before .before .before .before .shared-slice-known .given) (c .before .before .before .before .before .shared-slice-known2 .given) _ _ _ _ (c .before .loop .inv) (c .before .before .before .before .word .ensures) (c .before .before .before .word2 .ensures) (c .before .before .if1 .left)

@@ -22,47 +22,36 @@ Inv-loop rows stream pool start at₀ offset₀ at offset = Ending stream pool (
 abbrev μ-loop : tie.MeasureT-loop
 μ-loop rows stream pool start at₀ offset₀ at offset = length stream - at
 
--- src/vast.rt:87:5
 loop-holds : tie.Need-loop-holds Inv-loop μ-loop
 loop-holds c = search ending-begin
 
--- src/vast.rt:88:40
 seek-requires : tie.Need-seek-requires Inv-loop μ-loop
 seek-requires c κs = search needs
 
--- src/vast.rt:88:24
 enum-known-place : tie.Need-enum-known-place Inv-loop μ-loop
 enum-known-place c = search needs
 
--- src/vast.rt:89:13
 enum-told : tie.Need-enum-told Inv-loop μ-loop
 enum-told c = search needs
 
--- src/vast.rt:89:13
 returns : tie.Need-returns Inv-loop μ-loop
 returns c = search ending-laws
 
--- src/vast.rt:91:51
 from-requires : tie.Need-from-requires Inv-loop μ-loop
 from-requires c κs = search needs
 
--- src/vast.rt:91:13
 size-unindexed-requires : tie.Need-size-unindexed-requires Inv-loop μ-loop
 size-unindexed-requires c κs = search needs
 
--- src/vast.rt:92:13
 sum-requires : tie.Need-sum-requires Inv-loop μ-loop
 sum-requires c κs = search needs
 
--- src/vast.rt:94:13
 returns-2 : tie.Need-returns-2 Inv-loop μ-loop
 returns-2 c = search ending-laws
 
--- src/vast.rt:87:5
 loop-less : tie.Need-loop-less Inv-loop μ-loop
 loop-less c = search sought-nearer
 
--- src/vast.rt:87:5
 loop-again : tie.Need-loop-again Inv-loop μ-loop
 loop-again c = search ending-laws
 

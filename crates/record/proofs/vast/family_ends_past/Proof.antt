@@ -7,19 +7,15 @@ use Rattle.record.proofs.vast.family_ends_past.Lts as lts
 use Rattle.record.proofs.vast.ends_past.Reads as ends-past-reads
 use Rattle.record.proofs.vast.front_end.Reads as front-end-reads
 
--- src/vast.rt:126:9
 front-end-requires : tie.Need-front-end-requires
 front-end-requires c κs = search needs
 
--- src/vast.rt:128:9
 returns : tie.Need-returns
 returns c = search front-laws
 
--- src/vast.rt:130:5
 ends-past-requires : tie.Need-ends-past-requires
 ends-past-requires c κs = search needs
 
--- src/vast.rt:123:1
 returns-2 : tie.Need-returns-2
 returns-2 c = search front-laws
 

@@ -22,63 +22,48 @@ Inv-loop rows stream pool cursor₀ cursor = firstVast (rec stream pool (scalars
 abbrev μ-loop : tie.MeasureT-loop
 μ-loop rows stream pool cursor₀ cursor = length stream - cursor .at
 
--- src/vast.rt:100:9
 new-requires : tie.Need-new-requires Inv-loop μ-loop
 new-requires c κs = search needs
 
--- src/vast.rt:101:5
 loop-holds : tie.Need-loop-holds Inv-loop μ-loop
 loop-holds c = rw (c .new .ensures)
 
--- src/vast.rt:102:15
 next-type-requires : tie.Need-next-type-requires Inv-loop μ-loop
 next-type-requires c κs = search needs
 
--- src/vast.rt:104:17
 enum-told : tie.Need-enum-told Inv-loop μ-loop
 enum-told c = search needs
 
--- src/vast.rt:104:17
 returns : tie.Need-returns Inv-loop μ-loop
 returns c = search (ended, vast-laws)
 
--- src/vast.rt:106:29
 enum-known-at : tie.Need-enum-known-at Inv-loop μ-loop
 enum-known-at c = search needs
 
--- src/vast.rt:107:20
 ends-past-requires : tie.Need-ends-past-requires Inv-loop μ-loop
 ends-past-requires c κs = search needs
 
--- src/vast.rt:108:21
 returns-2 : tie.Need-returns-2 Inv-loop μ-loop
 returns-2 c = search (ended, vast-laws)
 
--- src/vast.rt:101:5
 loop-less : tie.Need-loop-less Inv-loop μ-loop
 loop-less c = search plain-nearer
 
--- src/vast.rt:101:5
 loop-again : tie.Need-loop-again Inv-loop μ-loop
 loop-again c = search (kept, vast-laws)
 
--- src/vast.rt:112:31
 enum-known-at-2 : tie.Need-enum-known-at-2 Inv-loop μ-loop
 enum-known-at-2 c = search needs
 
--- src/vast.rt:113:20
 family-ends-past-requires : tie.Need-family-ends-past-requires Inv-loop μ-loop
 family-ends-past-requires c κs = search needs
 
--- src/vast.rt:114:21
 returns-3 : tie.Need-returns-3 Inv-loop μ-loop
 returns-3 c = search (ended, vast-laws)
 
--- src/vast.rt:101:5
 loop-less-2 : tie.Need-loop-less-2 Inv-loop μ-loop
 loop-less-2 c = search front-nearer
 
--- src/vast.rt:101:5
 loop-again-2 : tie.Need-loop-again-2 Inv-loop μ-loop
 loop-again-2 c = search (kept, vast-laws)
 

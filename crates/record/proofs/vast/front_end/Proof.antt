@@ -9,27 +9,21 @@ use Rattle.record.proofs.sizes.scalar_bytes.Reads as scalar-bytes-reads
 use Rattle.record.proofs.sizes.sum.Reads as sum-reads
 use Rattle.record.proofs.sizes.wide.Reads as wide-reads
 
--- src/vast.rt:66:9
 front-bytes-requires : tie.Need-front-bytes-requires
 front-bytes-requires c κs = search needs
 
--- src/vast.rt:67:9
 scalar-bytes-requires : tie.Need-scalar-bytes-requires
 scalar-bytes-requires c κs = search needs
 
--- src/vast.rt:68:9
 wide-requires : tie.Need-wide-requires
 wide-requires c κs = search needs
 
--- src/vast.rt:68:22
 wide-requires-2 : tie.Need-wide-requires-2
 wide-requires-2 c κs = search needs
 
--- src/vast.rt:68:5
 sum-requires : tie.Need-sum-requires
 sum-requires c κs = search needs
 
--- src/vast.rt:61:1
 returns : tie.Need-returns
 returns c = search front-is
 

@@ -20,55 +20,42 @@ Inv-loop stream at₀ at = Onward stream at₀ at
 abbrev μ-loop : tie.MeasureT-loop
 μ-loop stream at₀ at = length stream - at
 
--- src/vast.rt:52:5
 loop-holds : tie.Need-loop-holds Inv-loop μ-loop
 loop-holds c = search onward-here
 
--- src/vast.rt:53:13
 after-at-requires : tie.Need-after-at-requires Inv-loop μ-loop
 after-at-requires c κs = search needs
 
--- src/vast.rt:55:13
 returns : tie.Need-returns Inv-loop μ-loop
 returns c = search type-laws
 
--- src/vast.rt:57:13
 byte-at-requires : tie.Need-byte-at-requires Inv-loop μ-loop
 byte-at-requires c κs = search needs
 
--- src/vast.rt:59:52
 from-requires : tie.Need-from-requires Inv-loop μ-loop
 from-requires c κs = search needs
 
--- src/vast.rt:59:42
 family-at-requires : tie.Need-family-at-requires Inv-loop μ-loop
 family-at-requires c κs = search needs
 
--- src/vast.rt:59:76
 place-requires : tie.Need-place-requires Inv-loop μ-loop
 place-requires c κs = search needs
 
--- src/vast.rt:59:13
 returns-2 : tie.Need-returns-2 Inv-loop μ-loop
 returns-2 c = search type-laws
 
--- src/vast.rt:61:12
 opens-plain-requires : tie.Need-opens-plain-requires Inv-loop μ-loop
 opens-plain-requires c κs = search needs
 
--- src/vast.rt:62:40
 place-requires-2 : tie.Need-place-requires-2 Inv-loop μ-loop
 place-requires-2 c κs = search needs
 
--- src/vast.rt:62:13
 returns-3 : tie.Need-returns-3 Inv-loop μ-loop
 returns-3 c = search type-laws
 
--- src/vast.rt:52:5
 loop-less : tie.Need-loop-less Inv-loop μ-loop
 loop-less c = search after-nearer
 
--- src/vast.rt:52:5
 loop-again : tie.Need-loop-again Inv-loop μ-loop
 loop-again c = search type-laws
 

@@ -5,11 +5,9 @@ use Rattle.record.proofs.vast.opens_plain.Tie as tie
 use Rattle.record.proofs.vast.opens_plain.Reads as reads
 use Rattle.record.proofs.vast.opens_plain.Lts as lts
 
--- src/vast.rt:42:9
 returns : tie.Need-returns
 returns c = search opens-laws
 
--- src/vast.rt:38:1
 returns-2 : tie.Need-returns-2
 returns-2 c = search opens-laws
 

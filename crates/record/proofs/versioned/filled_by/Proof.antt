@@ -7,31 +7,24 @@ use Rattle.record.proofs.versioned.filled_by.Reads as reads
 use Rattle.record.proofs.versioned.filled_by.Lts as lts
 use Rattle.record.proofs.versioned.first_slotted.Reads as first-slotted-reads
 
--- src/versioned.rt:45:35
 slice-aggregate-first-slotted : tie.Need-slice-aggregate-first-slotted
 slice-aggregate-first-slotted c = search needs
 
--- src/versioned.rt:45:15
 first-slotted-requires : tie.Need-first-slotted-requires
 first-slotted-requires c κs = search needs
 
--- src/versioned.rt:46:39
 slice-aggregate-first-slotted-2 : tie.Need-slice-aggregate-first-slotted-2
 slice-aggregate-first-slotted-2 c = search needs
 
--- src/versioned.rt:46:19
 first-slotted-requires-2 : tie.Need-first-slotted-requires-2
 first-slotted-requires-2 c κs = search needs
 
--- src/versioned.rt:47:38
 slice-aggregate-first-slotted-3 : tie.Need-slice-aggregate-first-slotted-3
 slice-aggregate-first-slotted-3 c = search needs
 
--- src/versioned.rt:47:18
 first-slotted-requires-3 : tie.Need-first-slotted-requires-3
 first-slotted-requires-3 c κs = search needs
 
--- src/versioned.rt:38:1
 returns : tie.Need-returns
 unfolding bytes
 returns c = search slots-filled

@@ -7,30 +7,24 @@ use Rattle.record.proofs.versioned.first_slotted.Lts as lts
 use Rattle.record.proofs.command.Cursor.place.Reads as place-reads
 use Rattle.record.proofs.references.is_text.Reads as is-text-reads
 
--- src/versioned.rt:27:32
 enum-known-filled : tie.Need-enum-known-filled
 enum-known-filled c = search needs
 
--- src/versioned.rt:28:9
 returns : tie.Need-returns
 returns c = search first-slotted-laws
 
 enum-told : tie.Need-enum-told
 enum-told c = search needs
 
--- src/versioned.rt:31:8
 is-text-requires : tie.Need-is-text-requires
 is-text-requires c κs = search needs
 
--- src/versioned.rt:32:39
 place-requires : tie.Need-place-requires
 place-requires c κs = search needs
 
--- src/versioned.rt:32:9
 returns-2 : tie.Need-returns-2
 returns-2 c = search first-slotted-laws
 
--- src/versioned.rt:24:1
 returns-3 : tie.Need-returns-3
 returns-3 c = search first-slotted-laws
 

@@ -19,62 +19,48 @@ Inv-loop stream pool filled₀ at₀ filled at = AllFilled stream pool at filled
 abbrev μ-loop : tie.MeasureT-loop
 μ-loop stream pool filled₀ at₀ filled at = length stream - at
 
--- src/versioned.rt:61:5
 loop-holds : tie.Need-loop-holds Inv-loop μ-loop
 loop-holds c = search versioned-laws
 
--- src/versioned.rt:62:40
 seek-requires : tie.Need-seek-requires Inv-loop μ-loop
 seek-requires c κs = search needs
 
--- src/versioned.rt:62:24
 enum-known-place : tie.Need-enum-known-place Inv-loop μ-loop
 enum-known-place c = search needs
 
--- src/versioned.rt:63:13
 enum-told : tie.Need-enum-told Inv-loop μ-loop
 enum-told c = search needs
 
--- src/versioned.rt:63:13
 returns : tie.Need-returns Inv-loop μ-loop
 returns c = search versioned-laws
 
--- src/versioned.rt:66:13
 from-requires : tie.Need-from-requires Inv-loop μ-loop
 from-requires c κs = search needs
 
--- src/versioned.rt:67:36
 opt-text-at-requires : tie.Need-opt-text-at-requires Inv-loop μ-loop
 opt-text-at-requires c κs = search needs
 
--- src/versioned.rt:68:46
 enum-told-2 : tie.Need-enum-told-2 Inv-loop μ-loop
 enum-told-2 c = search needs
 
--- src/versioned.rt:68:46
 struct-at-requires : tie.Need-struct-at-requires Inv-loop μ-loop
 struct-at-requires c κs = search needs
 
--- src/versioned.rt:68:13
 filled-by-requires : tie.Need-filled-by-requires Inv-loop μ-loop
 filled-by-requires c κs = search needs
 
--- src/versioned.rt:61:5
 loop-less : tie.Need-loop-less Inv-loop μ-loop
 loop-less c = search sought-nearer
 
--- src/versioned.rt:61:5
 loop-again : tie.Need-loop-again Inv-loop μ-loop
 loop-again c = search versioned-laws
 
 enum-told-3 : tie.Need-enum-told-3 Inv-loop μ-loop
 enum-told-3 c = search needs
 
--- src/versioned.rt:61:5
 loop-less-2 : tie.Need-loop-less-2 Inv-loop μ-loop
 loop-less-2 c = search sought-nearer
 
--- src/versioned.rt:61:5
 loop-again-2 : tie.Need-loop-again-2 Inv-loop μ-loop
 loop-again-2 c = search versioned-laws
 

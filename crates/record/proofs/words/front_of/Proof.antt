@@ -7,51 +7,39 @@ use Rattle.record.proofs.words.front_of.Lts as lts
 use Rattle.record.proofs.le.byte_at.Reads as byte-at-reads
 use Rattle.record.proofs.words.big_endian.Reads as big-endian-reads
 
--- src/words.rt:36:27
 shared-slice-read-big-endian : tie.Need-shared-slice-read-big-endian
 shared-slice-read-big-endian c = search needs
 
--- src/words.rt:36:33
 shared-slice-read-big-endian-2 : tie.Need-shared-slice-read-big-endian-2
 shared-slice-read-big-endian-2 c = search needs
 
--- src/words.rt:36:39
 shared-slice-read-big-endian-3 : tie.Need-shared-slice-read-big-endian-3
 shared-slice-read-big-endian-3 c = search needs
 
--- src/words.rt:36:45
 shared-slice-read-big-endian-4 : tie.Need-shared-slice-read-big-endian-4
 shared-slice-read-big-endian-4 c = search needs
 
--- src/words.rt:36:9
 big-endian-requires : tie.Need-big-endian-requires
 big-endian-requires c κs = search needs
 
--- src/words.rt:36:9
 returns : tie.Need-returns
 returns c = search front-is
 
--- src/words.rt:38:16
 byte-at-requires : tie.Need-byte-at-requires
 byte-at-requires c κs = search needs
 
--- src/words.rt:38:31
 byte-at-requires-2 : tie.Need-byte-at-requires-2
 byte-at-requires-2 c κs = search needs
 
--- src/words.rt:38:46
 byte-at-requires-3 : tie.Need-byte-at-requires-3
 byte-at-requires-3 c κs = search needs
 
--- src/words.rt:38:61
 byte-at-requires-4 : tie.Need-byte-at-requires-4
 byte-at-requires-4 c κs = search needs
 
--- src/words.rt:38:5
 big-endian-requires-2 : tie.Need-big-endian-requires-2
 big-endian-requires-2 c κs = search needs
 
--- src/words.rt:32:1
 returns-2 : tie.Need-returns-2
 returns-2 c = search front-is
 

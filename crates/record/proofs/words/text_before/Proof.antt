@@ -7,27 +7,21 @@ use Rattle.record.proofs.words.text_before.Lts as lts
 use Rattle.record.proofs.words.front_of.Reads as front-of-reads
 use Rattle.record.proofs.words.text_before_by_bytes.Reads as text-before-by-bytes-reads
 
--- src/words.rt:74:9
 front-of-requires : tie.Need-front-of-requires
 front-of-requires c κs = search needs
 
--- src/words.rt:75:9
 front-of-requires-2 : tie.Need-front-of-requires-2
 front-of-requires-2 c κs = search needs
 
--- src/words.rt:77:9
 returns : tie.Need-returns
 returns c = search front-laws
 
--- src/words.rt:80:9
 returns-2 : tie.Need-returns-2
 returns-2 c = search front-laws
 
--- src/words.rt:82:5
 text-before-by-bytes-requires : tie.Need-text-before-by-bytes-requires
 text-before-by-bytes-requires c κs = search needs
 
--- src/words.rt:71:1
 returns-3 : tie.Need-returns-3
 returns-3 c = search needs
 

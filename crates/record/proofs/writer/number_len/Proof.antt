@@ -12,23 +12,18 @@ Inv-loop n len₀ rest₀ len rest = Counting n len rest
 abbrev μ-loop : tie.MeasureT-loop
 μ-loop n len₀ rest₀ len rest = rest
 
--- src/writer.rt:108:5
 loop-holds : tie.Need-loop-holds Inv-loop μ-loop
 loop-holds c = counting-start _ (omega (arith, c .fits .n .fits))
 
--- src/writer.rt:109:9
 add-len : tie.Need-add-len Inv-loop μ-loop
 add-len c = let f = c .before .loop .inv .few in omega arith
 
--- src/writer.rt:108:5
 loop-less : tie.Need-loop-less Inv-loop μ-loop
 loop-less c = omega arith
 
--- src/writer.rt:108:5
 loop-again : tie.Need-loop-again Inv-loop μ-loop
 loop-again c = search counting-next
 
--- src/writer.rt:103:1
 returns : tie.Need-returns Inv-loop μ-loop
 returns c = counting-end _ _ _ (c .before .loop .inv) (c .loop-test .left)
 

@@ -10,91 +10,69 @@ use Rattle.record.proofs.writer.digit.Reads as digit-reads
 use Rattle.record.proofs.writer.put.Reads as put-reads
 use Rattle.record.proofs.writer.put_digits.Reads as put-digits-reads
 
--- src/writer.rt:136:31
 digit-requires : tie.Need-digit-requires
 digit-requires c κs = search needs
 
--- src/writer.rt:136:29
 slice-aggregate-put : tie.Need-slice-aggregate-put
 slice-aggregate-put c = search needs
 
--- src/writer.rt:136:9
 put-requires : tie.Need-put-requires
 put-requires c κs = search needs
 
--- src/writer.rt:136:9
 same-length : tie.Need-same-length
 same-length c = search needs
 
--- src/writer.rt:136:9
 returns : tie.Need-returns
 returns c = (search (puts-as, one-digit), omega (arith, puts-near))
 
--- src/writer.rt:139:31
 digit-requires-2 : tie.Need-digit-requires-2
 digit-requires-2 c κs = search needs
 
--- src/writer.rt:139:46
 digit-requires-3 : tie.Need-digit-requires-3
 digit-requires-3 c κs = search needs
 
--- src/writer.rt:139:29
 slice-aggregate-put-2 : tie.Need-slice-aggregate-put-2
 slice-aggregate-put-2 c = search needs
 
--- src/writer.rt:139:9
 put-requires-2 : tie.Need-put-requires-2
 put-requires-2 c κs = search needs
 
--- src/writer.rt:139:9
 same-length-2 : tie.Need-same-length-2
 same-length-2 c = search needs
 
--- src/writer.rt:139:9
 returns-2 : tie.Need-returns-2
 returns-2 c = (search (puts-as, two-digits), omega (arith, puts-near))
 
--- src/writer.rt:142:31
 digit-requires-4 : tie.Need-digit-requires-4
 digit-requires-4 c κs = search needs
 
--- src/writer.rt:142:47
 digit-requires-5 : tie.Need-digit-requires-5
 digit-requires-5 c κs = search needs
 
--- src/writer.rt:142:62
 digit-requires-6 : tie.Need-digit-requires-6
 digit-requires-6 c κs = search needs
 
--- src/writer.rt:142:29
 slice-aggregate-put-3 : tie.Need-slice-aggregate-put-3
 slice-aggregate-put-3 c = search needs
 
--- src/writer.rt:142:9
 put-requires-3 : tie.Need-put-requires-3
 put-requires-3 c κs = search needs
 
--- src/writer.rt:142:9
 same-length-3 : tie.Need-same-length-3
 same-length-3 c = search needs
 
--- src/writer.rt:142:9
 returns-3 : tie.Need-returns-3
 returns-3 c = (search (puts-as, three-digits), omega (arith, puts-near))
 
--- src/writer.rt:144:25
 decimal-requires : tie.Need-decimal-requires
 decimal-requires c κs = search needs
 
--- src/writer.rt:144:5
 put-digits-requires : tie.Need-put-digits-requires
 put-digits-requires c κs = search needs
 
--- src/writer.rt:132:1
 same-length-4 : tie.Need-same-length-4
 same-length-4 c = search needs
 
--- src/writer.rt:132:1
 returns-4 : tie.Need-returns-4
 returns-4 c = (search puts-as, search needs)
 

@@ -4,11 +4,9 @@ use Rattle.record.proofs.command.Cursor.after.Tie as tie
 use Rattle.record.proofs.command.Cursor.after.Reads as reads
 use Rattle.record.proofs.command.Cursor.after.Lts as lts
 
--- src/judge.rt:170:13
 returns : tie.Need-returns
 returns c = search follows-laws
 
--- src/judge.rt:166:5
 returns-2 : tie.Need-returns-2
 returns-2 c = search follows-laws
 

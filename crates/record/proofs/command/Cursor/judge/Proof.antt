@@ -7,55 +7,42 @@ use Rattle.record.proofs.command.Cursor.judge.Lts as lts
 use Rattle.record.proofs.command.Cursor.ready.Reads as ready-reads
 use Rattle.record.proofs.judge.faults.Reads as faults-reads
 
--- src/judge.rt:418:40
 sub-faults : tie.Need-sub-faults
 sub-faults c = search needs
 
--- src/judge.rt:418:40
 part-faults-start : tie.Need-part-faults-start
 part-faults-start c = search needs
 
--- src/judge.rt:418:40
 part-faults-end : tie.Need-part-faults-end
 part-faults-end c = search needs
 
--- src/judge.rt:418:15
 faults-requires : tie.Need-faults-requires
 faults-requires c κs = search needs
 
--- src/judge.rt:419:47
 enum-told : tie.Need-enum-told
 enum-told c = search needs
 
--- src/judge.rt:420:47
 enum-told-2 : tie.Need-enum-told-2
 enum-told-2 c = search needs
 
--- src/judge.rt:421:44
 enum-told-3 : tie.Need-enum-told-3
 enum-told-3 c = search needs
 
--- src/judge.rt:422:28
 enum-told-4 : tie.Need-enum-told-4
 enum-told-4 c = search needs
 
--- src/judge.rt:422:28
 ready-requires : tie.Need-ready-requires
 ready-requires c κs = search needs
 
--- src/judge.rt:413:5
 returns : tie.Need-returns
 returns c = search fault-laws
 
--- src/judge.rt:413:5
 returns-2 : tie.Need-returns-2
 returns-2 c = search fault-laws
 
--- src/judge.rt:413:5
 returns-3 : tie.Need-returns-3
 returns-3 c = search fault-laws
 
--- src/judge.rt:413:5
 returns-4 : tie.Need-returns-4
 returns-4 c = search fault-laws
 

@@ -7,39 +7,30 @@ use Rattle.record.proofs.command.Cursor.judged.Lts as lts
 use Rattle.record.proofs.command.Cursor.judge.Reads as judge-reads
 use Rattle.record.proofs.command.Cursor.row.Reads as row-reads
 
--- src/judge.rt:433:13
 returns : tie.Need-returns
 returns c = search judged-laws
 
--- src/judge.rt:435:20
 shared-slice-read-byte : tie.Need-shared-slice-read-byte
 shared-slice-read-byte c = search needs
 
--- src/judge.rt:436:13
 row-requires : tie.Need-row-requires
 row-requires c κs = search needs
 
--- src/judge.rt:439:13
 returns-2 : tie.Need-returns-2
 returns-2 c = search judged-laws
 
--- src/judge.rt:441:12
 sub-if3 : tie.Need-sub-if3
 sub-if3 c = search needs
 
--- src/judge.rt:442:13
 returns-3 : tie.Need-returns-3
 returns-3 c = search judged-laws
 
--- src/judge.rt:445:13
 judge-requires : tie.Need-judge-requires
 judge-requires c κs = search (row-width, needs)
 
--- src/judge.rt:445:13
 returns-4 : tie.Need-returns-4
 returns-4 c = search judged-laws
 
--- src/judge.rt:428:5
 returns-5 : tie.Need-returns-5
 returns-5 c = search judged-laws
 

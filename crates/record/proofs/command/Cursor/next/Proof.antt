@@ -7,55 +7,42 @@ use Rattle.record.proofs.command.Cursor.next.Lts as lts
 use Rattle.record.proofs.command.command_of.Reads as command-of-reads
 use Rattle.record.proofs.command.width_of.Reads as width-of-reads
 
--- src/command.rt:349:13
 returns : tie.Need-returns
 returns c = search step-laws
 
--- src/command.rt:351:20
 shared-slice-read-byte : tie.Need-shared-slice-read-byte
 shared-slice-read-byte c = search needs
 
--- src/command.rt:353:13
 returns-2 : tie.Need-returns-2
 returns-2 c = search step-laws
 
--- src/command.rt:355:13
 width-of-requires : tie.Need-width-of-requires
 width-of-requires c κs = search needs
 
--- src/command.rt:357:13
 returns-3 : tie.Need-returns-3
 returns-3 c = search step-laws
 
--- src/command.rt:359:12
 sub-if4 : tie.Need-sub-if4
 sub-if4 c = search needs
 
--- src/command.rt:360:13
 returns-4 : tie.Need-returns-4
 returns-4 c = search step-laws
 
--- src/command.rt:363:30
 sub-command-of : tie.Need-sub-command-of
 sub-command-of c = search needs
 
--- src/command.rt:363:30
 part-command-of-start : tie.Need-part-command-of-start
 part-command-of-start c = search needs
 
--- src/command.rt:363:30
 part-command-of-end : tie.Need-part-command-of-end
 part-command-of-end c = search needs
 
--- src/command.rt:363:13
 command-of-requires : tie.Need-command-of-requires
 command-of-requires c κs = search needs
 
--- src/command.rt:365:21
 add-t10 : tie.Need-add-t10
 add-t10 c = search needs
 
--- src/command.rt:344:5
 returns-5 : tie.Need-returns-5
 returns-5 c = search step-laws
 

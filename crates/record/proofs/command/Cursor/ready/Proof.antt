@@ -7,39 +7,30 @@ use Rattle.record.proofs.command.Cursor.ready.Lts as lts
 use Rattle.record.proofs.command.command_of.Reads as command-of-reads
 use Rattle.record.proofs.judge.parent_after.Reads as parent-after-reads
 
--- src/judge.rt:204:19
 add-end : tie.Need-add-end
 add-end c = search needs
 
--- src/judge.rt:207:17
 returns : tie.Need-returns
 returns c = search ready-laws
 
--- src/judge.rt:209:13
 returns-2 : tie.Need-returns-2
 returns-2 c = search ready-laws
 
--- src/judge.rt:213:30
 sub-command-of : tie.Need-sub-command-of
 sub-command-of c = search needs
 
--- src/judge.rt:213:30
 part-command-of-start : tie.Need-part-command-of-start
 part-command-of-start c = search needs
 
--- src/judge.rt:213:30
 part-command-of-end : tie.Need-part-command-of-end
 part-command-of-end c = search needs
 
--- src/judge.rt:213:13
 command-of-requires : tie.Need-command-of-requires
 command-of-requires c κs = search needs
 
--- src/judge.rt:217:25
 parent-after-requires : tie.Need-parent-after-requires
 parent-after-requires c κs = search needs
 
--- src/judge.rt:199:5
 returns-3 : tie.Need-returns-3
 returns-3 c = search ready-laws
 
