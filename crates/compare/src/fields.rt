@@ -1,5 +1,5 @@
-// The pass over the fields: a released field keeps its place, its size and how it reads. It also
-// notes which current types are as they were.
+// The pass over the fields: a released field keeps its place, its size and how it reads. It also notes which current types are
+// as they were.
 use crate::alike::Both;
 use crate::kept::pass_kept;
 use crate::layouts::both_bare;

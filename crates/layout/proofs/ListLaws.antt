@@ -86,10 +86,6 @@ module _ (side : Side) (s p rows : Str) (o : Outcome) (e : rows ≡ builtInRows)
       rw (reading-read side s p rows o e h k)
       (subst (λ (w : List Scalar). Answered out after (textOr (length out) 0 (listOf (schemaOf (rec s p w)))) r) (ap scalarsOf e ∙ built-in) a)
 
-module _ (out after : Str) (n : ℕ) (r : Rec) (a : D.Answer) where
-  pub list-side : (x y : Side) → x ≡ y → Answered out after (list n y r) a → Answered out after (list n x r) a
-  list-side x y e h = rw e h
-
 module _ (out after : Str) (n : ℕ) (r : Rec) (a : D.Answer) (b : Bool) where
   pub list-released : b ≡ true → Answered out after (list n Released r) a → Answered out after (list n (cond b Released Current) r) a
   list-released e h = rw e h

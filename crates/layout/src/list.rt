@@ -144,15 +144,7 @@ fn list_tiny(rows: &[u8], stream: &[u8], pool: &[u8], out: &mut [u8]) -> Answer
     let mut types = [0u32; 128];
     let mut scratch = [0u32; 128];
     let mut sizes = [0u64; 16];
-    let n = fill_few(
-        rows,
-        stream,
-        pool,
-        &[],
-        &mut types,
-        &mut scratch,
-        &mut sizes,
-    );
+    let n = fill_few(rows, stream, pool, &mut types, &mut scratch, &mut sizes);
     list_tables(rows, stream, pool, &types[..n], &sizes, out)
 }
 
@@ -161,26 +153,17 @@ fn list_read(rows: &[u8], stream: &[u8], pool: &[u8], out: &mut [u8]) -> Answer
     requires { ⌜ (length (now stream) ≤ 32768) × Exact (rec (now stream) (now pool) (scalarsOf (now rows))) ⌝ }
     ensures { λ r. ⌜ Answered (now (out .entry)) (now (out .exit)) (textOr (length (now (out .entry))) 0 (listOf (schemaOf (rec (now (stream .entry)) (now (pool .entry)) (scalarsOf (now (rows .entry))))))) r ⌝ }
 {
+    if stream.len() <= 512 {
+        return list_tiny(rows, stream, pool, out);
+    }
     if stream.len() <= 2048 {
         return list_short(rows, stream, pool, out);
     }
     list_long(rows, stream, pool, out)
 }
 
-// The list of a short record, read as one side.
-fn list_few(side: Side, stream: &[u8], pool: &[u8], out: &mut [u8]) -> Answer
-    requires { ⌜ length (now stream) ≤ 512 ⌝ }
-    ensures { λ r. ⌜ Answered (now (out .entry)) (now (out .exit)) (list (length (now (out .entry))) side (rec (now (stream .entry)) (now (pool .entry)) builtIn)) r ⌝ }
-{
-    let rows = built_in();
-    if let Outcome::Refused(refusal, place) = read_record(side, &rows, stream, pool) {
-        return refused(side, refusal, place);
-    }
-    list_tiny(&rows, stream, pool, out)
-}
-
-// The list of any record, read as one side.
-fn list_any(side: Side, stream: &[u8], pool: &[u8], out: &mut [u8]) -> Answer
+// The list of a record, read as one side.
+pub fn list_layouts(side: Side, stream: &[u8], pool: &[u8], out: &mut [u8]) -> Answer
     ensures { λ r. ⌜ Answered (now (out .entry)) (now (out .exit)) (list (length (now (out .entry))) side (rec (now (stream .entry)) (now (pool .entry)) builtIn)) r ⌝ }
 {
     let rows = built_in();
@@ -188,18 +171,4 @@ fn list_any(side: Side, stream: &[u8], pool: &[u8], out: &mut [u8]) -> Answer
         return refused(side, refusal, place);
     }
     list_read(&rows, stream, pool, out)
-}
-
-// The list of a record, read as one side. The tables of a long record stand in a function that a short one does not enter; each side has a call of
-// its own, since a function with one call becomes a part of its caller.
-pub fn list_layouts(side: Side, stream: &[u8], pool: &[u8], out: &mut [u8]) -> Answer
-    ensures { λ r. ⌜ Answered (now (out .entry)) (now (out .exit)) (list (length (now (out .entry))) side (rec (now (stream .entry)) (now (pool .entry)) builtIn)) r ⌝ }
-{
-    if stream.len() <= 512 {
-        return list_few(side, stream, pool, out);
-    }
-    match side {
-        Side::Current => list_any(Side::Current, stream, pool, out),
-        Side::Released => list_any(Side::Released, stream, pool, out),
-    }
 }

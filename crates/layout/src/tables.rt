@@ -28,20 +28,19 @@ fn fill_both(
     type_table(stream, pool, types, scratch)
 }
 
-// The same for a short record, without room for the fronts of names.
+// The same for a short record, without an index and without room for the fronts of names.
 pub(crate) fn fill_few(
     rows: &[u8],
     stream: &[u8],
     pool: &[u8],
-    index: &[u16],
     types: &mut [u32],
     scratch: &mut [u32],
     sizes: &mut [u64],
 ) -> usize
     requires { ⌜ (length (now stream) ≤ 32768) × Room (now stream) (now types) × Room (now stream) (now scratch) × SizesRoom (now stream) (now sizes) ⌝ }
-    ensures { λ r. ⌜ (Findable (now (stream .entry)) (now (pool .entry)) (now (index .entry)) → Exact (rec (now (stream .entry)) (now (pool .entry)) (scalarsOf (now (rows .entry)))) → Tables (rec (now (stream .entry)) (now (pool .entry)) (scalarsOf (now (rows .entry)))) (take r (now (types .exit))) (now (sizes .exit))) × (r ≤ length (now (stream .entry)) / 4) ⌝ }
+    ensures { λ r. ⌜ (Exact (rec (now (stream .entry)) (now (pool .entry)) (scalarsOf (now (rows .entry)))) → Tables (rec (now (stream .entry)) (now (pool .entry)) (scalarsOf (now (rows .entry)))) (take r (now (types .exit))) (now (sizes .exit))) × (r ≤ length (now (stream .entry)) / 4) ⌝ }
 {
-    fill_sizes(rows, stream, pool, index, sizes);
+    fill_sizes(rows, stream, pool, &[], sizes);
     few_types(stream, pool, types, scratch)
 }
 

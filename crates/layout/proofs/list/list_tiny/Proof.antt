@@ -1,4 +1,3 @@
-use Rattle.record.proofs.IndexLaws.{no-index}
 use Rattle.layout.proofs.TableLaws.{cut-long}
 use borrow.Author.Needs.{needs}
 use Rattle.layout.proofs.list.list_tiny.Statement.{statement}
@@ -17,9 +16,6 @@ slice-aggregate-fill-few-2 c = search needs
 slice-aggregate-fill-few-3 : tie.Need-slice-aggregate-fill-few-3
 slice-aggregate-fill-few-3 c = search needs
 
-slice-aggregate-fill-few-4 : tie.Need-slice-aggregate-fill-few-4
-slice-aggregate-fill-few-4 c = search needs
-
 fill-few-requires : tie.Need-fill-few-requires
 fill-few-requires c κs = search needs
 
@@ -33,7 +29,7 @@ slice-aggregate-list-tables-2 : tie.Need-slice-aggregate-list-tables-2
 slice-aggregate-list-tables-2 c = search needs
 
 list-tables-requires : tie.Need-list-tables-requires
-list-tables-requires c κs = c .before .before .before .before .before .before .fill-few .ensures .0 (no-index _ _) (search needs)
+list-tables-requires c κs = c .before .before .before .before .before .before .fill-few .ensures .0 (search needs)
 
 same-length : tie.Need-same-length
 same-length c = search needs
@@ -48,7 +44,6 @@ list-tiny-spec =
     slice-aggregate-fill-few
     slice-aggregate-fill-few-2
     slice-aggregate-fill-few-3
-    slice-aggregate-fill-few-4
     fill-few-requires
     array-share-prefix-types
     slice-aggregate-list-tables

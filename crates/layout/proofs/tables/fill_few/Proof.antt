@@ -1,7 +1,11 @@
+use Rattle.record.proofs.IndexLaws.{no-index}
 use Rattle.layout.proofs.TablesLaws.{tables-are}
 use borrow.Author.Needs.{needs}
 use Rattle.layout.proofs.tables.fill_few.Statement.{statement}
 use Rattle.layout.proofs.tables.fill_few.Tie as tie
+
+slice-aggregate-fill-sizes : tie.Need-slice-aggregate-fill-sizes
+slice-aggregate-fill-sizes c = search needs
 
 fill-sizes-requires : tie.Need-fill-sizes-requires
 fill-sizes-requires c κs = search needs
@@ -19,12 +23,16 @@ same-length-3 : tie.Need-same-length-3
 same-length-3 c = search needs
 
 returns : tie.Need-returns
-returns c = (λ i e. search tables-are, search needs)
+returns c =
+    let pre = c .before .before .before .before .before .before .before .before .before .before .before .before .before .before .before .before .before .before .pre in
+    let types = c .before .before .before .before .few-types .ensures in
+    (λ e. tables-are _ _ _ (c .before .before .before .before .before .before .before .before .before .before .before .before .before .before .before .before .before .before .args .sizes .now) _ _ (no-index _ _) (pre .0) (pre .3) (c .before .before .before .before .before .before .before .before .before .fill-sizes .ensures) (types .0) (types .1) e, search needs)
 
 pub fill-few-spec : {M : Type 1} → statement M
 fill-few-spec =
     tie.close
     (tie.spec
+    slice-aggregate-fill-sizes
     fill-sizes-requires
     few-types-requires
     same-length
