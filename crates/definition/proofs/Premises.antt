@@ -70,11 +70,11 @@ kinded-is s h =
 
 -- names ------------------------------------------------------------------------------------------------------------------------------------
 
-distinct : List Str → Bool
+unfoldable pub distinct : List Str → Bool
 distinct [] = true
 distinct (x ∷ xs) = allB (λ y. not (eqs x y)) xs && distinct xs
 
-distinct-once : (l : List Str) → distinct l ≡ true → NoDup l
+pub distinct-once : (l : List Str) → distinct l ≡ true → NoDup l
 unfolding distinct
 distinct-once [] h = tt
 distinct-once (x ∷ xs) h =
