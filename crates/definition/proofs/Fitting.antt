@@ -1,17 +1,19 @@
 -- A stream of whole commands is judged without a refusal exactly if each command may stand where it does and has no fault. Assumes nothing.
 use mathlib.Core.Path.{_≡_, refl, sym, _∙_, ap, ap₂}
-use mathlib.Core.List.{List, [], _∷_, List·Memᴰ, List·Memᴰ·head, List·Memᴰ·tail}
+use mathlib.Core.List.{List, [], _∷_, _++_, List·Memᴰ·head, List·Memᴰ·tail}
 use mathlib.Core.Option.{Option, none, some}
-use mathlib.Core.Bool.{Bool, true, false, _&&_, _||_, not, cond, false≢true}
+use mathlib.Core.Bool.{Bool, true, false, _&&_, not, cond, false≢true}
 use Prim.Native.Nat.{ℕ, zero, suc, _+_, _-_, _≤_}
 use native.Mathlib.Omega.{arith}
-use lib.Dec.{eqb, leb}
+use lib.Dec.{eqb}
 use lib.ListN.{length, getD, drop, length-drop}
 use lib.Seq.{getD-drop}
-use borrow.Author.Tests.{eqb-true, ne-eqb, eq-eqb, lt-ltb, le-ltb, leb-true}
-use Rattle.record.specs.Base.{Str, any, bytes}
+use borrow.Author.Tests.{eqb-true, ne-eqb, eq-eqb, lt-ltb, le-ltb}
+use Rattle.record.specs.Base.{Str, bytes}
 use Rattle.record.specs.Commands.{operands, wide, widths, widthWith, widthOf, commandOf}
-use Rattle.record.specs.Judge.{mayStand, follows, parentAfter, moved, faultsFrom, faultsOf, ready, judgedWith, judgedAt}
+use Rattle.record.specs.Le.{u16At}
+use Rattle.record.specs.Operands.{textAt, optText, optTextAt, flagAt}
+use Rattle.record.specs.Judge.{mayStand, follows, parentAfter, moved, ifAbsent, operandFault, faultsFrom, faultsOf, ready, judgedWith, judgedAt}
 use Rattle.record.specs.Reading.{ok, onto, continued, parse}
 use Rattle.record.specs.declared.command.Command.{Command}
 use Rattle.record.specs.declared.command.Cursor.{Cursor}
@@ -22,11 +24,10 @@ use Rattle.record.specs.declared.judge.Fault.{Fault}
 use Rattle.record.specs.declared.judge.Fault.the-variants.{Fine, Outside, Missing, Flag}
 use Rattle.record.specs.declared.judge.Judged.{Judged}
 use Rattle.record.specs.declared.judge.Judged.the-variants.{Next, Done, Refused}
-use Rattle.record.proofs.Basics.{both, any-none}
+use Rattle.record.proofs.Basics.{both}
 use Rattle.record.proofs.Accepted.{Passed, passed, onto-ok}
-use Rattle.definition.specs.Sections.{number, run}
-use Rattle.definition.proofs.Near
-use Rattle.definition.proofs.Cutting.{Cmd, Cmds, spots, Here, near, number-here, next-here, length-here}
+use Rattle.definition.specs.Sections.{number, streamOf}
+use Rattle.definition.proofs.CommandStreams.{Each, no-number, and-one, each-one, numbers, Whole, AllWhole, some-bytes, no-end, placesFrom, Rest, number-here, next-here, length-here, cells, own-bytes}
 
 -- faults --------------------------------------------------------------------------------------------------------------------------
 
@@ -46,31 +47,6 @@ fine-is Flag h = absurd (false≢true h)
 unfoldable pub fine : Side → ℕ → Str → Bool
 fine side n x = isFine (faultsOf side n x (operands (number x)))
 
--- only a command of five bytes or more has a text that is required by the flag at 4
-asks : Option Str → Bool
-asks none = true
-asks (some os) = not (any (λ (o : ℕ). eqb o 63) os) || leb 5 (1 + widths os)
-
-asks-cond : (c : Bool) (x y : Option Str) → asks x ≡ true → asks y ≡ true → asks (cond c x y) ≡ true
-asks-cond true x y h k = h
-asks-cond false x y h k = k
-
-asks-all : (b : ℕ) → asks (operands b) ≡ true
-unfolding operands asks any widths wide bytes
-asks-all b =
-    asks-cond (eqb b 1) _ _ refl (asks-cond (eqb b 2) _ _ refl (asks-cond (eqb b 3) _ _ refl (asks-cond (eqb b 4) _ _ refl
-    (asks-cond (eqb b 5) _ _ refl (asks-cond (eqb b 6) _ _ refl (asks-cond (eqb b 7) _ _ refl (asks-cond (eqb b 8) _ _ refl
-    (asks-cond (eqb b 9) _ _ refl (asks-cond (eqb b 10) _ _ refl (asks-cond (eqb b 11) _ _ refl (asks-cond (eqb b 12) _ _ refl
-    (asks-cond (eqb b 13) _ _ refl (asks-cond (eqb b 14) _ _ refl (asks-cond (eqb b 15) _ _ refl refl))))))))))))))
-
-asked : (b : ℕ) (os : Str) → operands b ≡ some os → (o : ℕ) → List·Memᴰ o os → eqb o 63 ≡ true → 5 ≤ 1 + widths os
-unfolding asks
-asked b os e o m h = go (any (λ (x : ℕ). eqb x 63) os) refl (sym (ap asks e) ∙ asks-all b)
-  where
-    go : (t : Bool) → any (λ (x : ℕ). eqb x 63) os ≡ t → (not t || leb 5 (1 + widths os)) ≡ true → 5 ≤ 1 + widths os
-    go true q k = leb-true 5 (1 + widths os) k
-    go false q k = absurd (any-none (λ (x : ℕ). eqb x 63) os q m h)
-
 pub end-row : operands 15 ≡ some []
 unfolding operands bytes
 end-row = refl
@@ -84,10 +60,27 @@ row-of b h = go (operands b) refl h
     go none e k = absurd (omega arith)
     go (some os) e k = (os, e, sym (ap widthWith e))
 
-faults-here : (side : Side) (n : ℕ) (s : Str) (at : ℕ) (x : Str) (xs : List Str) → Here s at (x ∷ xs) → Cmd x → (os : Str) → operands (number x) ≡ some os → 1 + widths os ≡ length x
-    → faultsFrom side n (drop at s) 1 os ≡ faultsFrom side n x 1 os
-faults-here side n s at x xs h c os e w =
-    Near.faults-from (drop at s) x (length x) (near s at x xs h c) side n 1 os (omega arith) (λ o m q. let k = asked (number x) os e o m q in omega arith)
+module _ (side : Side) (n : ℕ) (s : Str) (at : ℕ) (x : Str) (xs : List Str) (h : Rest s at (x ∷ xs)) (c : Whole x) where
+  -- the operands of a command of this number are judged by its own bytes
+  abbrev Own : ℕ → Type 0
+  Own b = number x ≡ b → faultsOf side n (drop at s) (operands b) ≡ faultsOf side n x (operands b)
+
+  -- one of them, and those behind it
+  own : (b w : ℕ) {bs : List ℕ} → widthOf b ≡ w
+      → ((f : ℕ → ℕ) (t : Str) → faultsOf side n (cells w f ++ t) (operands b) ≡ faultsOf side n (cells w f) (operands b)) → Each Own bs → Each Own (b ∷ bs)
+  own b w e f rest = and-one (own-bytes b w e (λ (y : Str). faultsOf side n y (operands b)) f s at x xs h c) rest
+
+  faults-own : faultsOf side n (drop at s) (operands (number x)) ≡ faultsOf side n x (operands (number x))
+  unfolding numbers operands faultsOf faultsFrom operandFault ifAbsent cells textAt optText optTextAt flagAt u16At widthOf widthWith widths wide bytes
+  faults-own = each-one Own numbers every (number x) (c .known) refl
+    where
+      every : Each Own numbers
+      every =
+          own 1 5 refl (λ f t. refl) (own 2 20 refl (λ f t. refl) (own 3 7 refl (λ f t. refl)
+          (own 4 12 refl (λ f t. refl) (own 5 15 refl (λ f t. refl) (own 6 11 refl (λ f t. refl)
+          (own 7 16 refl (λ f t. refl) (own 8 10 refl (λ f t. refl) (own 9 17 refl (λ f t. refl)
+          (own 10 4 refl (λ f t. refl) (own 11 33 refl (λ f t. refl) (own 12 7 refl (λ f t. refl)
+          (own 13 7 refl (λ f t. refl) (own 14 8 refl (λ f t. refl) no-number)))))))))))))
 
 -- fitting -------------------------------------------------------------------------------------------------------------------------
 
@@ -125,7 +118,7 @@ module _ (side : Side) (n : ℕ) (s : Str) where
       go false q h = let z : _≡_ {A = ℕ} 0 1 = cc in omega arith
 
   -- what the passed judgement of a command says of it
-  pass-here : (c : Cursor) (x : Str) (xs : List Str) → Here s (c .at) (x ∷ xs) → Cmd x → (j : Judged) → Passed side s n c j
+  pass-here : (c : Cursor) (x : Str) (xs : List Str) → Rest s (c .at) (x ∷ xs) → Whole x → (j : Judged) → Passed side s n c j
       → (mayStand (state (c .last) (c .parent)) (number x) ≡ true) × (fine side n x ≡ true) × (ready s c (number x) (length x) ≡ j)
   unfolding fine faultsOf widthOf widthWith
   pass-here c x xs h m j p =
@@ -133,19 +126,19 @@ module _ (side : Side) (n : ℕ) (s : Str) where
       let row : operands (number x) ≡ some (p .row) = ap operands (sym e) ∙ p .has-row in
       let w : 1 + widths (p .row) ≡ length x = sym (ap widthWith row) ∙ sym (m .wide) in (
         sym (stands-state c (number x)) ∙ ap (mayStand c) (sym e) ∙ p .stands,
-        ap (λ (o : Option Str). isFine (faultsOf side n x o)) row ∙ ap isFine (sym (faults-here side n s (c .at) x xs h m (p .row) row w) ∙ p .fine),
+        ap isFine (sym (faults-own side n s (c .at) x xs h m) ∙ ap (faultsOf side n (drop (c .at) s)) row ∙ p .fine),
         ap₂ (ready s c) (sym e) (sym w) ∙ p .is-ready,
       )
 
   -- what is parsed fits
-  pub parsed-fits : (k : ℕ) (c : Cursor) (xs : List Str) (ps : List ℕ) → Here s (c .at) xs → Cmds xs → parse k side s n c ≡ ok ps → fits side n (c .last) (c .parent) xs ≡ true
+  pub parsed-fits : (k : ℕ) (c : Cursor) (xs : List Str) (ps : List ℕ) → Rest s (c .at) xs → AllWhole xs → parse k side s n c ≡ ok ps → fits side n (c .last) (c .parent) xs ≡ true
   unfolding parse fits
   parsed-fits zero c xs ps h m e = absurd (let z : _≡_ {A = ℕ} 0 1 = cc in omega arith)
   parsed-fits (suc k) c [] ps h m e = end (judgedAt side s n c) refl e
     where
       number-end : getD s (c .at) 0 ≡ 15
       number-end =
-          unfold run in
+          unfold streamOf in
           let z : c .at + 0 ≡ c .at = omega arith in
           sym (ap (λ (i : ℕ). getD s i 0) z) ∙ sym (getD-drop (c .at) s 0 0) ∙ ap (λ (y : Str). getD y 0 0) h
 
@@ -159,43 +152,43 @@ module _ (side : Side) (n : ℕ) (s : Str) where
   parsed-fits (suc k) c (x ∷ xs) ps h m e =
       go (λ d ps′ i q. parsed-fits k d xs ps′ i (λ z y. m z (List·Memᴰ·tail y)) q) (judgedAt side s n c) refl e
     where
-      here-cmd : Cmd x
+      here-cmd : Whole x
       here-cmd = m x (List·Memᴰ·head refl)
 
-      on : (d : Cursor) → moved c (number x) (length x) ≡ d → ((d : Cursor) (qs : List ℕ) → Here s (d .at) xs → parse k side s n d ≡ ok qs → fits side n (d .last) (d .parent) xs ≡ true)
+      on : (d : Cursor) → moved c (number x) (length x) ≡ d → ((d : Cursor) (qs : List ℕ) → Rest s (d .at) xs → parse k side s n d ≡ ok qs → fits side n (d .last) (d .parent) xs ≡ true)
           → (qs : List ℕ) → parse k side s n d ≡ ok qs → fits side n (number x) (parentAfter (c .parent) (number x)) xs ≡ true
       on d f ih qs g = ih (moved c (number x) (length x)) qs (next-here s (c .at) x xs h here-cmd) (ap (parse k side s n) f ∙ g)
 
-      go : ((d : Cursor) (qs : List ℕ) → Here s (d .at) xs → parse k side s n d ≡ ok qs → fits side n (d .last) (d .parent) xs ≡ true) → (j : Judged) → judgedAt side s n c ≡ j
+      go : ((d : Cursor) (qs : List ℕ) → Rest s (d .at) xs → parse k side s n d ≡ ok qs → fits side n (d .last) (d .parent) xs ≡ true) → (j : Judged) → judgedAt side s n c ≡ j
           → continued (c .at) (parse k side s n) j ≡ ok ps
           → (mayStand (state (c .last) (c .parent)) (number x) && (fine side n x && fits side n (number x) (parentAfter (c .parent) (number x)) xs)) ≡ true
       go ih (Next d i) f g =
           let w = pass-here c x xs h here-cmd (Next d i) (passed side s n c (Next d i) tt f) in
           let t = onto-ok (c .at) (parse k side s n i) ps (unfold continued in g) in
-          and-true (w .0) (and-true (w .1) (on i (taken-next c (number x) (length x) d i (here-cmd .going) (w .2)) ih (t .more) (t .parsed-so)))
-      go ih Done f g = absurd (not-done c (number x) (length x) (here-cmd .going) (pass-here c x xs h here-cmd Done (passed side s n c Done tt f) .2))
+          and-true (w .0) (and-true (w .1) (on i (taken-next c (number x) (length x) d i (no-end here-cmd) (w .2)) ih (t .more) (t .parsed-so)))
+      go ih Done f g = absurd (not-done c (number x) (length x) (no-end here-cmd) (pass-here c x xs h here-cmd Done (passed side s n c Done tt f) .2))
       go ih (Refused r q) f g = unfold continued in absurd (let z : _≡_ {A = ℕ} 0 1 = cc in omega arith)
 
   -- what fits is parsed
-  judged-end : (c : Cursor) → Here s (c .at) [] → not (eqb (c .last) 0) ≡ true → judgedAt side s n c ≡ Done
-  unfolding judgedAt judgedWith run mayStand ready widths faultsFrom
+  judged-end : (c : Cursor) → Rest s (c .at) [] → not (eqb (c .last) 0) ≡ true → judgedAt side s n c ≡ Done
+  unfolding judgedAt judgedWith streamOf mayStand ready widths faultsFrom
   judged-end c h t =
       let l : length s - c .at ≡ 1 = sym (length-drop (c .at) s) ∙ ap (λ (y : Str). length y) h in
       let z : c .at + 0 ≡ c .at = omega arith in
       let b : getD s (c .at) 0 ≡ 15 = sym (ap (λ (i : ℕ). getD s i 0) z) ∙ sym (getD-drop (c .at) s 0 0) ∙ ap (λ (y : Str). getD y 0 0) h in
       rw (lt-ltb (c .at) (length s) (omega arith), b, end-row, le-ltb (length s - c .at) 1 (omega arith), t, eq-eqb (c .at + 1) (length s) (omega arith), b)
 
-  judged-next : (c : Cursor) (x : Str) (xs : List Str) → Here s (c .at) (x ∷ xs) → Cmd x → mayStand (state (c .last) (c .parent)) (number x) ≡ true → fine side n x ≡ true
+  judged-next : (c : Cursor) (x : Str) (xs : List Str) → Rest s (c .at) (x ∷ xs) → Whole x → mayStand (state (c .last) (c .parent)) (number x) ≡ true → fine side n x ≡ true
       → judgedAt side s n c ≡ Next (commandOf (number x) (drop (c .at) s)) (moved c (number x) (length x))
   unfolding judgedAt judgedWith ready fine faultsOf
   judged-next c x xs h m t f =
       let l = length-here s (c .at) x xs h m in
-      let y = m .some-bytes in
+      let y = some-bytes m in
       let w = m .wide in
       let r = row-of (number x) (omega arith) in
       let e : 1 + widths (r .0) ≡ length x = r .2 ∙ sym w in
       let q : faultsFrom side n (drop (c .at) s) 1 (r .0) ≡ Fine =
-      faults-here side n s (c .at) x xs h m (r .0) (r .1) e ∙ fine-is _ (sym (ap (λ (o : Option Str). isFine (faultsOf side n x o)) (r .1)) ∙ f) in
+      sym (ap (faultsOf side n (drop (c .at) s)) (r .1)) ∙ faults-own side n s (c .at) x xs h m ∙ fine-is _ f in
       rw (
         lt-ltb (c .at) (length s) (omega arith),
         number-here s (c .at) x xs h m,
@@ -205,12 +198,12 @@ module _ (side : Side) (n : ℕ) (s : Str) where
         stands-state c (number x) ∙ t,
         q,
         number-here s (c .at) x xs h m,
-        ne-eqb (number x) 15 (m .going),
+        ne-eqb (number x) 15 (no-end m),
       )
 
-  pub fits-parsed : (k : ℕ) (c : Cursor) (xs : List Str) → Here s (c .at) xs → Cmds xs → length xs + 1 ≤ k → fits side n (c .last) (c .parent) xs ≡ true
-      → parse k side s n c ≡ ok (spots (c .at) xs)
-  unfolding parse fits continued spots onto
+  pub fits-parsed : (k : ℕ) (c : Cursor) (xs : List Str) → Rest s (c .at) xs → AllWhole xs → length xs + 1 ≤ k → fits side n (c .last) (c .parent) xs ≡ true
+      → parse k side s n c ≡ ok (placesFrom (c .at) xs)
+  unfolding parse fits continued placesFrom onto
   fits-parsed zero c xs h m l e = absurd (omega arith)
   fits-parsed (suc k) c [] h m l e = rw (judged-end c h e)
   fits-parsed (suc k) c (x ∷ xs) h m l e =

@@ -1,6 +1,6 @@
--- W-214 on bytes: a record cut into its head, its sections and the end, and the same record with its sections in another order. Assumes nothing.
+-- W-214: records whose sections stand in another order, over bytes. Assumes nothing.
 use mathlib.Core.Path.{_≡_}
-use mathlib.Core.List.{List, [], _∷_, _++_, map, List·Memᴰ, List·Permᴰ}
+use mathlib.Core.List.{List, [], _∷_, _++_, map, flatten, Forall₂, List·Memᴰ, List·Permᴰ}
 use mathlib.Core.Bool.{Bool, true, false, _&&_}
 use Prim.Native.Nat.{ℕ}
 use lib.Dec.{eqb}
@@ -9,100 +9,116 @@ use Rattle.record.specs.Base.{Str, any}
 use Rattle.record.specs.Commands.{widthOf}
 use Rattle.record.specs.Schema.{Schema, Const, Alias, Enum, EnumValue, BitField, Member, Struct, Family, Key}
 use Rattle.record.specs.Keys.{pluginKeys}
-use Rattle.layout.specs.Layout.{TypeLayout, flattened}
-use Rattle.definition.specs.Chain.{NoDup, slotsOf}
 use Rattle.record.specs.Reading.{Rec, read, reading}
 use Rattle.record.specs.declared.refusal.Side.{Side}
+use Rattle.layout.specs.Layout.{TypeLayout, flattened}
+use Rattle.definition.specs.Pass.{allOf}
+use Rattle.definition.specs.Chain.{NoDup, slotsOf}
 use Rattle.definition.specs.Answer.{check}
 
--- a stream as commands ------------------------------------------------------------------------------------------------------------
+-- a stream as commands ----------------------------------------------------------------------------------------------------
 
 -- the first byte of a command
 abbrev pub number : Str → ℕ
 number x = getD x 0 0
 
--- whole commands one after the other, and the end command
-unfoldable pub run : List Str → Str
-run [] = 15 ∷ []
-run (x ∷ xs) = x ++ run xs
+-- commands one after the other, and 0F
+unfoldable pub streamOf : List Str → Str
+streamOf [] = 15 ∷ []
+streamOf (x ∷ xs) = x ++ streamOf xs
 
--- a whole command, as long as 01 says of its number, and that is one of these
+-- a command whose number is one of these, as long as 01 says of its number
 unfoldable pub isCommand : List ℕ → Str → Bool
-isCommand l x = eqb (length x) (widthOf (number x)) && any (eqb (number x)) l
+isCommand ns x = eqb (length x) (widthOf (number x)) && any (eqb (number x)) ns
 
-unfoldable pub allCommands : List ℕ → List Str → Bool
-allCommands l [] = true
-allCommands l (x ∷ xs) = isCommand l x && allCommands l xs
+unfoldable pub areCommands : List ℕ → List Str → Bool
+areCommands ns xs = allOf (isCommand ns) xs
 
--- the commands that begin a section: constant, alias, enum, bit field, struct, family, unstored plugin key, version
+-- 02: "whole constants, aliases, enums with their values, bit fields with their members, structures, families, unstored keys and version
+-- entries": the commands that begin a section
 unfoldable pub openers : List ℕ
 openers = 2 ∷ 3 ∷ 4 ∷ 6 ∷ 8 ∷ 9 ∷ 13 ∷ 14 ∷ []
 
--- the commands inside one: value, member, variant, field, plugin key
+-- those inside a section: value, member, variant, field, plugin key
 unfoldable pub insiders : List ℕ
 insiders = 5 ∷ 7 ∷ 10 ∷ 11 ∷ 12 ∷ []
 
--- a whole section: a command that begins one, and all that belongs to it
+-- a section, as 02 and this request use the word: a command that begins one, and all commands inside it
 unfoldable pub isSection : List Str → Bool
 isSection [] = false
-isSection (x ∷ xs) = isCommand openers x && allCommands insiders xs
+isSection (x ∷ xs) = isCommand openers x && areCommands insiders xs
 
--- a whole variant with its fields and their plugin keys
-unfoldable pub isVariant : List Str → Bool
-isVariant [] = false
-isVariant (x ∷ xs) = isCommand (10 ∷ []) x && allCommands (11 ∷ 12 ∷ []) xs
-
-unfoldable pub allOf : {A : Type 0} → (A → Bool) → List A → Bool
-allOf p [] = true
-allOf p (x ∷ xs) = p x && allOf p xs
-
-unfoldable pub joinAll : {A : Type 0} → List (List A) → List A
-joinAll [] = []
-joinAll (l ∷ ls) = l ++ joinAll ls
-
--- a record as its head, its sections and the end: so is every record that can be read (proofs/Cut)
-pub record Cut (r : Rec) : Type 0 where
+-- a record as its head, its sections and the end, as every record that can be read is (proofs/Sectioned)
+pub record Sectioned (r : Rec) : Type 0 where
   pub head : Str
   pub is-head : isCommand (1 ∷ []) head ≡ true
   pub sections : List (List Str)
   pub are-sections : allOf isSection sections ≡ true
-  pub stream : r .stream ≡ run (head ∷ joinAll sections)
+  pub stream : r .stream ≡ streamOf (head ∷ flatten sections)
 
--- another order -------------------------------------------------------------------------------------------------------------------
+-- another order -----------------------------------------------------------------------------------------------------------
 
--- a section as it is, or with the values of its enum, the members of its bit field or the variants of its family in another order. Fields are not moved
-pub data Turned : List Str → List Str → Type 0 where
-  as-it-is : {a b : List Str} → a ≡ b → Turned a b
-  values-moved : (e : Str) (vs ws : List Str) → isCommand (4 ∷ []) e ≡ true → allCommands (5 ∷ []) vs ≡ true → List·Permᴰ vs ws → Turned (e ∷ vs) (e ∷ ws)
-  members-moved : (e : Str) (vs ws : List Str) → isCommand (6 ∷ []) e ≡ true → allCommands (7 ∷ []) vs ≡ true → List·Permᴰ vs ws → Turned (e ∷ vs) (e ∷ ws)
-  variants-moved : (m : Str) (fs : List Str) (vs ws : List (List Str)) → isCommand (9 ∷ []) m ≡ true → allCommands (11 ∷ 12 ∷ []) fs ≡ true
-      → allOf isVariant vs ≡ true → List·Permᴰ vs ws → Turned (m ∷ fs ++ joinAll vs) (m ∷ fs ++ joinAll ws)
+-- 02: "swapping two variants of a family, two enum values or two members": the parts of a section that may change places
+pub data Part : Type 0 where
+  value : Part
+  member : Part
+  variant : Part
 
--- two lists, element by element
-pub data Pairs {A : Type 0} (R : A → A → Type 0) : List A → List A → Type 0 where
-  no-more : Pairs R [] []
-  and-more : {x y : A} {a b : List A} → R x y → Pairs R a b → Pairs R (x ∷ a) (y ∷ b)
+-- the command that begins a section with such parts
+unfoldable pub sectionOf : Part → ℕ
+sectionOf value = 4
+sectionOf member = 6
+sectionOf variant = 9
 
--- W-214: the sections of the one record in another order, across all kinds, each of them as it is or turned; the same pool, scalar words, head and end
-pub record Moved (a b : Rec) : Type 0 where
+-- the command that begins such a part
+unfoldable pub partOf : Part → ℕ
+partOf value = 5
+partOf member = 7
+partOf variant = 10
+
+-- what goes with either and keeps its order: the fields, with their plugin keys, of a family and of a variant
+unfoldable pub fieldsOf : Part → List ℕ
+fieldsOf value = []
+fieldsOf member = []
+fieldsOf variant = 11 ∷ 12 ∷ []
+
+unfoldable pub isPart : Part → List Str → Bool
+isPart k [] = false
+isPart k (x ∷ xs) = isCommand (partOf k ∷ []) x && areCommands (fieldsOf k) xs
+
+-- a section as it is, or with its values, members or variants in another order. 02: "Fields inside a type are not moved"
+pub data PartsMoved : List Str → List Str → Type 0 where
+  as-it-is : {s t : List Str} → s ≡ t → PartsMoved s t
+  parts-moved : (k : Part) (x : Str) (fs : List Str) (ps qs : List (List Str)) → isCommand (sectionOf k ∷ []) x ≡ true
+      → areCommands (fieldsOf k) fs ≡ true → allOf (isPart k) ps ≡ true → List·Permᴰ ps qs
+      → PartsMoved (x ∷ fs ++ flatten ps) (x ∷ fs ++ flatten qs)
+
+-- one list as another in some order, its elements up to a relation
+pub record Shuffled {A : Type 0} (R : A → A → Type 0) (a b : List A) : Type 0 where
+  pub between : List A
+  pub permuted : List·Permᴰ a between
+  pub related : Forall₂ R between b
+
+-- 02: "Sections in another order": two records with one pool, one head and one end, the sections of the one a permutation of the other's,
+-- across all kinds, each of them as it is or with its parts moved
+pub record Reordered (a b : Rec) : Type 0 where
   pub pool : a .pool ≡ b .pool
   pub scalars : a .scalars ≡ b .scalars
   pub head : Str
   pub is-head : isCommand (1 ∷ []) head ≡ true
   pub sections : List (List Str)
   pub are-sections : allOf isSection sections ≡ true
-  pub between : List (List Str)
-  pub permuted : List·Permᴰ sections between
   pub others : List (List Str)
-  pub turned : Pairs Turned between others
-  pub stream-one : a .stream ≡ run (head ∷ joinAll sections)
-  pub stream-other : b .stream ≡ run (head ∷ joinAll others)
+  pub shuffled : Shuffled PartsMoved sections others
+  pub stream : a .stream ≡ streamOf (head ∷ flatten sections)
+  pub other-stream : b .stream ≡ streamOf (head ∷ flatten others)
 
--- the premise ---------------------------------------------------------------------------------------------------------------------
+-- the premise -------------------------------------------------------------------------------------------------------------
 
--- "no name or slot twice in its list or among the layouts". 01: a list is one section, the fields, values, members or variants of one parent, or all
--- plugin keys together; version entries are free. (Fields are not moved, and a variant's name is in its layout's: they need no line of their own.)
-pub record Once (s : Schema) : Type 0 where
+-- 02: "no name or slot twice in its list or among the layouts". 01: "A list is one section, the fields, values, members or variants of one
+-- parent, or all plugin keys together; version entries are free." Its "one section" is all constants, all aliases, and so on. Fields are not
+-- moved, and a variant's name is part of its layout's, so neither has a line of its own here.
+pub record NoneTwice (s : Schema) : Type 0 where
   pub constants : NoDup (map (λ (c : Const). c .name) (s .constants))
   pub aliases : NoDup (map (λ (l : Alias). l .name) (s .aliases))
   pub enums : NoDup (map (λ (e : Enum). e .name) (s .enums))
@@ -115,12 +131,12 @@ pub record Once (s : Schema) : Type 0 where
   pub slots : NoDup (slotsOf (s .structs))
   pub layouts : NoDup (map (λ (t : TypeLayout). t .name) (flattened s))
 
--- what is said ------------------------------------------------------------------------------------------------------------------------
+-- what is said ------------------------------------------------------------------------------------------------------------
 
 -- a record that can be read
 abbrev pub Readable : Side → Rec → Type 0
 Readable side r = (s : Schema) × (reading side r ≡ read s)
 
--- 01: number 0 accepts, whatever the buffer
+-- 01: "Number 0 accepts, whatever the buffer"
 abbrev pub Accepts : ℕ → Rec → Rec → Type 0
 Accepts room cur rel = check room cur rel .number ≡ 0

@@ -1,6 +1,6 @@
 -- Every record that can be read is its head, whole sections and the end. Assumes nothing.
 use mathlib.Core.Path.{_≡_, refl, sym, _∙_, ap, ap₂, subst}
-use mathlib.Core.List.{List, [], _∷_, _++_}
+use mathlib.Core.List.{List, [], _∷_, _++_, flatten}
 use mathlib.Core.Option.{Option, none, some}
 use mathlib.Core.Bool.{Bool, true, false, _||_, not, cond, false≢true}
 use mathlib.Core.Logic.{_⊎_, inl, inr}
@@ -25,10 +25,12 @@ use Rattle.record.specs.declared.judge.Judged.{Judged}
 use Rattle.record.specs.declared.judge.Judged.the-variants.{Next, Done, Refused}
 use Rattle.record.proofs.Basics.{both}
 use Rattle.record.proofs.Accepted.{Passed, passed, onto-ok, accepting}
-use Rattle.definition.specs.Sections.{number, run, isCommand, allCommands, openers, insiders, isSection, allOf, joinAll, Cut}
-use Rattle.definition.proofs.Cutting.{one-of, Here}
-use Rattle.definition.proofs.Parted.{not-true, command-one}
+use Rattle.definition.specs.Pass.{allOf}
+use Rattle.definition.specs.Sections.{number, streamOf, isCommand, areCommands, openers, insiders, isSection, Sectioned}
+use Rattle.definition.proofs.Lists.{not-true}
+use Rattle.definition.proofs.CommandStreams.{one-of, Rest}
 use Rattle.definition.proofs.Fitting.{state, stands-state, end-row, taken-next}
+use Rattle.definition.proofs.SectionLists.{its-number}
 
 -- the numbers of commands ---------------------------------------------------------------------------------------------------------
 
@@ -57,12 +59,12 @@ unfolding all-numbers allOf sorts any openers insiders isSome
 sorted-out b os e = one-of sorts all-numbers refl b (sym (rows-are b) ∙ ap isSome e)
 
 -- one command of a stream
-record First (s : Str) (at : ℕ) (x : Str) : Type 0 where
+record FirstCommand (s : Str) (at : ℕ) (x : Str) : Type 0 where
   wide : length x ≡ widthOf (number x)
   is-number : number x ≡ getD s at 0
   rest : drop at s ≡ x ++ drop (at + length x) s
 
-first-command : (s : Str) (at w : ℕ) → 1 ≤ w → w ≤ length s - at → widthOf (getD s at 0) ≡ w → First s at (take w (drop at s))
+first-command : (s : Str) (at w : ℕ) → 1 ≤ w → w ≤ length s - at → widthOf (getD s at 0) ≡ w → FirstCommand s at (take w (drop at s))
 first-command s at w h k e =
     let d = length-drop at s in
     let l : length (take w (drop at s)) ≡ w = length-take-le w (drop at s) (omega arith) in
@@ -147,14 +149,14 @@ module _ (side : Side) (n : ℕ) (s : Str) where
       go true h = let z : _≡_ {A = ℕ} 0 1 = cc in omega arith
       go false h = let z : _≡_ {A = ℕ} 0 1 = cc in omega arith
 
-  parse-cut : (k : ℕ) (c : Cursor) (ps : List ℕ) → parse k side s n c ≡ ok ps → (xs : List Str) × Here s (c .at) xs × Standing (c .last) (c .parent) xs
-  unfolding parse run
-  parse-cut zero c ps e = absurd (let z : _≡_ {A = ℕ} 0 1 = cc in omega arith)
-  parse-cut (suc k) c ps e = go (parse-cut k) (judgedAt side s n c) refl e
+  parse-commands : (k : ℕ) (c : Cursor) (ps : List ℕ) → parse k side s n c ≡ ok ps → (xs : List Str) × Rest s (c .at) xs × Standing (c .last) (c .parent) xs
+  unfolding parse streamOf
+  parse-commands zero c ps e = absurd (let z : _≡_ {A = ℕ} 0 1 = cc in omega arith)
+  parse-commands (suc k) c ps e = go (parse-commands k) (judgedAt side s n c) refl e
     where
-      on : ((d : Cursor) (qs : List ℕ) → parse k side s n d ≡ ok qs → (xs : List Str) × Here s (d .at) xs × Standing (d .last) (d .parent) xs)
+      on : ((d : Cursor) (qs : List ℕ) → parse k side s n d ≡ ok qs → (xs : List Str) × Rest s (d .at) xs × Standing (d .last) (d .parent) xs)
           → (d : Command) (i : Cursor) → Passed side s n c (Next d i) → (qs : List ℕ) → parse k side s n i ≡ ok qs
-          → (xs : List Str) × Here s (c .at) xs × Standing (c .last) (c .parent) xs
+          → (xs : List Str) × Rest s (c .at) xs × Standing (c .last) (c .parent) xs
       on ih d i p qs h =
           let b = getD s (c .at) 0 in
           let w = 1 + widths (p .row) in
@@ -170,8 +172,8 @@ module _ (side : Side) (n : ℕ) (s : Str) where
                 (subst (λ (j : ℕ). Standing j (parentAfter (c .parent) j) (r .0)) (sym (f .is-number)) (r .2)),
           )
 
-      go : ((d : Cursor) (qs : List ℕ) → parse k side s n d ≡ ok qs → (xs : List Str) × Here s (d .at) xs × Standing (d .last) (d .parent) xs) → (j : Judged) → judgedAt side s n c ≡ j
-          → continued (c .at) (parse k side s n) j ≡ ok ps → (xs : List Str) × Here s (c .at) xs × Standing (c .last) (c .parent) xs
+      go : ((d : Cursor) (qs : List ℕ) → parse k side s n d ≡ ok qs → (xs : List Str) × Rest s (d .at) xs × Standing (d .last) (d .parent) xs) → (j : Judged) → judgedAt side s n c ≡ j
+          → continued (c .at) (parse k side s n) j ≡ ok ps → (xs : List Str) × Rest s (c .at) xs × Standing (c .last) (c .parent) xs
       go ih (Next d i) f h = let t = onto-ok (c .at) (parse k side s n i) ps (unfold continued in h) in on ih d i (passed side s n c (Next d i) tt f) (t .more) (t .parsed-so)
       go ih Done f h = let p = passed side s n c Done tt f in ([], done-end c p, at-end (done-after c p))
       go ih (Refused r q) f h = unfold continued in absurd (let z : _≡_ {A = ℕ} 0 1 = cc in omega arith)
@@ -197,32 +199,32 @@ begins-or-inside l p x z m w h e = go (eqb (number x) 1) refl (eqb (number x) 15
 
 no-zero : (x : Str) → (isCommand openers x ≡ true) ⊎ (isCommand insiders x ≡ true) → eqb (number x) 0 ≡ false
 unfolding openers insiders allOf
-no-zero x (inl h) = not-true (eqb (number x) 0) (one-of (λ (k : ℕ). not (eqb k 0)) openers refl (number x) (command-one openers x h))
-no-zero x (inr h) = not-true (eqb (number x) 0) (one-of (λ (k : ℕ). not (eqb k 0)) insiders refl (number x) (command-one insiders x h))
+no-zero x (inl h) = not-true (eqb (number x) 0) (one-of (λ (k : ℕ). not (eqb k 0)) openers refl (number x) (its-number openers x h))
+no-zero x (inr h) = not-true (eqb (number x) 0) (one-of (λ (k : ℕ). not (eqb k 0)) insiders refl (number x) (its-number insiders x h))
 
 -- commands inside, and then sections
 grouped : (l : ℕ) (p : Parent) (xs : List Str) → eqb l 0 ≡ false → Standing l p xs
-    → (fs : List Str) × (secs : List (List Str)) × (allCommands insiders fs ≡ true) × (allOf isSection secs ≡ true) × (fs ++ joinAll secs ≡ xs)
-unfolding allCommands allOf joinAll isSection
+    → (fs : List Str) × (secs : List (List Str)) × (areCommands insiders fs ≡ true) × (allOf isSection secs ≡ true) × (fs ++ flatten secs ≡ xs)
+unfolding areCommands allOf flatten isSection
 grouped l p xs z (at-end y) = ([], [], refl, refl, refl)
 grouped l p xs z (and-then {x = x} {xs = ys} m w h e s) = go (begins-or-inside l p x z m w h e) (grouped (number x) (parentAfter p (number x)) ys (no-zero x (begins-or-inside l p x z m w h e)) s)
   where
     go : (isCommand openers x ≡ true) ⊎ (isCommand insiders x ≡ true)
-        → (fs : List Str) × (secs : List (List Str)) × (allCommands insiders fs ≡ true) × (allOf isSection secs ≡ true) × (fs ++ joinAll secs ≡ ys)
-        → (fs : List Str) × (secs : List (List Str)) × (allCommands insiders fs ≡ true) × (allOf isSection secs ≡ true) × (fs ++ joinAll secs ≡ x ∷ ys)
+        → (fs : List Str) × (secs : List (List Str)) × (areCommands insiders fs ≡ true) × (allOf isSection secs ≡ true) × (fs ++ flatten secs ≡ ys)
+        → (fs : List Str) × (secs : List (List Str)) × (areCommands insiders fs ≡ true) × (allOf isSection secs ≡ true) × (fs ++ flatten secs ≡ x ∷ ys)
     go (inl o) r = ([], (x ∷ r .0) ∷ r .1, refl, rw (o, r .2, r .3), ap (λ (l : List Str). x ∷ l) (r .4))
     go (inr i) r = (x ∷ r .0, r .1, rw (i, r .2), r .3, ap (λ (l : List Str). x ∷ l) (r .4))
 
 -- none is inside before the first section
-none-before : (fs : List Str) (secs : List (List Str)) (xs : List Str) → allCommands insiders fs ≡ true → fs ++ joinAll secs ≡ xs → Standing 1 NoParent xs → fs ≡ []
-unfolding allCommands
+none-before : (fs : List Str) (secs : List (List Str)) (xs : List Str) → areCommands insiders fs ≡ true → fs ++ flatten secs ≡ xs → Standing 1 NoParent xs → fs ≡ []
+unfolding areCommands allOf
 none-before [] secs xs h e s = refl
 none-before (f ∷ fs) secs xs h e s = absurd (go (subst (Standing 1 NoParent) (sym e) s))
   where
-    go : Standing 1 NoParent (f ∷ (fs ++ joinAll secs)) → ⊥
+    go : Standing 1 NoParent (f ∷ (fs ++ flatten secs)) → ⊥
     go (and-then m w k q r) =
-        let i = both (isCommand insiders f) (allCommands insiders fs) h .0 in
-        false≢true (sym (no-stand (number f) (command-one insiders f i)) ∙ m)
+        let i = both (isCommand insiders f) (areCommands insiders fs) h .0 in
+        false≢true (sym (no-stand (number f) (its-number insiders f i)) ∙ m)
 
 -- the head comes first
 head-first : (xs : List Str) → Standing 0 NoParent xs → (x : Str) × (ys : List Str) × (xs ≡ x ∷ ys) × (isCommand (1 ∷ []) x ≡ true) × Standing 1 NoParent ys
@@ -233,11 +235,11 @@ head-first xs (and-then {x = x} {xs = ys} m w h e s) =
     (x, ys, refl, is-one (1 ∷ []) x w (one-known (number x) n), subst (λ (k : ℕ). Standing k (parentAfter NoParent k) ys) n s)
 
 -- every record that can be read is cut into its head, sections and the end
-pub readable-cut : (side : Side) (r : Rec) (t : Schema) → reading side r ≡ read t → Cut r
+pub readable-sectioned : (side : Side) (r : Rec) (t : Schema) → reading side r ≡ read t → Sectioned r
 unfolding parsed
-readable-cut side r t h =
+readable-sectioned side r t h =
     let a = accepting side r t h in
-    let c = parse-cut side (length (r .pool)) (r .stream) (length (r .stream) + 1) start (commandsAt (r .stream) 0) (a .parsed-all) in
+    let c = parse-commands side (length (r .pool)) (r .stream) (length (r .stream) + 1) start (commandsAt (r .stream) 0) (a .parsed-all) in
     let f = head-first (c .0) (c .2) in
     let g = grouped 1 NoParent (f .1) refl (f .4) in
     let n = none-before (g .0) (g .1) (f .1) (g .2) (g .4) (f .4) in
@@ -246,5 +248,5 @@ readable-cut side r t h =
       is-head = f .3;
       sections = g .1;
       are-sections = g .3;
-      stream = c .1 ∙ ap run (f .2 ∙ ap (λ (l : List Str). f .0 ∷ l) (sym (g .4) ∙ ap (λ (l : List Str). l ++ joinAll (g .1)) n));
+      stream = c .1 ∙ ap streamOf (f .2 ∙ ap (λ (l : List Str). f .0 ∷ l) (sym (g .4) ∙ ap (λ (l : List Str). l ++ flatten (g .1)) n));
     }
