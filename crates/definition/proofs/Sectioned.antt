@@ -1,8 +1,8 @@
 -- Every record that can be read is its head, whole sections and the end. Assumes nothing.
 use mathlib.Core.Path.{_≡_, refl, sym, _∙_, ap, ap₂, subst}
-use mathlib.Core.List.{List, [], _∷_, _++_, flatten}
+use mathlib.Core.List.{List, [], _∷_, _++_, flatten, List·Memᴰ·head, List·Memᴰ·tail, List·Memᴰ·not-nil}
 use mathlib.Core.Option.{Option, none, some}
-use mathlib.Core.Bool.{Bool, true, false, _||_, not, cond, false≢true}
+use mathlib.Core.Bool.{Bool, true, false, _||_, not, cond, false≢true, Bool·beq}
 use mathlib.Core.Logic.{_⊎_, inl, inr}
 use Prim.Native.Nat.{ℕ, zero, suc, _+_, _-_, _≤_}
 use native.Mathlib.Omega.{arith}
@@ -27,20 +27,21 @@ use Rattle.record.proofs.Basics.{both}
 use Rattle.record.proofs.Accepted.{Passed, passed, onto-ok, accepting}
 use Rattle.definition.specs.Pass.{allOf}
 use Rattle.definition.specs.Sections.{number, streamOf, isCommand, areCommands, openers, insiders, isSection, Sectioned}
+use Rattle.definition.proofs.Same.{beq→eq}
 use Rattle.definition.proofs.Lists.{not-true}
-use Rattle.definition.proofs.CommandStreams.{one-of, Rest}
-use Rattle.definition.proofs.Fitting.{state, stands-state, end-row, taken-next}
+use Rattle.definition.proofs.CommandStreams.{one-of, numbers, Whole, AllWhole, Rest}
+use Rattle.definition.proofs.Fitting.{state, fine, fits, end-row, taken-next, parsed-fits}
 use Rattle.definition.proofs.SectionLists.{its-number}
 
--- the numbers of commands ---------------------------------------------------------------------------------------------------------
-
-all-numbers : List ℕ
-all-numbers = 1 ∷ 2 ∷ 3 ∷ 4 ∷ 5 ∷ 6 ∷ 7 ∷ 8 ∷ 9 ∷ 10 ∷ 11 ∷ 12 ∷ 13 ∷ 14 ∷ 15 ∷ []
+-- the commands of a stream ------------------------------------------------------------------------------------------------
 
 some-cond : (c : Bool) (x : Str) (y : Option Str) (z : Bool) → isSome y ≡ z → isSome (cond c (some x) y) ≡ (c || z)
 unfolding isSome
 some-cond true x y z h = refl
 some-cond false x y z h = h
+
+all-numbers : List ℕ
+all-numbers = 1 ∷ 2 ∷ 3 ∷ 4 ∷ 5 ∷ 6 ∷ 7 ∷ 8 ∷ 9 ∷ 10 ∷ 11 ∷ 12 ∷ 13 ∷ 14 ∷ 15 ∷ []
 
 rows-are : (b : ℕ) → isSome (operands b) ≡ any (eqb b) all-numbers
 unfolding operands any all-numbers
@@ -50,13 +51,18 @@ rows-are b =
     (some-cond (eqb b 9) _ _ _ (some-cond (eqb b 10) _ _ _ (some-cond (eqb b 11) _ _ _ (some-cond (eqb b 12) _ _ _
     (some-cond (eqb b 13) _ _ _ (some-cond (eqb b 14) _ _ _ (some-cond (eqb b 15) _ none false (unfold isSome in refl)))))))))))))))
 
--- a command is the head, the end, one that begins a section or one inside
-sorts : ℕ → Bool
-sorts k = eqb k 1 || (eqb k 15 || (any (eqb k) openers || any (eqb k) insiders))
+-- a number that has a row is a command's or the end's
+known-number : (b : ℕ) (os : Str) → operands b ≡ some os → (b ≡ 15 → ⊥) → any (eqb b) numbers ≡ true
+unfolding all-numbers allOf numbers any isSome
+known-number b os e g = go (eqb b 15) refl (one-of (λ (k : ℕ). eqb k 15 || any (eqb k) numbers) all-numbers refl b (sym (rows-are b) ∙ ap isSome e))
+  where
+    go : (t : Bool) → eqb b 15 ≡ t → (t || any (eqb b) numbers) ≡ true → any (eqb b) numbers ≡ true
+    go true q h = absurd (g (eqb-true b 15 q))
+    go false q h = h
 
-sorted-out : (b : ℕ) (os : Str) → operands b ≡ some os → sorts b ≡ true
-unfolding all-numbers allOf sorts any openers insiders isSome
-sorted-out b os e = one-of sorts all-numbers refl b (sym (rows-are b) ∙ ap isSome e)
+row-width : (b : ℕ) (os : Str) → operands b ≡ some os → widthOf b ≡ 1 + widths os
+unfolding widthOf widthWith
+row-width b os e = ap widthWith e
 
 -- one command of a stream
 record FirstCommand (s : Str) (at : ℕ) (x : Str) : Type 0 where
@@ -73,41 +79,13 @@ first-command s at w h k e =
     record {
       wide = l ∙ sym e ∙ ap widthOf (sym n);
       is-number = n;
-      rest = sym (take-append-drop w (drop at s)) ∙ ap (λ (r : Str). take w (drop at s) ++ r) (drop-drop w at s) ∙ ap (λ (i : ℕ). take w (drop at s) ++ drop (at + i) s) (sym l);
+      rest = sym (take-append-drop w (drop at s)) ∙ ap (λ (r : Str). take w (drop at s) ++ r) (drop-drop w at s)
+          ∙ ap (λ (i : ℕ). take w (drop at s) ++ drop (at + i) s) (sym l);
     }
 
-row-width : (b : ℕ) (os : Str) → operands b ≡ some os → widthOf b ≡ 1 + widths os
-unfolding widthOf widthWith
-row-width b os e = ap widthWith e
-
--- none of those inside may stand after the head
-no-stand : (b : ℕ) → any (eqb b) insiders ≡ true → mayStand (state 1 NoParent) b ≡ false
-unfolding insiders mayStand follows allOf
-no-stand b h = not-true (mayStand (state 1 NoParent) b) (one-of (λ (k : ℕ). not (mayStand (state 1 NoParent) k)) insiders refl b h)
-
-one-known : (b : ℕ) → b ≡ 1 → any (eqb b) (1 ∷ []) ≡ true
-unfolding any
-one-known b e = rw (eq-eqb b 1 e)
-
--- only the head may stand first
-only-head : (b : ℕ) → mayStand (state 0 NoParent) b ≡ true → b ≡ 1
-unfolding mayStand follows
-only-head b h = go (eqb b 1) refl (eqb b 5) (eqb b 7) (eqb b 10) (eqb b 11) (eqb b 12) h
-  where
-    go : (a : Bool) → eqb b 1 ≡ a → (c d e f g : Bool) → cond a true (cond c false (cond d false (cond e false (cond f false (cond g false false))))) ≡ true → b ≡ 1
-    go true q c d e f g k = eqb-true b 1 q
-    go false q true d e f g k = absurd (false≢true k)
-    go false q false true e f g k = absurd (false≢true k)
-    go false q false false true f g k = absurd (false≢true k)
-    go false q false false false true g k = absurd (false≢true k)
-    go false q false false false false true k = absurd (false≢true k)
-    go false q false false false false false k = absurd (false≢true k)
-
--- commands in order, each of which may stand after those before it
-data Standing : ℕ → Parent → List Str → Type 0 where
-  at-end : {l : ℕ} {p : Parent} → eqb l 0 ≡ false → Standing l p []
-  and-then : {l : ℕ} {p : Parent} {x : Str} {xs : List Str} → mayStand (state l p) (number x) ≡ true → length x ≡ widthOf (number x) → sorts (number x) ≡ true
-      → (number x ≡ 15 → ⊥) → Standing (number x) (parentAfter p (number x)) xs → Standing l p (x ∷ xs)
+and-more : (x : Str) (xs : List Str) → Whole x → AllWhole xs → AllWhole (x ∷ xs)
+and-more x xs w c y (List·Memᴰ·head e) = subst Whole (sym e) w
+and-more x xs w c y (List·Memᴰ·tail m) = c y m
 
 module _ (side : Side) (n : ℕ) (s : Str) where
   done-end : (c : Cursor) → Passed side s n c Done → drop (c .at) s ≡ 15 ∷ []
@@ -131,16 +109,6 @@ module _ (side : Side) (n : ℕ) (s : Str) where
       go true e h = last (eqb-true (getD s (c .at) 0) 15 e) (eqb (c .at + (1 + widths (p .row))) (length s)) refl h
       go false e h = absurd (let z : _≡_ {A = ℕ} 0 1 = cc in omega arith)
 
-  done-after : (c : Cursor) → Passed side s n c Done → eqb (c .last) 0 ≡ false
-  unfolding ready mayStand
-  done-after c p = not-true (eqb (c .last) 0) (go (eqb (getD s (c .at) 0) 15) refl (p .is-ready))
-    where
-      go : (t : Bool) → eqb (getD s (c .at) 0) 15 ≡ t
-          → cond t (cond (eqb (c .at + (1 + widths (p .row))) (length s)) Done (Refused R.Misplaced (c .at + (1 + widths (p .row)))))
-          (Next (commandOf (getD s (c .at) 0) (drop (c .at) s)) (moved c (getD s (c .at) 0) (1 + widths (p .row)))) ≡ Done → not (eqb (c .last) 0) ≡ true
-      go true e h = sym (ap (mayStand c) (eqb-true (getD s (c .at) 0) 15 e)) ∙ p .stands
-      go false e h = absurd (let z : _≡_ {A = ℕ} 0 1 = cc in omega arith)
-
   not-end : (c : Cursor) (b w : ℕ) (d : Command) (k : Cursor) → ready s c b w ≡ Next d k → b ≡ 15 → ⊥
   unfolding ready
   not-end c b w d k e q = go (eqb (c .at + w) (length s)) (sym (ap (λ (t : Bool). cond t (cond (eqb (c .at + w) (length s)) Done (Refused R.Misplaced (c .at + w))) (Next (commandOf b (drop (c .at) s)) (moved c b w))) (eq-eqb b 15 q)) ∙ e)
@@ -149,14 +117,15 @@ module _ (side : Side) (n : ℕ) (s : Str) where
       go true h = let z : _≡_ {A = ℕ} 0 1 = cc in omega arith
       go false h = let z : _≡_ {A = ℕ} 0 1 = cc in omega arith
 
-  parse-commands : (k : ℕ) (c : Cursor) (ps : List ℕ) → parse k side s n c ≡ ok ps → (xs : List Str) × Rest s (c .at) xs × Standing (c .last) (c .parent) xs
+  -- what is parsed is whole commands and the end
+  parse-whole : (k : ℕ) (c : Cursor) (ps : List ℕ) → parse k side s n c ≡ ok ps → (xs : List Str) × Rest s (c .at) xs × AllWhole xs
   unfolding parse streamOf
-  parse-commands zero c ps e = absurd (let z : _≡_ {A = ℕ} 0 1 = cc in omega arith)
-  parse-commands (suc k) c ps e = go (parse-commands k) (judgedAt side s n c) refl e
+  parse-whole zero c ps e = absurd (let z : _≡_ {A = ℕ} 0 1 = cc in omega arith)
+  parse-whole (suc k) c ps e = go (parse-whole k) (judgedAt side s n c) refl e
     where
-      on : ((d : Cursor) (qs : List ℕ) → parse k side s n d ≡ ok qs → (xs : List Str) × Rest s (d .at) xs × Standing (d .last) (d .parent) xs)
+      on : ((d : Cursor) (qs : List ℕ) → parse k side s n d ≡ ok qs → (xs : List Str) × Rest s (d .at) xs × AllWhole xs)
           → (d : Command) (i : Cursor) → Passed side s n c (Next d i) → (qs : List ℕ) → parse k side s n i ≡ ok qs
-          → (xs : List Str) × Rest s (c .at) xs × Standing (c .last) (c .parent) xs
+          → (xs : List Str) × Rest s (c .at) xs × AllWhole xs
       on ih d i p qs h =
           let b = getD s (c .at) 0 in
           let w = 1 + widths (p .row) in
@@ -168,85 +137,111 @@ module _ (side : Side) (n : ℕ) (s : Str) where
           let r = ih (moved c b w) qs (ap (parse k side s n) m ∙ h) in (
             x ∷ r .0,
             f .rest ∙ ap (λ (t : Str). x ++ t) (ap (λ (j : ℕ). drop (c .at + j) s) l ∙ r .1),
-            and-then (sym (stands-state c (number x)) ∙ ap (mayStand c) (f .is-number) ∙ p .stands) (f .wide) (ap sorts (f .is-number) ∙ sorted-out b (p .row) (p .has-row)) (λ q. g (sym (f .is-number) ∙ q))
-                (subst (λ (j : ℕ). Standing j (parentAfter (c .parent) j) (r .0)) (sym (f .is-number)) (r .2)),
+            and-more x (r .0) (record { wide = f .wide; known = ap (λ (j : ℕ). any (eqb j) numbers) (f .is-number) ∙ known-number b (p .row) (p .has-row) g }) (r .2),
           )
 
-      go : ((d : Cursor) (qs : List ℕ) → parse k side s n d ≡ ok qs → (xs : List Str) × Rest s (d .at) xs × Standing (d .last) (d .parent) xs) → (j : Judged) → judgedAt side s n c ≡ j
-          → continued (c .at) (parse k side s n) j ≡ ok ps → (xs : List Str) × Rest s (c .at) xs × Standing (c .last) (c .parent) xs
-      go ih (Next d i) f h = let t = onto-ok (c .at) (parse k side s n i) ps (unfold continued in h) in on ih d i (passed side s n c (Next d i) tt f) (t .more) (t .parsed-so)
-      go ih Done f h = let p = passed side s n c Done tt f in ([], done-end c p, at-end (done-after c p))
+      go : ((d : Cursor) (qs : List ℕ) → parse k side s n d ≡ ok qs → (xs : List Str) × Rest s (d .at) xs × AllWhole xs) → (j : Judged)
+          → judgedAt side s n c ≡ j → continued (c .at) (parse k side s n) j ≡ ok ps → (xs : List Str) × Rest s (c .at) xs × AllWhole xs
+      go ih (Next d i) f h =
+          let t = onto-ok (c .at) (parse k side s n i) ps (unfold continued in h) in
+          on ih d i (passed side s n c (Next d i) tt f) (t .more) (t .parsed-so)
+      go ih Done f h = ([], done-end c (passed side s n c Done tt f), λ x m. absurd (List·Memᴰ·not-nil m))
       go ih (Refused r q) f h = unfold continued in absurd (let z : _≡_ {A = ℕ} 0 1 = cc in omega arith)
 
--- sections ------------------------------------------------------------------------------------------------------------------------
+-- sections ----------------------------------------------------------------------------------------------------------------
 
-is-one : (l : List ℕ) (x : Str) → length x ≡ widthOf (number x) → any (eqb (number x)) l ≡ true → isCommand l x ≡ true
+is-one : (l : List ℕ) (x : Str) → Whole x → any (eqb (number x)) l ≡ true → isCommand l x ≡ true
 unfolding isCommand
-is-one l x e h = rw (eq-eqb (length x) (widthOf (number x)) e, h)
+is-one l x w h = rw (eq-eqb (length x) (widthOf (number x)) (w .wide), h)
 
--- after the first command: one that begins a section or one inside
-begins-or-inside : (l : ℕ) (p : Parent) (x : Str) → eqb l 0 ≡ false → mayStand (state l p) (number x) ≡ true → length x ≡ widthOf (number x) → sorts (number x) ≡ true → (number x ≡ 15 → ⊥)
+-- only the head may stand first, and only there
+head-first : (b : ℕ) → any (eqb b) numbers ≡ true → mayStand (state 0 NoParent) b ≡ eqb b 1
+unfolding numbers mayStand follows allOf any
+head-first b h = beq→eq _ _ (one-of (λ (k : ℕ). Bool·beq (mayStand (state 0 NoParent) k) (eqb k 1)) numbers refl b h)
+
+no-stand : (b : ℕ) → any (eqb b) insiders ≡ true → mayStand (state 1 NoParent) b ≡ false
+unfolding insiders mayStand follows allOf
+no-stand b h = not-true (mayStand (state 1 NoParent) b) (one-of (λ (k : ℕ). not (mayStand (state 1 NoParent) k)) insiders refl b h)
+
+begins-or-inside : (l : ℕ) (p : Parent) (x : Str) → eqb l 0 ≡ false → Whole x → mayStand (state l p) (number x) ≡ true
     → (isCommand openers x ≡ true) ⊎ (isCommand insiders x ≡ true)
-unfolding sorts mayStand
-begins-or-inside l p x z m w h e = go (eqb (number x) 1) refl (eqb (number x) 15) refl (any (eqb (number x)) openers) refl h
+unfolding mayStand numbers openers insiders allOf any
+begins-or-inside l p x z w m =
+    go (eqb (number x) 1) refl (any (eqb (number x)) openers) refl
+    (one-of (λ (k : ℕ). eqb k 1 || (any (eqb k) openers || any (eqb k) insiders)) numbers refl (number x) (w .known))
   where
-    go : (a : Bool) → eqb (number x) 1 ≡ a → (b : Bool) → eqb (number x) 15 ≡ b → (c : Bool) → any (eqb (number x)) openers ≡ c
-        → (a || (b || (c || any (eqb (number x)) insiders))) ≡ true → (isCommand openers x ≡ true) ⊎ (isCommand insiders x ≡ true)
-    go true q b f c g k = absurd (false≢true (sym z ∙ sym (ap (λ (n : ℕ). mayStand (state l p) n) (eqb-true (number x) 1 q)) ∙ m))
-    go false q true f c g k = absurd (e (eqb-true (number x) 15 f))
-    go false q false f true g k = inl (is-one openers x w g)
-    go false q false f false g k = inr (is-one insiders x w k)
+    go : (a : Bool) → eqb (number x) 1 ≡ a → (c : Bool) → any (eqb (number x)) openers ≡ c → (a || (c || any (eqb (number x)) insiders)) ≡ true
+        → (isCommand openers x ≡ true) ⊎ (isCommand insiders x ≡ true)
+    go true q c g k = absurd (false≢true (sym z ∙ sym (ap (mayStand (state l p)) (eqb-true (number x) 1 q)) ∙ m))
+    go false q true g k = inl (is-one openers x w g)
+    go false q false g k = inr (is-one insiders x w k)
 
-no-zero : (x : Str) → (isCommand openers x ≡ true) ⊎ (isCommand insiders x ≡ true) → eqb (number x) 0 ≡ false
-unfolding openers insiders allOf
-no-zero x (inl h) = not-true (eqb (number x) 0) (one-of (λ (k : ℕ). not (eqb k 0)) openers refl (number x) (its-number openers x h))
-no-zero x (inr h) = not-true (eqb (number x) 0) (one-of (λ (k : ℕ). not (eqb k 0)) insiders refl (number x) (its-number insiders x h))
+no-zero : (x : Str) → Whole x → eqb (number x) 0 ≡ false
+unfolding numbers allOf
+no-zero x w = not-true (eqb (number x) 0) (one-of (λ (k : ℕ). not (eqb k 0)) numbers refl (number x) (w .known))
 
 -- commands inside, and then sections
-grouped : (l : ℕ) (p : Parent) (xs : List Str) → eqb l 0 ≡ false → Standing l p xs
-    → (fs : List Str) × (secs : List (List Str)) × (areCommands insiders fs ≡ true) × (allOf isSection secs ≡ true) × (fs ++ flatten secs ≡ xs)
-unfolding areCommands allOf flatten isSection
-grouped l p xs z (at-end y) = ([], [], refl, refl, refl)
-grouped l p xs z (and-then {x = x} {xs = ys} m w h e s) = go (begins-or-inside l p x z m w h e) (grouped (number x) (parentAfter p (number x)) ys (no-zero x (begins-or-inside l p x z m w h e)) s)
+record Grouped (xs : List Str) : Type 0 where
+  front : List Str
+  are-inside : areCommands insiders front ≡ true
+  sections : List (List Str)
+  are-sections : allOf isSection sections ≡ true
+  together : front ++ flatten sections ≡ xs
+
+grouped : (side : Side) (n l : ℕ) (p : Parent) (xs : List Str) → eqb l 0 ≡ false → AllWhole xs → fits side n l p xs ≡ true → Grouped xs
+unfolding fits areCommands allOf flatten isSection
+grouped side n l p [] z c h = record { front = []; are-inside = refl; sections = []; are-sections = refl; together = refl }
+grouped side n l p (x ∷ xs) z c h =
+    let m = both (mayStand (state l p) (number x)) _ h in
+    let w = c x (List·Memᴰ·head refl) in
+    go (begins-or-inside l p x z w (m .0))
+    (grouped side n (number x) (parentAfter p (number x)) xs (no-zero x w) (λ y i. c y (List·Memᴰ·tail i)) (both (fine side n x) _ (m .1) .1))
   where
-    go : (isCommand openers x ≡ true) ⊎ (isCommand insiders x ≡ true)
-        → (fs : List Str) × (secs : List (List Str)) × (areCommands insiders fs ≡ true) × (allOf isSection secs ≡ true) × (fs ++ flatten secs ≡ ys)
-        → (fs : List Str) × (secs : List (List Str)) × (areCommands insiders fs ≡ true) × (allOf isSection secs ≡ true) × (fs ++ flatten secs ≡ x ∷ ys)
-    go (inl o) r = ([], (x ∷ r .0) ∷ r .1, refl, rw (o, r .2, r .3), ap (λ (l : List Str). x ∷ l) (r .4))
-    go (inr i) r = (x ∷ r .0, r .1, rw (i, r .2), r .3, ap (λ (l : List Str). x ∷ l) (r .4))
+    go : (isCommand openers x ≡ true) ⊎ (isCommand insiders x ≡ true) → Grouped xs → Grouped (x ∷ xs)
+    go (inl o) r = record {
+      front = [];
+      are-inside = refl;
+      sections = (x ∷ r .front) ∷ r .sections;
+      are-sections = rw (o, r .are-inside, r .are-sections);
+      together = ap (λ (l : List Str). x ∷ l) (r .together);
+    }
+    go (inr i) r = record {
+      front = x ∷ r .front;
+      are-inside = rw (i, r .are-inside);
+      sections = r .sections;
+      are-sections = r .are-sections;
+      together = ap (λ (l : List Str). x ∷ l) (r .together);
+    }
 
 -- none is inside before the first section
-none-before : (fs : List Str) (secs : List (List Str)) (xs : List Str) → areCommands insiders fs ≡ true → fs ++ flatten secs ≡ xs → Standing 1 NoParent xs → fs ≡ []
-unfolding areCommands allOf
-none-before [] secs xs h e s = refl
-none-before (f ∷ fs) secs xs h e s = absurd (go (subst (Standing 1 NoParent) (sym e) s))
-  where
-    go : Standing 1 NoParent (f ∷ (fs ++ flatten secs)) → ⊥
-    go (and-then m w k q r) =
-        let i = both (isCommand insiders f) (areCommands insiders fs) h .0 in
-        false≢true (sym (no-stand (number f) (its-number insiders f i)) ∙ m)
+none-before : (side : Side) (n : ℕ) (fs zs : List Str) → areCommands insiders fs ≡ true → fits side n 1 NoParent (fs ++ zs) ≡ true → fs ≡ []
+unfolding areCommands allOf fits
+none-before side n [] zs h e = refl
+none-before side n (f ∷ fs) zs h e =
+    absurd (false≢true (sym (no-stand (number f) (its-number insiders f (both (isCommand insiders f) _ h .0))) ∙ both (mayStand (state 1 NoParent) (number f)) _ e .0))
 
--- the head comes first
-head-first : (xs : List Str) → Standing 0 NoParent xs → (x : Str) × (ys : List Str) × (xs ≡ x ∷ ys) × (isCommand (1 ∷ []) x ≡ true) × Standing 1 NoParent ys
-unfolding parentAfter
-head-first xs (at-end z) = absurd (false≢true (sym z))
-head-first xs (and-then {x = x} {xs = ys} m w h e s) =
-    let n = only-head (number x) m in
-    (x, ys, refl, is-one (1 ∷ []) x w (one-known (number x) n), subst (λ (k : ℕ). Standing k (parentAfter NoParent k) ys) n s)
+sectioned : (side : Side) (r : Rec) (n : ℕ) (xs : List Str) → r .stream ≡ streamOf xs → AllWhole xs → fits side n 0 NoParent xs ≡ true → Sectioned r
+unfolding fits parentAfter any
+sectioned side r n [] e c h = absurd (false≢true h)
+sectioned side r n (x ∷ xs) e c h =
+    let w = c x (List·Memᴰ·head refl) in
+    let m = both (mayStand (state 0 NoParent) (number x)) _ h in
+    let one : number x ≡ 1 = eqb-true (number x) 1 (sym (head-first (number x) (w .known)) ∙ m .0) in
+    let fit : fits side n 1 NoParent xs ≡ true = subst (λ (k : ℕ). fits side n k (parentAfter NoParent k) xs ≡ true) one (both (fine side n x) _ (m .1) .1) in
+    let g = grouped side n 1 NoParent xs refl (λ y i. c y (List·Memᴰ·tail i)) fit in
+    let bare = none-before side n (g .front) (flatten (g .sections)) (g .are-inside) (ap (fits side n 1 NoParent) (g .together) ∙ fit) in
+    record {
+      head = x;
+      is-head = is-one (1 ∷ []) x w (rw (eq-eqb (number x) 1 one));
+      sections = g .sections;
+      are-sections = g .are-sections;
+      stream = e ∙ ap (λ (l : List Str). streamOf (x ∷ l)) (sym (g .together) ∙ ap (λ (l : List Str). l ++ flatten (g .sections)) bare);
+    }
 
--- every record that can be read is cut into its head, sections and the end
 pub readable-sectioned : (side : Side) (r : Rec) (t : Schema) → reading side r ≡ read t → Sectioned r
 unfolding parsed
 readable-sectioned side r t h =
     let a = accepting side r t h in
-    let c = parse-commands side (length (r .pool)) (r .stream) (length (r .stream) + 1) start (commandsAt (r .stream) 0) (a .parsed-all) in
-    let f = head-first (c .0) (c .2) in
-    let g = grouped 1 NoParent (f .1) refl (f .4) in
-    let n = none-before (g .0) (g .1) (f .1) (g .2) (g .4) (f .4) in
-    record {
-      head = f .0;
-      is-head = f .3;
-      sections = g .1;
-      are-sections = g .3;
-      stream = c .1 ∙ ap streamOf (f .2 ∙ ap (λ (l : List Str). f .0 ∷ l) (sym (g .4) ∙ ap (λ (l : List Str). l ++ flatten (g .1)) n));
-    }
+    let w = parse-whole side (length (r .pool)) (r .stream) (length (r .stream) + 1) start (commandsAt (r .stream) 0) (a .parsed-all) in
+    sectioned side r (length (r .pool)) (w .0) (w .1) (w .2)
+    (parsed-fits side (length (r .pool)) (r .stream) (length (r .stream) + 1) start (w .0) (commandsAt (r .stream) 0) (w .1) (w .2) (a .parsed-all))
