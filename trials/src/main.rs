@@ -9,8 +9,11 @@
 //!     trials stack                       the smallest thread that suffices for the largest records
 //!     trials fuzz SECONDS SEED [FOLDER]  a search for pairs that differ; they are written to the folder
 //!     trials bench                       the time of each call beside the Rust's
-//!     trials repeat CALL INPUT TURNS     one call on one of the measured inputs, for a tool that counts instructions
+//!     trials bench --against FOLDER      the time of each call beside that of the archive in this folder
+//!     trials repeat CALL INPUT TURNS [--against FOLDER]
+//!                                        one call on one of the measured inputs, for a tool that counts instructions
 
+mod against;
 mod bench;
 mod chains;
 mod clock;
@@ -21,6 +24,7 @@ mod inputs;
 mod kept;
 mod memcheck;
 mod mutate;
+mod other;
 mod premises;
 mod sections;
 mod stack;
@@ -30,8 +34,10 @@ mod tally;
 use std::path::Path;
 use std::process::ExitCode;
 
-const USAGE: &str = "usage: trials checks SEED COUNT [LEAST] | trials lists|owners|chains|sections|memcheck SEED COUNT
-       trials fuzz SECONDS SEED [FOLDER] | trials stack | trials bench | trials repeat check|list|owner INPUT TURNS";
+const USAGE: &str =
+    "usage: trials checks SEED COUNT [LEAST] | trials lists|owners|chains|sections|memcheck SEED COUNT
+       trials fuzz SECONDS SEED [FOLDER] | trials stack | trials bench [--against FOLDER]
+       trials repeat check|list|owner INPUT TURNS [--against FOLDER]";
 
 fn main() -> ExitCode {
     let words: Vec<String> = std::env::args().skip(1).collect();
@@ -54,7 +60,14 @@ fn run(words: &[&str]) -> Option<bool> {
             bench::run();
             Some(true)
         }
-        ("repeat", 4) => bench::repeat(words[1], words[2], number(3)?),
+        ("bench", 3) if words[1] == "--against" => {
+            Some(other::others(words[2]).as_ref().map(against::run).is_some())
+        }
+        ("repeat", 4) => against::repeat(&other::OURS, words[1], words[2], number(3)?),
+        ("repeat", 6) if words[4] == "--against" => {
+            let Some(others) = other::others(words[5]) else { return Some(false) };
+            against::repeat(&others, words[1], words[2], number(3)?)
+        }
         ("checks", 3 | 4) => {
             let least = if words.len() == 4 { number(3)? } else { 0 };
             let pairs = differ::checks(number(1)?, number(2)?);
