@@ -57,7 +57,7 @@ fn sections_and_what_is_in_them() {
                  bitfield b 1 since=1.0.0\nmember n 1 width=3\nmember m 0\nunstored_key u since=1.0.0\n\
                  version s 4\nconstant G 5\nend";
     let lines = "reordered: 6 of 9 sections, 2 values, 2 members and 2 variants stand at another place\n\
-                 either is accepted where the other is\n";
+                 either is accepted where the other is, beside any record in which no name or slot stands twice\n";
     assert_eq!(said(ONE, other), (0, lines.to_string()));
     assert_eq!(said(other, ONE), (0, lines.to_string()));
     let swapped = ONE.replace("value X 0\nvalue Y 1\n", "value Y 1\nvalue X 0\n");

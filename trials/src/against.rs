@@ -45,7 +45,7 @@ fn measured(case: &Case, others: &Calls) -> [f64; 2] {
 
 /// One call on one input so many times and nothing else, for a tool that counts what the code does; none where the words name
 /// no call or no input.
-pub fn repeat(calls: &Calls, call: &str, name: &str, turns: u64) -> Option<bool> {
+pub fn repeat(calls: &Calls, call: &str, name: &str, turns: u64) -> Option<()> {
     let full = 32 * 1_024;
     let hard = [inputs::fronted_variants, inputs::enums_last, inputs::owned_chain, inputs::owned_fan]
         .map(|input| input(full));
@@ -62,5 +62,5 @@ pub fn repeat(calls: &Calls, call: &str, name: &str, turns: u64) -> Option<bool>
         };
         black_box(number);
     }
-    Some(true)
+    Some(())
 }

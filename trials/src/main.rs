@@ -56,18 +56,7 @@ fn main() -> ExitCode {
 fn run(words: &[&str]) -> Option<bool> {
     let number = |at: usize| words.get(at).and_then(|word| word.parse::<u64>().ok());
     match (*words.first()?, words.len()) {
-        ("bench", 1) => {
-            bench::run();
-            Some(true)
-        }
-        ("bench", 3) if words[1] == "--against" => {
-            Some(other::others(words[2]).as_ref().map(against::run).is_some())
-        }
-        ("repeat", 4) => against::repeat(&other::OURS, words[1], words[2], number(3)?),
-        ("repeat", 6) if words[4] == "--against" => {
-            let Some(others) = other::others(words[5]) else { return Some(false) };
-            against::repeat(&others, words[1], words[2], number(3)?)
-        }
+        ("bench" | "repeat", _) => measure(words),
         ("checks", 3 | 4) => {
             let least = if words.len() == 4 { number(3)? } else { 0 };
             let pairs = differ::checks(number(1)?, number(2)?);
@@ -104,4 +93,22 @@ fn run(words: &[&str]) -> Option<bool> {
         }
         _ => None,
     }
+}
+
+/// A run that measures or is measured: nothing is amiss unless an archive is asked for that is not linked.
+fn measure(words: &[&str]) -> Option<bool> {
+    match words {
+        ["bench"] => bench::run(),
+        ["bench", "--against", folder] => match other::others(folder) {
+            Some(others) => against::run(&others),
+            None => return Some(false),
+        },
+        ["repeat", call, input, turns] => against::repeat(&other::OURS, call, input, turns.parse().ok()?)?,
+        ["repeat", call, input, turns, "--against", folder] => match other::others(folder) {
+            Some(others) => against::repeat(&others, call, input, turns.parse().ok()?)?,
+            None => return Some(false),
+        },
+        _ => return None,
+    }
+    Some(true)
 }

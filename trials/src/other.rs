@@ -1,5 +1,7 @@
 //! The exported calls of this archive and of the other one that build.rs has linked beside it, as values.
 
+use std::path::Path;
+
 use oracle::generate::Pair;
 use oracle::generate::encode::Encoded;
 
@@ -36,14 +38,14 @@ pub const OURS: Calls = calls!(menqachu);
 
 const OTHERS: Calls = calls!(crate::other::linked::calls);
 
-/// The calls of the archive in this folder, if it is the one that is linked.
+/// The calls of the archive in this folder, if it is the one that is linked; else says how it would be.
 pub fn others(folder: &str) -> Option<Calls> {
-    let asked = std::fs::canonicalize(folder).ok()?;
-    let found = linked::FOLDER.is_some_and(|linked| asked == std::path::Path::new(linked));
-    if !found {
-        eprintln!(
-            "trials: the archive of {folder} is not linked; `./against.sh SOURCES {folder}` links and runs it"
-        );
+    let asked = std::fs::canonicalize(folder).ok();
+    if asked.is_some() && asked.as_deref() == linked::FOLDER.map(Path::new) {
+        return Some(OTHERS);
     }
-    found.then_some(OTHERS)
+    eprintln!(
+        "trials: the archive of {folder} is not linked; `./against.sh SOURCES {folder}` links and runs it"
+    );
+    None
 }

@@ -24,8 +24,9 @@ const LEAST_OF_EACH_ANSWER: u64 = 8_000;
 const LEAST_MOVED: u64 = 500;
 const LEAST_OTHER_VERDICTS: u64 = 200;
 
-/// One pair outside the premise to so many within it.
+/// One pair outside the premise to so many within it; of so many, one at least is to show that the premise is needed.
 const CONTROLLED: u64 = 20;
+const LEAST_CONTROL: u64 = 10;
 
 /// Which records of a pair are put into another order.
 const MOVED: [(&[Side], &str); 3] = [
@@ -163,7 +164,8 @@ impl Sections {
                 shown.push((format!("{sort} moved in {which}"), *count, share(LEAST_MOVED)));
             }
         }
-        shown.push(("accepted in one order alone, outside the premise".into(), self.control.changed, 1));
+        let least = u64::from(self.control.pairs >= LEAST_CONTROL);
+        shown.push(("accepted in one order alone, outside the premise".into(), self.control.changed, least));
         shown
     }
 

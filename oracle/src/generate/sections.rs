@@ -7,7 +7,7 @@ use super::draft::Draft;
 use super::encode::encode;
 use super::steps::{self, Step};
 use super::{Pair, base, faults, make, pair, words};
-use crate::model::{BitField, Enum, Family, Item, Struct, Value};
+use crate::model::{Item, Struct, Value};
 use crate::rng::Rng;
 use crate::verdicts::{FIRST_VERDICT, LAST_VERDICT};
 
@@ -107,7 +107,7 @@ fn add_parts(draft: &mut Draft, rng: &mut Rng) {
     }
 }
 
-/// The same with faults: mostly several of one pass, else one or two of any.
+/// Such a pair with faults: mostly several of one pass, else one or two of any.
 fn refused(rng: &mut Rng) -> Draft {
     let mut draft = accepted(rng);
     match rng.chance(60) {
@@ -136,51 +136,48 @@ fn twin(item: Item, fresh: String, rng: &mut Rng) -> Item {
             c.into()
         }
         Item::Alias(a) => make::alias(&a.name, &base::type_word(rng)).into(),
-        Item::Enum(e) if e.values.is_empty() || rng.chance(50) => Enum {
-            values: Vec::new(),
-            ..e
+        Item::Enum(mut e) if e.values.is_empty() || rng.chance(50) => {
+            e.values.clear();
+            e.into()
         }
-        .into(),
-        Item::Enum(e) => {
-            let value = e.values[0].clone();
-            let doubled = e.value(&value.name, value.value.wrapping_add(1));
-            Enum {
-                name: fresh,
-                ..doubled
-            }
-            .into()
+        Item::BitField(mut b) if b.members.is_empty() || rng.chance(50) => {
+            b.members.clear();
+            b.into()
         }
-        Item::BitField(b) if b.members.is_empty() || rng.chance(50) => BitField {
-            members: Vec::new(),
-            ..b
+        Item::Struct(mut s) if s.slot.is_none() || rng.chance(50) => {
+            s.slot = None;
+            s.field(make::scalar(&fresh, "u8")).into()
         }
-        .into(),
-        Item::BitField(b) => {
-            let member = b.members[0].clone();
-            let doubled = b.member(&member.name, member.bit.wrapping_add(1), None);
-            BitField {
-                name: fresh,
-                ..doubled
-            }
-            .into()
-        }
-        Item::Struct(s) if s.slot.is_some() && rng.chance(50) => Struct { name: fresh, ..s }.into(),
-        Item::Struct(s) => Struct { slot: None, ..s }
-            .field(make::scalar(&fresh, "u8"))
-            .into(),
         Item::Family(f) if f.variants.is_empty() || rng.chance(50) => {
             f.common(make::scalar(&fresh, "u8")).into()
         }
-        Item::Family(f) => {
-            let discriminant = f.variants[0].discriminant.clone();
-            let doubled = f.variant(&discriminant, &[make::scalar(&fresh, "u8")]);
-            Family {
-                name: fresh,
-                ..doubled
-            }
-            .into()
-        }
         Item::Key(k) => make::key(&k.name, &words::old_date(rng)).into(),
-        Item::Version(v) => v.into(),
+        other => renamed(other, fresh),
+    }
+}
+
+/// An item of another name: a structure in the slot of this one, or an enum, bit
+/// field or family that has its first part twice.
+fn renamed(item: Item, fresh: String) -> Item {
+    match item {
+        Item::Enum(mut e) => {
+            let value = e.values[0].clone();
+            e.name = fresh;
+            e.value(&value.name, value.value.wrapping_add(1)).into()
+        }
+        Item::BitField(mut b) => {
+            let member = b.members[0].clone();
+            b.name = fresh;
+            b.member(&member.name, member.bit.wrapping_add(1), None)
+                .into()
+        }
+        Item::Struct(s) => Struct { name: fresh, ..s }.into(),
+        Item::Family(mut f) => {
+            let discriminant = f.variants[0].discriminant.clone();
+            let field = make::scalar(&fresh, "u8");
+            f.name = fresh;
+            f.variant(&discriminant, &[field]).into()
+        }
+        other => other,
     }
 }

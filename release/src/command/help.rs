@@ -31,8 +31,8 @@ where it is given more than once, the records follow each other there. Words aft
 
 Exit status:
   0  accepted, or done
-  1  a verdict (check), an offered record dropped (chain), or records that are not
-     shown to be accepted alike (reordered)
+  1  a verdict (check), an offered record dropped (chain), or records of which it is
+     not proved that they are accepted alike (reordered)
   2  a damaged record, or a text that cannot be assembled
   3  a usage error, or a file that cannot be read or written
 ";
@@ -119,12 +119,15 @@ usage: release reordered ONE OTHER [--json]
 Says whether two records have the same sections in another order. Whole sections
 may be moved, among those of other sorts too: constants, aliases, enums, bit fields,
 structs, families, unstored keys and version entries; and within one its values,
-members or variants, a variant with its fields. Fields are not moved. It is proved
-that either record is then accepted where the other is, if both have the same pool
-and no name or slot stands twice in its list or among the layouts; else the reason
-is printed. What is compared is what the sections say, not where their texts lie.
-Where they differ the first section of ONE that OTHER lacks is named, or else the
-first of OTHER, and what is different in it. Both are read as released records.
+members or variants, a variant with its fields. Fields are not moved. What is
+compared is what the sections say, not where their texts lie. Both records are read
+as released ones.
+
+It is proved that either is accepted where the other is, as current or as released,
+if both have one pool and no name or slot stands twice in its list or among the
+layouts, neither in them nor in the record that they are checked with. Where that
+does not cover the two the reason is printed. Where they differ the first section of
+ONE that OTHER lacks is named, or else the first of OTHER, and what differs in it.
 
   --json  an object with the keys refusal and order, an object with answer (equal,
           reordered or apart), covered (status 0), sections (their number), moved
@@ -133,8 +136,8 @@ first of OTHER, and what is different in it. Both are read as released records.
           first name that is) and apart (null, or an object with at, what, operand,
           first and second)
 
-Exit status: 0 it is proved that either is accepted where the other is, 1 it is not,
-2 a damaged record, 3 a usage or file error.
+Exit status: 0 the proof covers them, or they are equal; 1 it does not; 2 a damaged
+record; 3 a usage or file error.
 ";
 
 pub const ASSEMBLE: &str = "\

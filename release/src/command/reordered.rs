@@ -17,18 +17,18 @@ pub fn run(args: &Args) -> Done {
     let other = files::record(&args.operands[1])?;
     let (said, said_there) = (read(&one, args.json)?, read(&other, args.json)?);
     let (first, second) = (cut(&said, one.record().stream), cut(&said_there, other.record().stream));
-    let told = Told {
+    let compared = Compared {
         order: order((one.record(), &first), (other.record(), &second)),
         sections: first.parts.len(),
         twice: twice(&first),
     };
     if args.json {
-        let value = Json::Object(vec![("refusal", Json::Null), ("order", told.json())]);
+        let value = Json::Object(vec![("refusal", Json::Null), ("order", compared.json())]);
         print_line(&value.to_string())?;
     } else {
-        print(told.lines().as_bytes())?;
+        print(compared.lines().as_bytes())?;
     }
-    Ok(if told.covered() { DONE } else { STOPPED })
+    Ok(if compared.covered() { DONE } else { STOPPED })
 }
 
 fn read(given: &Given, json: bool) -> Result<Vec<Said>, Stop> {
@@ -37,14 +37,14 @@ fn read(given: &Given, json: bool) -> Result<Vec<Said>, Stop> {
 }
 
 /// How two records stand to each other, with what the premise asks of the first; the second then meets it as well.
-struct Told {
+struct Compared {
     order: Order,
     sections: usize,
     twice: Option<String>,
 }
 
-impl Told {
-    /// Whether it is proved that either is accepted where the other is.
+impl Compared {
+    /// Whether it is proved that either is accepted where the other is, beside any record that meets the premise too.
     fn covered(&self) -> bool {
         match self.order {
             Order::Alike { bytes: Bytes::Equal, .. } => true,
@@ -73,7 +73,7 @@ impl Told {
             lines.push_str(&format!("{name} stands twice, so one may be accepted where the other is not\n"));
         }
         if self.covered() {
-            lines.push_str("either is accepted where the other is\n");
+            lines.push_str("either is accepted where the other is, beside any record in which no name or slot stands twice\n");
         }
         lines
     }
