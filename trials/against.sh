@@ -23,7 +23,7 @@ cargo build --release --offline -j1 --quiet
 counted=$(mktemp)
 trap 'rm -f "$counted"' EXIT
 
-# The instructions of one check on an input: counted SYMBOL INPUT ARGUMENTS.. while control is in SYMBOL or below it.
+# The instructions of one check, counted while control is in the exported function: instructions SYMBOL INPUT ARGUMENTS..
 instructions() {
     symbol=$1
     input=$2
