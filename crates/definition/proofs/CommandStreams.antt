@@ -30,11 +30,11 @@ pub one-of : (t : ℕ → Bool) (l : List ℕ) → allOf t l ≡ true → (b : �
 one-of t l h b e = let w = any-some (eqb b) l e in ap t (eqb-true b (w .0) (w .2)) ∙ all-of t l h (w .1)
 
 -- and what is proved of each of them
-pub data Each (P : ℕ → Type 0) : List ℕ → Type 0 where
-  no-number : Each P []
-  and-one : {b : ℕ} {bs : List ℕ} → P b → Each P bs → Each P (b ∷ bs)
+pub data EachNumber (P : ℕ → Type 0) : List ℕ → Type 0 where
+  no-number : EachNumber P []
+  and-one : {b : ℕ} {bs : List ℕ} → P b → EachNumber P bs → EachNumber P (b ∷ bs)
 
-pub each-one : (P : ℕ → Type 0) (l : List ℕ) → Each P l → (b : ℕ) → any (eqb b) l ≡ true → P b
+pub each-one : (P : ℕ → Type 0) (l : List ℕ) → EachNumber P l → (b : ℕ) → any (eqb b) l ≡ true → P b
 unfolding any
 each-one P l no-number b e = absurd (false≢true e)
 each-one P l (and-one {b = k} {bs = ks} p ps) b e = go (eqb b k) refl e (each-one P ks ps b)
@@ -44,31 +44,31 @@ each-one P l (and-one {b = k} {bs = ks} p ps) b e = go (eqb b k) refl e (each-on
     go false q f r = r f
 
 -- the numbers of commands but the end's
-unfoldable pub numbers : List ℕ
-numbers = 1 ∷ 2 ∷ 3 ∷ 4 ∷ 5 ∷ 6 ∷ 7 ∷ 8 ∷ 9 ∷ 10 ∷ 11 ∷ 12 ∷ 13 ∷ 14 ∷ []
+unfoldable pub commandNumbers : List ℕ
+commandNumbers = 1 ∷ 2 ∷ 3 ∷ 4 ∷ 5 ∷ 6 ∷ 7 ∷ 8 ∷ 9 ∷ 10 ∷ 11 ∷ 12 ∷ 13 ∷ 14 ∷ []
 
 -- a command that is no end, as long as its number says
 pub record Whole (x : Str) : Type 0 where
   pub wide : length x ≡ widthOf (number x)
-  pub known : any (eqb (number x)) numbers ≡ true
+  pub known : any (eqb (number x)) commandNumbers ≡ true
 
-pub whole : (l : List ℕ) (x : Str) → allOf (λ (b : ℕ). any (eqb b) numbers) l ≡ true → isCommand l x ≡ true → Whole x
+pub whole : (l : List ℕ) (x : Str) → allOf (λ (b : ℕ). any (eqb b) commandNumbers) l ≡ true → isCommand l x ≡ true → Whole x
 unfolding isCommand
 whole l x g h =
     let k = both (eqb (length x) (widthOf (number x))) _ h in
-    record { wide = eqb-true (length x) (widthOf (number x)) (k .0); known = one-of (λ (b : ℕ). any (eqb b) numbers) l g (number x) (k .1) }
+    record { wide = eqb-true (length x) (widthOf (number x)) (k .0); known = one-of (λ (b : ℕ). any (eqb b) commandNumbers) l g (number x) (k .1) }
 
 module _ {x : Str} (c : Whole x) where
   pub some-bytes : 1 ≤ length x
-  unfolding numbers allOf widthOf widthWith widths wide operands bytes
+  unfolding commandNumbers allOf widthOf widthWith widths wide operands bytes
   some-bytes =
-      let h = leb-true 1 (widthOf (number x)) (one-of (λ (b : ℕ). leb 1 (widthOf b)) numbers refl (number x) (c .known)) in
+      let h = leb-true 1 (widthOf (number x)) (one-of (λ (b : ℕ). leb 1 (widthOf b)) commandNumbers refl (number x) (c .known)) in
       let w = c .wide in
       omega arith
 
   pub no-end : number x ≡ 15 → ⊥
-  unfolding numbers allOf
-  no-end e = false≢true (sym (ap not (eq-eqb (number x) 15 e)) ∙ one-of (λ (b : ℕ). not (eqb b 15)) numbers refl (number x) (c .known))
+  unfolding commandNumbers allOf
+  no-end e = false≢true (sym (ap not (eq-eqb (number x) 15 e)) ∙ one-of (λ (b : ℕ). not (eqb b 15)) commandNumbers refl (number x) (c .known))
 
 -- its number is the one that is asked for
 pub is-number : (b : ℕ) (x : Str) → isCommand (b ∷ []) x ≡ true → number x ≡ b
@@ -84,25 +84,25 @@ AllWhole xs = (x : Str) → List·Memᴰ x xs → Whole x
 
 -- places --------------------------------------------------------------------------------------------------------------------------
 
-unfoldable pub placesFrom : ℕ → List Str → List ℕ
-placesFrom at [] = []
-placesFrom at (x ∷ xs) = at ∷ placesFrom (at + length x) xs
+unfoldable pub commandPlaces : ℕ → List Str → List ℕ
+commandPlaces at [] = []
+commandPlaces at (x ∷ xs) = at ∷ commandPlaces (at + length x) xs
 
 -- from this place on the stream is these commands and the end
-abbrev pub Rest : Str → ℕ → List Str → Type 0
-Rest s at xs = drop at s ≡ streamOf xs
+abbrev pub CommandsFrom : Str → ℕ → List Str → Type 0
+CommandsFrom s at xs = drop at s ≡ streamOf xs
 
-module _ (s : Str) (at : ℕ) (x : Str) (xs : List Str) (h : Rest s at (x ∷ xs)) (c : Whole x) where
-  near : (i : ℕ) → i < length x → getD (drop at s) i 0 ≡ getD x i 0
+module _ (s : Str) (at : ℕ) (x : Str) (xs : List Str) (h : CommandsFrom s at (x ∷ xs)) (c : Whole x) where
+  byte-here : (i : ℕ) → i < length x → getD (drop at s) i 0 ≡ getD x i 0
   unfolding streamOf
-  near i p = ap (λ (l : Str). getD l i 0) h ∙ List·getD-append x (streamOf xs) 0 i p
+  byte-here i p = ap (λ (l : Str). getD l i 0) h ∙ List·getD-append x (streamOf xs) 0 i p
 
   pub number-here : getD s at 0 ≡ number x
   number-here =
       let e : at + 0 ≡ at = omega arith in
-      sym (ap (λ (i : ℕ). getD s i 0) e) ∙ sym (getD-drop at s 0 0) ∙ near 0 (some-bytes c)
+      sym (ap (λ (i : ℕ). getD s i 0) e) ∙ sym (getD-drop at s 0 0) ∙ byte-here 0 (some-bytes c)
 
-  pub next-here : Rest s (at + length x) xs
+  pub next-here : CommandsFrom s (at + length x) xs
   unfolding streamOf
   next-here = sym (drop-drop (length x) at s) ∙ ap (drop (length x)) h ∙ drop-append-seam x (streamOf xs)
 
@@ -127,7 +127,7 @@ module _ (s : Str) (at : ℕ) (x : Str) (xs : List Str) (h : Rest s at (x ∷ xs
       )
 
 -- at the end
-step-end : (s : Str) (at : ℕ) → Rest s at [] → stepAt s at ≡ Stop
+step-end : (s : Str) (at : ℕ) → CommandsFrom s at [] → stepAt s at ≡ Stop
 unfolding stepAt streamOf
 step-end s at h =
     let l : length s - at ≡ 1 = sym (length-drop at s) ∙ ap (λ (y : Str). length y) h in
@@ -135,8 +135,8 @@ step-end s at h =
     let b : getD s at 0 ≡ 15 = sym (ap (λ (i : ℕ). getD s i 0) e) ∙ sym (getD-drop at s 0 0) ∙ ap (λ (y : Str). getD y 0 0) h in
     rw (lt-ltb at (length s) (omega arith), b)
 
-pub commands-run : (s : Str) (at : ℕ) (xs : List Str) → Rest s at xs → AllWhole xs → commandsAt s at ≡ placesFrom at xs
-unfolding placesFrom
+pub commands-run : (s : Str) (at : ℕ) (xs : List Str) → CommandsFrom s at xs → AllWhole xs → commandsAt s at ≡ commandPlaces at xs
+unfolding commandPlaces
 commands-run s at [] h c = commands-stop s at (step-end s at h)
 commands-run s at (x ∷ xs) h c =
     let y = c x (List·Memᴰ·head refl) in
@@ -151,21 +151,21 @@ listedIn over b g [] = []
 listedIn over b g (x ∷ xs) = cond (eqb (number x) b) (g x xs ∷ listedIn over b g xs) (cond (over (number x)) (listedIn over b g xs) [])
 
 module _ {A : Type 0} (s : Str) (over : ℕ → Bool) (b : ℕ) (f : ℕ → List ℕ → A) (g : Str → List Str → A)
-    (same : (at : ℕ) (x : Str) (xs : List Str) → Rest s at (x ∷ xs) → Whole x → AllWhole xs → number x ≡ b → f at (placesFrom (at + length x) xs) ≡ g x xs) where
-  listed-run : (at : ℕ) (xs : List Str) → Rest s at xs → AllWhole xs → listed s over b f (placesFrom at xs) ≡ listedIn over b g xs
-  unfolding listed listedIn placesFrom
+    (same : (at : ℕ) (x : Str) (xs : List Str) → CommandsFrom s at (x ∷ xs) → Whole x → AllWhole xs → number x ≡ b → f at (commandPlaces (at + length x) xs) ≡ g x xs) where
+  listed-run : (at : ℕ) (xs : List Str) → CommandsFrom s at xs → AllWhole xs → listed s over b f (commandPlaces at xs) ≡ listedIn over b g xs
+  unfolding listed listedIn commandPlaces
   listed-run at [] h c = refl
   listed-run at (x ∷ xs) h c =
       go (number x) refl (number-here s at x xs h (c x (List·Memᴰ·head refl)))
       (listed-run (at + length x) xs (next-here s at x xs h (c x (List·Memᴰ·head refl))) (λ z m. c z (List·Memᴰ·tail m)))
     where
-      go : (n : ℕ) → number x ≡ n → getD s at 0 ≡ n → listed s over b f (placesFrom (at + length x) xs) ≡ listedIn over b g xs
-          → cond (eqb (getD s at 0) b) (f at (placesFrom (at + length x) xs) ∷ listed s over b f (placesFrom (at + length x) xs)) (cond (over (getD s at 0)) (listed s over b f (placesFrom (at + length x) xs)) [])
+      go : (n : ℕ) → number x ≡ n → getD s at 0 ≡ n → listed s over b f (commandPlaces (at + length x) xs) ≡ listedIn over b g xs
+          → cond (eqb (getD s at 0) b) (f at (commandPlaces (at + length x) xs) ∷ listed s over b f (commandPlaces (at + length x) xs)) (cond (over (getD s at 0)) (listed s over b f (commandPlaces (at + length x) xs)) [])
           ≡ cond (eqb (number x) b) (g x xs ∷ listedIn over b g xs) (cond (over (number x)) (listedIn over b g xs) [])
       go n e k r = rw (e, k) (hit (eqb n b) refl)
         where
           hit : (t : Bool) → eqb n b ≡ t
-              → cond t (f at (placesFrom (at + length x) xs) ∷ listed s over b f (placesFrom (at + length x) xs)) (cond (over n) (listed s over b f (placesFrom (at + length x) xs)) [])
+              → cond t (f at (commandPlaces (at + length x) xs) ∷ listed s over b f (commandPlaces (at + length x) xs)) (cond (over n) (listed s over b f (commandPlaces (at + length x) xs)) [])
               ≡ cond t (g x xs ∷ listedIn over b g xs) (cond (over n) (listedIn over b g xs) [])
           hit true q = ap₂ _∷_ (same at x xs h (c x (List·Memᴰ·head refl)) (λ z m. c z (List·Memᴰ·tail m)) (e ∙ eqb-true n b q)) r
           hit false q = ap (λ (l : List A). cond (over n) l []) r
@@ -245,7 +245,7 @@ cells-of (suc w) (b ∷ x) e = ap (λ (l : Str). b ∷ l) (cells-of w x (omega a
 
 -- what is read of a command is read of its own bytes, whatever stands behind it
 module _ {C : Type 0} (b w : ℕ) (is-wide : widthOf b ≡ w) (reads : Str → C) (own : (f : ℕ → ℕ) (t : Str) → reads (cells w f ++ t) ≡ reads (cells w f)) where
-  pub own-bytes : (s : Str) (at : ℕ) (x : Str) (xs : List Str) → Rest s at (x ∷ xs) → Whole x → number x ≡ b → reads (drop at s) ≡ reads x
+  pub own-bytes : (s : Str) (at : ℕ) (x : Str) (xs : List Str) → CommandsFrom s at (x ∷ xs) → Whole x → number x ≡ b → reads (drop at s) ≡ reads x
   unfolding streamOf
   own-bytes s at x xs h c e =
       let l : length x ≡ w = c .wide ∙ ap widthOf e ∙ is-wide in
@@ -255,12 +255,12 @@ module _ {C : Type 0} (b w : ℕ) (is-wide : widthOf b ≡ w) (reads : Str → C
 module _ (s p : Str) where
   -- a list read off the places of commands, and off the commands
   abbrev Agree : {A : Type 0} → (List ℕ → List A) → (List Str → List A) → Type 0
-  Agree f g = (at : ℕ) (xs : List Str) → Rest s at xs → AllWhole xs → f (placesFrom at xs) ≡ g xs
+  Agree f g = (at : ℕ) (xs : List Str) → CommandsFrom s at xs → AllWhole xs → f (commandPlaces at xs) ≡ g xs
 
   -- and after a command
-  after : {A : Type 0} (f : List ℕ → List A) (g : List Str → List A) → Agree f g → (at : ℕ) (x : Str) (xs : List Str) → Rest s at (x ∷ xs) → Whole x → AllWhole xs
-      → f (placesFrom (at + length x) xs) ≡ g xs
-  after f g same at x xs h c r = same (at + length x) xs (next-here s at x xs h c) r
+  after-command : {A : Type 0} (f : List ℕ → List A) (g : List Str → List A) → Agree f g → (at : ℕ) (x : Str) (xs : List Str) → CommandsFrom s at (x ∷ xs) → Whole x → AllWhole xs
+      → f (commandPlaces (at + length x) xs) ≡ g xs
+  after-command f g same at x xs h c r = same (at + length x) xs (next-here s at x xs h c) r
 
   heads-agree : Agree (heads s p) (theHeads p)
   unfolding heads theHeads cells textAt optText optTextAt flagAt optNumberAt u16At u32At u64At widthOf widthWith widths wide operands bytes
@@ -297,34 +297,34 @@ module _ (s p : Str) where
   enums-agree : Agree (enums s p) (theEnums p)
   unfolding enums theEnums cells textAt optText optTextAt flagAt optNumberAt u16At u32At u64At widthOf widthWith widths wide operands bytes
   enums-agree = listed-run s anything 4 _ _ (λ at x xs h c r e.
-      λ i. enumOf p (own-bytes 4 12 refl enumAt (λ f t. refl) s at x xs h c e i) (after (values s p) (theValues p) values-agree at x xs h c r i))
+      λ i. enumOf p (own-bytes 4 12 refl enumAt (λ f t. refl) s at x xs h c e i) (after-command (values s p) (theValues p) values-agree at x xs h c r i))
 
   bitfields-agree : Agree (bitfields s p) (theBitfields p)
   unfolding bitfields theBitfields cells textAt optText optTextAt flagAt optNumberAt u16At u32At u64At widthOf widthWith widths wide operands bytes
   bitfields-agree = listed-run s anything 6 _ _ (λ at x xs h c r e.
-      λ i. bitfieldOf p (own-bytes 6 11 refl bitfieldAt (λ f t. refl) s at x xs h c e i) (after (members s p) (theMembers p) members-agree at x xs h c r i))
+      λ i. bitfieldOf p (own-bytes 6 11 refl bitfieldAt (λ f t. refl) s at x xs h c e i) (after-command (members s p) (theMembers p) members-agree at x xs h c r i))
 
   pub fields-agree : Agree (fields s p) (theFields p)
   unfolding fields theFields cells textAt optText optTextAt flagAt optNumberAt u16At u32At u64At widthOf widthWith widths wide operands bytes
   fields-agree = listed-run s aKey 11 _ _ (λ at x xs h c r e.
-      λ i. fieldOf p (own-bytes 11 33 refl fieldAt (λ f t. refl) s at x xs h c e i) (first (after (keys s p) (theKeys p) keys-agree at x xs h c r i)))
+      λ i. fieldOf p (own-bytes 11 33 refl fieldAt (λ f t. refl) s at x xs h c e i) (first (after-command (keys s p) (theKeys p) keys-agree at x xs h c r i)))
 
   structs-agree : Agree (structs s p) (theStructs p)
   unfolding structs theStructs cells textAt optText optTextAt flagAt optNumberAt u16At u32At u64At widthOf widthWith widths wide operands bytes
   structs-agree = listed-run s anything 8 _ _ (λ at x xs h c r e.
-      λ i. structOf p (own-bytes 8 10 refl structAt (λ f t. refl) s at x xs h c e i) (after (fields s p) (theFields p) fields-agree at x xs h c r i))
+      λ i. structOf p (own-bytes 8 10 refl structAt (λ f t. refl) s at x xs h c e i) (after-command (fields s p) (theFields p) fields-agree at x xs h c r i))
 
   variants-agree : Agree (variants s p) (theVariants p)
   unfolding variants theVariants cells textAt optText optTextAt flagAt optNumberAt u16At u32At u64At widthOf widthWith widths wide operands bytes
   variants-agree = listed-run s aField 10 _ _ (λ at x xs h c r e.
-      λ i. variantOf p (own-bytes 10 4 refl variantAt (λ f t. refl) s at x xs h c e i) (after (fields s p) (theFields p) fields-agree at x xs h c r i))
+      λ i. variantOf p (own-bytes 10 4 refl variantAt (λ f t. refl) s at x xs h c e i) (after-command (fields s p) (theFields p) fields-agree at x xs h c r i))
 
   families-agree : Agree (families s p) (theFamilies p)
   unfolding families theFamilies cells textAt optText optTextAt flagAt optNumberAt u16At u32At u64At widthOf widthWith widths wide operands bytes
   families-agree = listed-run s anything 9 _ _ (λ at x xs h c r e.
-      λ i. familyOf p (own-bytes 9 17 refl familyAt (λ f t. refl) s at x xs h c e i) (after (fields s p) (theFields p) fields-agree at x xs h c r i) (after (variants s p) (theVariants p) variants-agree at x xs h c r i))
+      λ i. familyOf p (own-bytes 9 17 refl familyAt (λ f t. refl) s at x xs h c e i) (after-command (fields s p) (theFields p) fields-agree at x xs h c r i) (after-command (variants s p) (theVariants p) variants-agree at x xs h c r i))
 
-  pub schema-run : (w : List Scalar) (at : ℕ) (xs : List Str) → Rest s at xs → AllWhole xs → schemaFrom (rec s p w) (placesFrom at xs) ≡ theSchema p w xs
+  pub schema-run : (w : List Scalar) (at : ℕ) (xs : List Str) → CommandsFrom s at xs → AllWhole xs → schemaFrom (rec s p w) (commandPlaces at xs) ≡ theSchema p w xs
   unfolding schemaFrom theSchema
   schema-run w at xs h c = λ i. record {
     scalars = w;

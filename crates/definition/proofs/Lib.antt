@@ -10,10 +10,10 @@ pub mod LookUps
 pub mod PermutedSchemas
 pub mod PermutedPasses
 pub mod CommandStreams
-pub mod Fitting
+pub mod Validity
 pub mod SectionLists
 pub mod SectionSchemas
-pub mod FittingSections
+pub mod ValidSections
 pub mod Sectioned
 pub mod Chains
 pub mod Bytes

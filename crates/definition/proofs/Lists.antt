@@ -120,14 +120,14 @@ module _ {A : Type 0} where
     pub shuffled-by : {a b c d : List A} → a ≡ c → b ≡ d → Shuffled R c d → Shuffled R a b
     shuffled-by {b = b} {c = c} e f s = subst (λ (l : List A). Shuffled R l b) (sym e) (subst (Shuffled R c) (sym f) s)
 
-    turned : ((x y : A) → R x y → R y x) → {a b : List A} → Forall₂ R a b → Forall₂ R b a
-    turned h Forall₂·nil = Forall₂·nil
-    turned h (Forall₂·cons {a = x} {b = y} r p) = Forall₂·cons (h x y r) (turned h p)
+    related-sym : ((x y : A) → R x y → R y x) → {a b : List A} → Forall₂ R a b → Forall₂ R b a
+    related-sym h Forall₂·nil = Forall₂·nil
+    related-sym h (Forall₂·cons {a = x} {b = y} r p) = Forall₂·cons (h x y r) (related-sym h p)
 
     pub shuffled-sym : ((x y : A) → R x y → R y x) → {a b : List A} → Shuffled R a b → Shuffled R b a
     shuffled-sym h s =
         let w = commute (s .permuted) (s .related) in
-        record { between = w .0; permuted = Permᴰ·symm (w .2); related = turned h (w .1) }
+        record { between = w .0; permuted = Permᴰ·symm (w .2); related = related-sym h (w .1) }
 
 pub nodup-perm : {a b : List Str} → List·Permᴰ a b → NoDup a → NoDup b
 nodup-perm List·Permᴰ·nil d = d

@@ -43,27 +43,27 @@ unfolding _then_
 then-passes e f = rw (e, f)
 
 -- what is put together from two passes where each passes if the other does
-then-on : (v w v' w' : Verdict) → (v ≡ pass → v' ≡ pass) → (w ≡ pass → w' ≡ pass) → (v then w) ≡ pass → (v' then w') ≡ pass
-then-on v w v' w' f g h = let k = then-pass v w h in then-passes (f (k .0)) (g (k .1))
+then-mono : (v w v' w' : Verdict) → (v ≡ pass → v' ≡ pass) → (w ≡ pass → w' ≡ pass) → (v then w) ≡ pass → (v' then w') ≡ pass
+then-mono v w v' w' f g h = let k = then-pass v w h in then-passes (f (k .0)) (g (k .1))
 
-ensure-on : (a b : Bool) (v w : Verdict) → a ≡ b → (v ≡ pass → w ≡ pass) → ensure a v ≡ pass → ensure b w ≡ pass
+ensure-mono : (a b : Bool) (v w : Verdict) → a ≡ b → (v ≡ pass → w ≡ pass) → ensure a v ≡ pass → ensure b w ≡ pass
 unfolding ensure
-ensure-on a true v w e f h = refl
-ensure-on true false v w e f h = absurd (false≢true (sym e))
-ensure-on false false v w e f h = f h
+ensure-mono a true v w e f h = refl
+ensure-mono true false v w e f h = absurd (false≢true (sym e))
+ensure-mono false false v w e f h = f h
 
-cond-on : (a b : Bool) (v v' w w' : Verdict) → a ≡ b → (v ≡ pass → v' ≡ pass) → (w ≡ pass → w' ≡ pass) → cond a v w ≡ pass → cond b v' w' ≡ pass
-cond-on true true v v' w w' e f g h = f h
-cond-on true false v v' w w' e f g h = absurd (false≢true (sym e))
-cond-on false true v v' w w' e f g h = absurd (false≢true e)
-cond-on false false v v' w w' e f g h = g h
+cond-mono : (a b : Bool) (v v' w w' : Verdict) → a ≡ b → (v ≡ pass → v' ≡ pass) → (w ≡ pass → w' ≡ pass) → cond a v w ≡ pass → cond b v' w' ≡ pass
+cond-mono true true v v' w w' e f g h = f h
+cond-mono true false v v' w w' e f g h = absurd (false≢true (sym e))
+cond-mono false true v v' w w' e f g h = absurd (false≢true e)
+cond-mono false false v v' w w' e f g h = g h
 
 module _ {A : Type 0} where
-  found-on : {R : A → A → Type 0} {o q : Option A} (v w : Verdict) (f g : A → Verdict) → OptionRel R o q → (v ≡ pass → w ≡ pass)
+  found-mono : {R : A → A → Type 0} {o q : Option A} (v w : Verdict) (f g : A → Verdict) → OptionRel R o q → (v ≡ pass → w ≡ pass)
       → ((x y : A) → R x y → f x ≡ pass → g y ≡ pass) → onFound o v f ≡ pass → onFound q w g ≡ pass
   unfolding onFound
-  found-on v w f g (neither e k) n h p = rw k (n (rw e at p))
-  found-on v w f g (both-hold {x = x} {y = y} e k r) n h p = rw k (h x y r (rw e at p))
+  found-mono v w f g (neither e k) n h p = rw k (n (rw e at p))
+  found-mono v w f g (both-hold {x = x} {y = y} e k r) n h p = rw k (h x y r (rw e at p))
 
   found-by : {o q : Option A} (v w : Verdict) (f g : A → Verdict) → o ≡ q → (v ≡ pass → w ≡ pass) → ((x : A) → f x ≡ pass → g x ≡ pass)
       → onFound o v f ≡ pass → onFound q w g ≡ pass
@@ -106,9 +106,9 @@ module _ (c d r q : Schema) (oc : Permuted c d) (or : Permuted r q) (nc : NoneTw
   enums-pass : checkEnums (c .enums) (r .enums) ≡ pass → checkEnums (d .enums) (q .enums) ≡ pass
   unfolding checkEnums checkEnum checkValues checkValue enumGone valueGone renamed
   enums-pass = each-shuffled (checkEnum (c .enums)) (checkEnum (d .enums)) (or .enums) (λ w v s.
-      ensure-on (empty (w .values)) (empty (v .values)) _ _ (empty-shuffled (w .values) (v .values) (exactly (s .values))) (λ h.
+      ensure-mono (empty (w .values)) (empty (v .values)) _ _ (empty-shuffled (w .values) (v .values) (exactly (s .values))) (λ h.
       subst (λ (n : Str). onFound (enumIn n (d .enums)) (enumGone n) (λ (new : Enum). checkValues n (new .values) (v .values)) ≡ pass) (s .name)
-      (found-on _ _ _ _ (enum-found c d oc nc (w .name)) (λ k. absurd (stop≢pass k)) (λ x y e.
+      (found-mono _ _ _ _ (enum-found c d oc nc (w .name)) (λ k. absurd (stop≢pass k)) (λ x y e.
       each-perm (checkValue (w .name) (x .values)) (checkValue (w .name) (y .values)) (s .values) (λ old.
       found-by _ _ _ _ (value-found d (none-twice c d oc nc) x y e (old .name)) (λ k. absurd (never _ _ _ _ _ k)) (λ new k. k))) h)))
 
@@ -124,7 +124,7 @@ module _ (c d r q : Schema) (oc : Permuted c d) (or : Permuted r q) (nc : NoneTw
   unfolding checkBitfields checkBitfield checkMembers checkMember bitFieldGone memberGone memberRenamed
   bitfields-pass = each-shuffled (checkBitfield (c .bitfields)) (checkBitfield (d .bitfields)) (or .bitfields) (λ w v s h.
       subst (λ (n : Str). onFound (bitfieldIn n (d .bitfields)) (bitFieldGone n) (λ (new : BitField). checkMembers n (new .members) (v .members)) ≡ pass) (s .name)
-      (found-on _ _ _ _ (bitfield-found c d oc nc (w .name)) (λ k. absurd (stop≢pass k)) (λ x y e.
+      (found-mono _ _ _ _ (bitfield-found c d oc nc (w .name)) (λ k. absurd (stop≢pass k)) (λ x y e.
       each-perm (checkMember (w .name) (x .members)) (checkMember (w .name) (y .members)) (s .members) (λ old.
       found-by _ _ _ _ (member-found d (none-twice c d oc nc) x y e (old .name)) (λ k. absurd (never _ _ _ _ _ k)) (λ new k. k))) h))
 
@@ -144,7 +144,7 @@ module _ (c d r q : Schema) (oc : Permuted c d) (or : Permuted r q) (nc : NoneTw
   bitfield-releases-pass : (t : Str) → checkBitfieldReleases t (c .bitfields) (r .bitfields) ≡ pass → checkBitfieldReleases t (d .bitfields) (q .bitfields) ≡ pass
   unfolding checkBitfieldReleases checkBitfieldArrived checkMembersArrived checkMemberArrived
   bitfield-releases-pass t = each-shuffled (checkBitfieldArrived t (r .bitfields)) (checkBitfieldArrived t (q .bitfields)) (oc .bitfields) (λ w v s.
-      then-on _ _ _ _
+      then-mono _ _ _ _
       (λ h. sym (λ i. checkArrived t (aBitfield (s .name i)) (required (s .since i)) ((bits-released (w .name) ∙ ap (λ (n : Str). bitfieldRelease (bitfieldIn n (q .bitfields))) (s .name)) i)) ∙ h)
       (each-perm _ _ (s .members) (λ m h.
       sym (λ i. checkArrived t (within (s .name i) (m .name)) (orElse (m .since) (required (s .since i)))
@@ -211,8 +211,8 @@ module _ (c d r q : Schema) (oc : Permuted c d) (or : Permuted r q) (nc : NoneTw
     enum-arrivals : checkEnumArrivals t copy (c .enums) (r .enums) ≡ pass → checkEnumArrivals t copy (d .enums) (q .enums) ≡ pass
     unfolding checkEnumArrivals checkEnumArrival checkValueArrivals
     enum-arrivals = each-shuffled (checkEnumArrival t copy (r .enums)) (checkEnumArrival t copy (q .enums)) (oc .enums) (λ w v s.
-        ensure-on (not (w .api)) (not (v .api)) _ _ (ap not (s .api)) (found-by pass pass _ _ (s .since) (λ k. k) (λ names.
-        then-on _ _ _ _
+        ensure-mono (not (w .api)) (not (v .api)) _ _ (ap not (s .api)) (found-by pass pass _ _ (s .since) (λ k. k) (λ names.
+        then-mono _ _ _ _
         (λ h. sym (λ i. checkArrival t copy (anEnum (s .name i)) names ((enum-released (w .name) ∙ ap (λ (n : Str). enumRelease (apiEnum n (q .enums))) (s .name)) i)) ∙ h)
         (each-perm _ _ (s .values) (λ x h. sym (value-arrival w v s x) ∙ h)))))
 
@@ -221,7 +221,7 @@ module _ (c d r q : Schema) (oc : Permuted c d) (or : Permuted r q) (nc : NoneTw
         → checkFirstReleases t copy (d .constants) (q .constants) (d .enums) (q .enums)
         (pluginKeys (d .structs) (d .unstored)) (pluginKeys (q .structs) (q .unstored)) ≡ pass
     unfolding checkFirstReleases
-    first-releases-pass = then-on _ _ _ _ (then-on _ _ _ _ constant-arrivals enum-arrivals) key-arrivals
+    first-releases-pass = then-mono _ _ _ _ (then-mono _ _ _ _ constant-arrivals enum-arrivals) key-arrivals
 
   -- constants -------------------------------------------------------------------------------------------------------------
 
@@ -251,8 +251,8 @@ module _ (c d r q : Schema) (oc : Permuted c d) (or : Permuted r q) (nc : NoneTw
   standalone-pass : (is was : List TypeLayout) → checkStandalone (c .families) (r .families) is was ≡ pass → checkStandalone (d .families) (q .families) is was ≡ pass
   unfolding checkStandalone checkFamily checkShippedAll
   standalone-pass is was = each-shuffled (checkFamily (r .families) is was) (checkFamily (q .families) is was) (oc .families) (λ m n s.
-      then-on _ _ _ _ (λ h. ap₂ (checkStanding (q .families)) (sym (s .name)) (sym (s .standalone)) ∙ sym (standing-same (m .name) (m .standalone)) ∙ h)
-      (ensure-on (not (m .standalone)) (not (n .standalone)) _ _ (ap not (s .standalone))
+      then-mono _ _ _ _ (λ h. ap₂ (checkStanding (q .families)) (sym (s .name)) (sym (s .standalone)) ∙ sym (standing-same (m .name) (m .standalone)) ∙ h)
+      (ensure-mono (not (m .standalone)) (not (n .standalone)) _ _ (ap not (s .standalone))
       (each-perm (checkShipped is was) (checkShipped is was) (layout-names m n s) (λ x h. h))))
 
   -- generations -----------------------------------------------------------------------------------------------------------
@@ -326,15 +326,15 @@ module _ (c d r q : Schema) (oc : Permuted c d) (or : Permuted r q) (nc : NoneTw
   passes-on : firstOf (passList c r) ≡ pass → firstOf (passList d q) ≡ pass
   unfolding passList firstOf
   passes-on =
-      then-on _ _ _ _ (λ h. sym (λ i. checkReleaseOrder (now i) (or .release i)) ∙ h)
-      (then-on _ _ _ _ (λ h. sym dated ∙ first-releases-pass (required (c .release)) (r .release) h)
-      (then-on _ _ _ _ (λ h. sym constants-same ∙ h)
-      (then-on _ _ _ _ enums-pass
-      (then-on _ _ _ _ bitfields-pass
-      (then-on _ _ _ _ (λ h. subst (λ (t : Str). checkBitfieldReleases t (d .bitfields) (q .bitfields) ≡ pass) now (bitfield-releases-pass (required (c .release)) h))
-      (then-on _ _ _ _ (λ h. ap₂ checkFields (sym (types-same c d oc nc)) (sym (types-same r q or nr)) ∙ h)
-      (then-on _ _ _ _ (λ h. ap₂ (checkStandalone (d .families) (q .families)) (sym (types-same c d oc nc)) (sym (types-same r q or nr)) ∙ standalone-pass (types c) (types r) h)
-      (then-on _ _ _ _ (λ h. sym generations ∙ h) (λ h. h)))))))))
+      then-mono _ _ _ _ (λ h. sym (λ i. checkReleaseOrder (now i) (or .release i)) ∙ h)
+      (then-mono _ _ _ _ (λ h. sym dated ∙ first-releases-pass (required (c .release)) (r .release) h)
+      (then-mono _ _ _ _ (λ h. sym constants-same ∙ h)
+      (then-mono _ _ _ _ enums-pass
+      (then-mono _ _ _ _ bitfields-pass
+      (then-mono _ _ _ _ (λ h. subst (λ (t : Str). checkBitfieldReleases t (d .bitfields) (q .bitfields) ≡ pass) now (bitfield-releases-pass (required (c .release)) h))
+      (then-mono _ _ _ _ (λ h. ap₂ checkFields (sym (types-same c d oc nc)) (sym (types-same r q or nr)) ∙ h)
+      (then-mono _ _ _ _ (λ h. ap₂ (checkStandalone (d .families) (q .families)) (sym (types-same c d oc nc)) (sym (types-same r q or nr)) ∙ standalone-pass (types c) (types r) h)
+      (then-mono _ _ _ _ (λ h. sym generations ∙ h) (λ h. h)))))))))
     where
       now : required (c .release) ≡ required (d .release)
       now = ap required (oc .release)
@@ -355,4 +355,4 @@ module _ (c d r q : Schema) (oc : Permuted c d) (or : Permuted r q) (nc : NoneTw
   -- the pair passes in the one order if it does in the other
   pub compare-on : compare c r ≡ pass → compare d q ≡ pass
   unfolding compare
-  compare-on = cond-on (r .unreleased) (q .unreleased) _ _ _ _ (or .unreleased) (λ h. sym unreleased-same ∙ h) passes-on
+  compare-on = cond-mono (r .unreleased) (q .unreleased) _ _ _ _ (or .unreleased) (λ h. sym unreleased-same ∙ h) passes-on

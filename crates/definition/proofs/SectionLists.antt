@@ -14,7 +14,7 @@ use Rattle.record.specs.Lists.{enumOf, bitfieldOf, structOf, familyOf, variantO
 use Rattle.record.specs.Shapes.{prefix}
 use Rattle.record.proofs.Basics.{both}
 use Rattle.definition.specs.Pass.{allOf}
-use Rattle.definition.specs.Sections.{number, isCommand, areCommands, openers, insiders, isSection, Part, value, member, variant, sectionOf, partOf, fieldsOf, isPart, PartsMoved, as-it-is, parts-moved}
+use Rattle.definition.specs.Sections.{number, isCommand, areCommands, openers, insiders, isSection, Part, value, member, variant, sectionNumber, partNumber, fieldNumbers, isPart, PartsMoved, as-it-is, parts-moved}
 use Rattle.definition.proofs.Lists.{not-true, all-of, of-all, mem-flatten, all-perm, perm-eq, perm-by, perm-append, perm-flatMap, related-refl, related-by}
 use Rattle.definition.proofs.PermutedSchemas.{PermutedEnum, PermutedBits, PermutedFamily}
 use Rattle.definition.proofs.CommandStreams.{one-of, is-number, listedIn, theConstants, theAliases, theValues, theEnums, theMembers, theBitfields, theKeys, theFields, theStructs, theVariants, theFamilies, theUnstored, theVersions}
@@ -43,8 +43,8 @@ commands-more l k h xs e = of-all (isCommand k) xs (λ x m. command-more l k h x
 abbrev pub Without : ℕ → List ℕ → Type 0
 Without b l = allOf (λ (k : ℕ). not (eqb k b)) l ≡ true
 
-pub other : (l : List ℕ) (b : ℕ) → Without b l → (k : ℕ) → any (eqb k) l ≡ true → eqb k b ≡ false
-other l b h k e = not-true (eqb k b) (one-of (λ (j : ℕ). not (eqb j b)) l h k e)
+pub differs : (l : List ℕ) (b : ℕ) → Without b l → (k : ℕ) → any (eqb k) l ≡ true → eqb k b ≡ false
+differs l b h k e = not-true (eqb k b) (one-of (λ (j : ℕ). not (eqb j b)) l h k e)
 
 -- the parts of a section --------------------------------------------------------------------------------------------------
 
@@ -54,51 +54,51 @@ each-part P v m w member = m
 each-part P v m w variant = w
 
 -- the numbers inside a section with such parts, and of all its commands
-unfoldable pub bodyOf : Part → List ℕ
-bodyOf k = partOf k ∷ fieldsOf k
+unfoldable pub bodyNumbers : Part → List ℕ
+bodyNumbers k = partNumber k ∷ fieldNumbers k
 
-unfoldable pub numbersOf : Part → List ℕ
-numbersOf k = sectionOf k ∷ partOf k ∷ fieldsOf k
+unfoldable pub ownNumbers : Part → List ℕ
+ownNumbers k = sectionNumber k ∷ partNumber k ∷ fieldNumbers k
 
-fields-among : (k : Part) → Among (fieldsOf k) (bodyOf k)
-unfolding fieldsOf partOf bodyOf allOf any
-fields-among = each-part (λ (k : Part). Among (fieldsOf k) (bodyOf k)) refl refl refl
+fields-among : (k : Part) → Among (fieldNumbers k) (bodyNumbers k)
+unfolding fieldNumbers partNumber bodyNumbers allOf any
+fields-among = each-part (λ (k : Part). Among (fieldNumbers k) (bodyNumbers k)) refl refl refl
 
-body-among : (k : Part) → Among (bodyOf k) (numbersOf k)
-unfolding fieldsOf partOf sectionOf bodyOf numbersOf allOf any
-body-among = each-part (λ (k : Part). Among (bodyOf k) (numbersOf k)) refl refl refl
+body-among : (k : Part) → Among (bodyNumbers k) (ownNumbers k)
+unfolding fieldNumbers partNumber sectionNumber bodyNumbers ownNumbers allOf any
+body-among = each-part (λ (k : Part). Among (bodyNumbers k) (ownNumbers k)) refl refl refl
 
-body-inside : (k : Part) → Among (bodyOf k) insiders
-unfolding fieldsOf partOf bodyOf insiders allOf any
-body-inside = each-part (λ (k : Part). Among (bodyOf k) insiders) refl refl refl
+body-inside : (k : Part) → Among (bodyNumbers k) insiders
+unfolding fieldNumbers partNumber bodyNumbers insiders allOf any
+body-inside = each-part (λ (k : Part). Among (bodyNumbers k) insiders) refl refl refl
 
-pub own-commands : (k : Part) (fs : List Str) → areCommands (fieldsOf k) fs ≡ true → areCommands (bodyOf k) fs ≡ true
-own-commands k = commands-more (fieldsOf k) (bodyOf k) (fields-among k)
+pub own-commands : (k : Part) (fs : List Str) → areCommands (fieldNumbers k) fs ≡ true → areCommands (bodyNumbers k) fs ≡ true
+own-commands k = commands-more (fieldNumbers k) (bodyNumbers k) (fields-among k)
 
-pub part-commands : (k : Part) (v : List Str) → isPart k v ≡ true → areCommands (bodyOf k) v ≡ true
-unfolding isPart areCommands allOf bodyOf any
+pub part-commands : (k : Part) (v : List Str) → isPart k v ≡ true → areCommands (bodyNumbers k) v ≡ true
+unfolding isPart areCommands allOf bodyNumbers any
 part-commands k [] h = absurd (false≢true h)
 part-commands k (x ∷ xs) h =
-    let w = both (isCommand (partOf k ∷ []) x) _ h in
-    rw (command-more (partOf k ∷ []) (partOf k ∷ fieldsOf k) (rw (eq-eqb (partOf k) (partOf k) refl)) x (w .0))
-    (commands-more (fieldsOf k) (partOf k ∷ fieldsOf k) (fields-among k) xs (w .1))
+    let w = both (isCommand (partNumber k ∷ []) x) _ h in
+    rw (command-more (partNumber k ∷ []) (partNumber k ∷ fieldNumbers k) (rw (eq-eqb (partNumber k) (partNumber k) refl)) x (w .0))
+    (commands-more (fieldNumbers k) (partNumber k ∷ fieldNumbers k) (fields-among k) xs (w .1))
 
 -- the commands behind the one that begins the section
-body-commands : (k : Part) (fs : List Str) (ps : List (List Str)) → areCommands (fieldsOf k) fs ≡ true → allOf (isPart k) ps ≡ true
-    → areCommands (bodyOf k) (fs ++ flatten ps) ≡ true
+body-commands : (k : Part) (fs : List Str) (ps : List (List Str)) → areCommands (fieldNumbers k) fs ≡ true → allOf (isPart k) ps ≡ true
+    → areCommands (bodyNumbers k) (fs ++ flatten ps) ≡ true
 unfolding areCommands
-body-commands k fs ps i j = of-all (isCommand (bodyOf k)) (fs ++ flatten ps) (λ x m. go x (List·Memᴰ·append-cases fs m))
+body-commands k fs ps i j = of-all (isCommand (bodyNumbers k)) (fs ++ flatten ps) (λ x m. go x (List·Memᴰ·append-cases fs m))
   where
-    go : (x : Str) → List·Memᴰ x fs ⊎ List·Memᴰ x (flatten ps) → isCommand (bodyOf k) x ≡ true
-    go x (inl m) = command-more (fieldsOf k) (bodyOf k) (fields-among k) x (all-of (isCommand (fieldsOf k)) fs i m)
-    go x (inr m) = let w = mem-flatten ps m in all-of (isCommand (bodyOf k)) (w .0) (part-commands k (w .0) (all-of (isPart k) ps j (w .1))) (w .2)
+    go : (x : Str) → List·Memᴰ x fs ⊎ List·Memᴰ x (flatten ps) → isCommand (bodyNumbers k) x ≡ true
+    go x (inl m) = command-more (fieldNumbers k) (bodyNumbers k) (fields-among k) x (all-of (isCommand (fieldNumbers k)) fs i m)
+    go x (inr m) = let w = mem-flatten ps m in all-of (isCommand (bodyNumbers k)) (w .0) (part-commands k (w .0) (all-of (isPart k) ps j (w .1))) (w .2)
 
-moved-commands : (k : Part) (x : Str) (ys : List Str) → isCommand (sectionOf k ∷ []) x ≡ true → areCommands (bodyOf k) ys ≡ true
-    → areCommands (numbersOf k) (x ∷ ys) ≡ true
-unfolding areCommands allOf numbersOf any
+moved-commands : (k : Part) (x : Str) (ys : List Str) → isCommand (sectionNumber k ∷ []) x ≡ true → areCommands (bodyNumbers k) ys ≡ true
+    → areCommands (ownNumbers k) (x ∷ ys) ≡ true
+unfolding areCommands allOf ownNumbers any
 moved-commands k x ys i j =
-    rw (command-more (sectionOf k ∷ []) (numbersOf k) (rw (eq-eqb (sectionOf k) (sectionOf k) refl)) x i)
-    (commands-more (bodyOf k) (numbersOf k) (body-among k) ys j)
+    rw (command-more (sectionNumber k ∷ []) (ownNumbers k) (rw (eq-eqb (sectionNumber k) (sectionNumber k) refl)) x i)
+    (commands-more (bodyNumbers k) (ownNumbers k) (body-among k) ys j)
 
 -- a section with its parts moved is a section
 moved-section : (s t : List Str) → PartsMoved s t → isSection s ≡ true → isSection t ≡ true
@@ -106,7 +106,7 @@ unfolding isSection
 moved-section s t (as-it-is e) h = sym (ap isSection e) ∙ h
 moved-section s t (parts-moved k x fs ps qs i j l p) h =
     rw (both (isCommand openers x) _ h .0)
-    (commands-more (bodyOf k) insiders (body-inside k) (fs ++ flatten qs) (body-commands k fs qs j (all-perm (isPart k) p l)))
+    (commands-more (bodyNumbers k) insiders (body-inside k) (fs ++ flatten qs) (body-commands k fs qs j (all-perm (isPart k) p l)))
 
 pub moved-sections : {a b : List (List Str)} → Forall₂ PartsMoved a b → allOf isSection a ≡ true → allOf isSection b ≡ true
 unfolding allOf
@@ -143,12 +143,12 @@ sections-start [] h = tt
 sections-start ([] ∷ secs) h = absurd (false≢true h)
 sections-start ((x ∷ xs) ∷ secs) h = its-number openers x (both (isCommand openers x) _ (both (isSection (x ∷ xs)) (allOf isSection secs) h .0) .0)
 
-pub parts-start : (k : Part) (ps : List (List Str)) → allOf (isPart k) ps ≡ true → StartsWith (partOf k ∷ []) (flatten ps)
+pub parts-start : (k : Part) (ps : List (List Str)) → allOf (isPart k) ps ≡ true → StartsWith (partNumber k ∷ []) (flatten ps)
 unfolding flatten allOf isPart
 parts-start k [] h = tt
 parts-start k ([] ∷ ps) h = absurd (false≢true h)
 parts-start k ((x ∷ xs) ∷ ps) h =
-    its-number (partOf k ∷ []) x (both (isCommand (partOf k ∷ []) x) _ (both (isPart k (x ∷ xs)) (allOf (isPart k) ps) h .0) .0)
+    its-number (partNumber k ∷ []) x (both (isCommand (partNumber k ∷ []) x) _ (both (isPart k (x ∷ xs)) (allOf (isPart k) ps) h .0) .0)
 
 -- lists -------------------------------------------------------------------------------------------------------------------
 
@@ -184,12 +184,12 @@ module _ {A : Type 0} (over : ℕ → Bool) (b : ℕ) (g : Str → List Str → 
         go false false k r = absurd (false≢true k)
 
   -- the parts of a section, one after the other
-  module _ (k : Part) (part : partOf k ≡ b) (on : allOf (λ (n : ℕ). eqb n b || over n) (bodyOf k) ≡ true)
-      (same : (t : List Str) → StartsWith (partOf k ∷ []) t → (x : Str) (xs : List Str) → g x (xs ++ t) ≡ g x xs) where
-    goes-on : (s : List Str) → areCommands (bodyOf k) s ≡ true → (x : Str) → List·Memᴰ x s → (eqb (number x) b || over (number x)) ≡ true
+  module _ (k : Part) (part : partNumber k ≡ b) (on : allOf (λ (n : ℕ). eqb n b || over n) (bodyNumbers k) ≡ true)
+      (same : (t : List Str) → StartsWith (partNumber k ∷ []) t → (x : Str) (xs : List Str) → g x (xs ++ t) ≡ g x xs) where
+    goes-on : (s : List Str) → areCommands (bodyNumbers k) s ≡ true → (x : Str) → List·Memᴰ x s → (eqb (number x) b || over (number x)) ≡ true
     unfolding areCommands
     goes-on s h x m =
-        one-of (λ (n : ℕ). eqb n b || over n) (bodyOf k) on (number x) (its-number (bodyOf k) x (all-of (isCommand (bodyOf k)) s h m))
+        one-of (λ (n : ℕ). eqb n b || over n) (bodyNumbers k) on (number x) (its-number (bodyNumbers k) x (all-of (isCommand (bodyNumbers k)) s h m))
 
     listed-parts : (ps : List (List Str)) → allOf (isPart k) ps ≡ true → listedIn over b g (flatten ps) ≡ flatMap (listedIn over b g) ps
     unfolding flatten flatMap allOf listedIn
@@ -199,14 +199,14 @@ module _ {A : Type 0} (over : ℕ → Bool) (b : ℕ) (g : Str → List Str → 
         listed-through (flatten ps) (same (flatten ps) (parts-start k ps (w .1))) p (goes-on p (part-commands k p (w .0)))
         ∙ ap (λ (l : List A). listedIn over b g p ++ l) (listed-parts ps (w .1))
 
-    listed-body : (fs : List Str) (ps : List (List Str)) → areCommands (fieldsOf k) fs ≡ true → allOf (isPart k) ps ≡ true
+    listed-body : (fs : List Str) (ps : List (List Str)) → areCommands (fieldNumbers k) fs ≡ true → allOf (isPart k) ps ≡ true
         → listedIn over b g (fs ++ flatten ps) ≡ listedIn over b g fs ++ flatMap (listedIn over b g) ps
     listed-body fs ps i j =
         listed-through (flatten ps) (same (flatten ps) (parts-start k ps j)) fs (goes-on fs (own-commands k fs i))
         ∙ ap (λ (l : List A). listedIn over b g fs ++ l) (listed-parts ps j)
 
     -- in another order they are a permutation
-    parts-perm : (fs : List Str) (ps qs : List (List Str)) → areCommands (fieldsOf k) fs ≡ true → allOf (isPart k) ps ≡ true → List·Permᴰ ps qs
+    parts-perm : (fs : List Str) (ps qs : List (List Str)) → areCommands (fieldNumbers k) fs ≡ true → allOf (isPart k) ps ≡ true → List·Permᴰ ps qs
         → List·Permᴰ (listedIn over b g (fs ++ flatten ps)) (listedIn over b g (fs ++ flatten qs))
     parts-perm fs ps qs i j p =
         perm-by (listed-body fs ps i j) (listed-body fs qs i (all-perm (isPart k) p j))
@@ -232,30 +232,30 @@ module _ {A : Type 0} (b : ℕ) (g : Str → List Str → A) where
   listed-none l h [] c = refl
   listed-none l h (x ∷ xs) c =
       let w = both (isCommand l x) _ c in
-      rw (other l b h (number x) (its-number l x (w .0))) (listed-none l h xs (w .1))
+      rw (differs l b h (number x) (its-number l x (w .0))) (listed-none l h xs (w .1))
 
   -- nor in a section with its parts moved
-  none-moved : (k : Part) → Without b (numbersOf k) → (x : Str) (fs : List Str) (ps : List (List Str)) → isCommand (sectionOf k ∷ []) x ≡ true
-      → areCommands (fieldsOf k) fs ≡ true → allOf (isPart k) ps ≡ true → listedIn anything b g (x ∷ fs ++ flatten ps) ≡ []
-  none-moved k h x fs ps i j l = listed-none (numbersOf k) h (x ∷ fs ++ flatten ps) (moved-commands k x (fs ++ flatten ps) i (body-commands k fs ps j l))
+  none-moved : (k : Part) → Without b (ownNumbers k) → (x : Str) (fs : List Str) (ps : List (List Str)) → isCommand (sectionNumber k ∷ []) x ≡ true
+      → areCommands (fieldNumbers k) fs ≡ true → allOf (isPart k) ps ≡ true → listedIn anything b g (x ∷ fs ++ flatten ps) ≡ []
+  none-moved k h x fs ps i j l = listed-none (ownNumbers k) h (x ∷ fs ++ flatten ps) (moved-commands k x (fs ++ flatten ps) i (body-commands k fs ps j l))
 
   -- the one element of a section that such a command begins
-  one-section : (k : Part) → sectionOf k ≡ b → Without b (bodyOf k) → (x : Str) (fs : List Str) (ps : List (List Str)) → isCommand (sectionOf k ∷ []) x ≡ true
-      → areCommands (fieldsOf k) fs ≡ true → allOf (isPart k) ps ≡ true → listedIn anything b g (x ∷ fs ++ flatten ps) ≡ g x (fs ++ flatten ps) ∷ []
+  one-section : (k : Part) → sectionNumber k ≡ b → Without b (bodyNumbers k) → (x : Str) (fs : List Str) (ps : List (List Str)) → isCommand (sectionNumber k ∷ []) x ≡ true
+      → areCommands (fieldNumbers k) fs ≡ true → allOf (isPart k) ps ≡ true → listedIn anything b g (x ∷ fs ++ flatten ps) ≡ g x (fs ++ flatten ps) ∷ []
   one-section k e h x fs ps i j l =
-      listed-hit anything b g x (fs ++ flatten ps) (is-number (sectionOf k) x i ∙ e)
-      ∙ ap (λ (r : List A). g x (fs ++ flatten ps) ∷ r) (listed-none (bodyOf k) h (fs ++ flatten ps) (body-commands k fs ps j l))
+      listed-hit anything b g x (fs ++ flatten ps) (is-number (sectionNumber k) x i ∙ e)
+      ∙ ap (λ (r : List A). g x (fs ++ flatten ps) ∷ r) (listed-none (bodyNumbers k) h (fs ++ flatten ps) (body-commands k fs ps j l))
 
   -- a list that no part is in
-  pub moved-plain : ((k : Part) → Without b (numbersOf k)) → (s t : List Str) → PartsMoved s t → listedIn anything b g s ≡ listedIn anything b g t
-  moved-plain h s t (as-it-is e) = ap (listedIn anything b g) e
-  moved-plain h s t (parts-moved k x fs ps qs i j l p) =
+  pub moved-equal : ((k : Part) → Without b (ownNumbers k)) → (s t : List Str) → PartsMoved s t → listedIn anything b g s ≡ listedIn anything b g t
+  moved-equal h s t (as-it-is e) = ap (listedIn anything b g) e
+  moved-equal h s t (parts-moved k x fs ps qs i j l p) =
       none-moved k (h k) x fs ps i j l ∙ sym (none-moved k (h k) x fs qs i j (all-perm (isPart k) p l))
 
   -- the list of the sections of which a part is, their elements up to a relation
-  module _ (R : A → A → Type 0) (same : (x : A) → R x x) (k : Part) (its : sectionOf k ≡ b) (alone : Without b (bodyOf k))
-      (others : (j : Part) → (j ≡ k) ⊎ Without b (numbersOf j))
-      (moved : (x : Str) (fs : List Str) (ps qs : List (List Str)) → areCommands (fieldsOf k) fs ≡ true → allOf (isPart k) ps ≡ true → List·Permᴰ ps qs
+  module _ (R : A → A → Type 0) (same : (x : A) → R x x) (k : Part) (its : sectionNumber k ≡ b) (alone : Without b (bodyNumbers k))
+      (others : (j : Part) → (j ≡ k) ⊎ Without b (ownNumbers j))
+      (moved : (x : Str) (fs : List Str) (ps qs : List (List Str)) → areCommands (fieldNumbers k) fs ≡ true → allOf (isPart k) ps ≡ true → List·Permᴰ ps qs
       → R (g x (fs ++ flatten ps)) (g x (fs ++ flatten qs))) where
     moved-listed : (s t : List Str) → PartsMoved s t → Forall₂ R (listedIn anything b g s) (listedIn anything b g t)
     moved-listed s t (as-it-is e) = related-by (ap (listedIn anything b g) e) refl (related-refl same (listedIn anything b g t))
@@ -264,13 +264,13 @@ module _ {A : Type 0} (b : ℕ) (g : Str → List Str → A) where
         l' : allOf (isPart j) qs ≡ true
         l' = all-perm (isPart j) p l
 
-        go : (j ≡ k) ⊎ Without b (numbersOf j) → Forall₂ R (listedIn anything b g (x ∷ fs ++ flatten ps)) (listedIn anything b g (x ∷ fs ++ flatten qs))
+        go : (j ≡ k) ⊎ Without b (ownNumbers j) → Forall₂ R (listedIn anything b g (x ∷ fs ++ flatten ps)) (listedIn anything b g (x ∷ fs ++ flatten qs))
         go (inr h) = related-by (none-moved j h x fs ps i f l) (none-moved j h x fs qs i f l') Forall₂·nil
         go (inl e) =
-            let its' : sectionOf j ≡ b = ap sectionOf e ∙ its in
-            let alone' : Without b (bodyOf j) = subst (λ (u : Part). Without b (bodyOf u)) (sym e) alone in
+            let its' : sectionNumber j ≡ b = ap sectionNumber e ∙ its in
+            let alone' : Without b (bodyNumbers j) = subst (λ (u : Part). Without b (bodyNumbers u)) (sym e) alone in
             related-by (one-section j its' alone' x fs ps i f l) (one-section j its' alone' x fs qs i f l')
-            (Forall₂·cons (moved x fs ps qs (subst (λ (u : Part). areCommands (fieldsOf u) fs ≡ true) e f)
+            (Forall₂·cons (moved x fs ps qs (subst (λ (u : Part). areCommands (fieldNumbers u) fs ≡ true) e f)
             (subst (λ (u : Part). allOf (isPart u) ps ≡ true) e l) p) Forall₂·nil)
 
 -- the lists of a record ---------------------------------------------------------------------------------------------------
@@ -295,8 +295,8 @@ module _ (p : Str) where
   unfolding openers allOf
   fields-open t h s = fields-closed openers refl refl t h s
 
-  fields-variant : (t : List Str) → StartsWith (partOf variant ∷ []) t → (s : List Str) → theFields p (s ++ t) ≡ theFields p s
-  unfolding allOf partOf
+  fields-variant : (t : List Str) → StartsWith (partNumber variant ∷ []) t → (s : List Str) → theFields p (s ++ t) ≡ theFields p s
+  unfolding allOf partNumber
   fields-variant t h s = fields-closed (10 ∷ []) refl refl t h s
 
   variants-closed : (t : List Str) → StartsWith openers t → (s : List Str) → theVariants p (s ++ t) ≡ theVariants p s
@@ -353,41 +353,41 @@ module _ (p : Str) where
   -- with parts moved ------------------------------------------------------------------------------------------------------
 
   pub moved-enums : (s t : List Str) → PartsMoved s t → Forall₂ PermutedEnum (theEnums p s) (theEnums p t)
-  unfolding theEnums theValues allOf any sectionOf partOf fieldsOf bodyOf numbersOf
+  unfolding theEnums theValues allOf any sectionNumber partNumber fieldNumbers bodyNumbers ownNumbers
   moved-enums =
       moved-listed 4 _ PermutedEnum (λ e. record { name = refl; size = refl; api = refl; since = refl; values = Permᴰ·refl (e .values) }) value refl refl
-      (each-part (λ (j : Part). (j ≡ value) ⊎ Without 4 (numbersOf j)) (inl refl) (inr refl) (inr refl)) (λ x fs ps qs i j q.
+      (each-part (λ (j : Part). (j ≡ value) ⊎ Without 4 (ownNumbers j)) (inl refl) (inr refl) (inr refl)) (λ x fs ps qs i j q.
       record { name = refl; size = refl; api = refl; since = refl; values = parts-perm nothing 5 _ value refl refl (λ t h y ys. refl) fs ps qs i j q })
 
   pub moved-bitfields : (s t : List Str) → PartsMoved s t → Forall₂ PermutedBits (theBitfields p s) (theBitfields p t)
-  unfolding theBitfields theMembers allOf any sectionOf partOf fieldsOf bodyOf numbersOf
+  unfolding theBitfields theMembers allOf any sectionNumber partNumber fieldNumbers bodyNumbers ownNumbers
   moved-bitfields =
       moved-listed 6 _ PermutedBits (λ e. record { name = refl; size = refl; since = refl; members = Permᴰ·refl (e .members) }) member refl refl
-      (each-part (λ (j : Part). (j ≡ member) ⊎ Without 6 (numbersOf j)) (inr refl) (inl refl) (inr refl)) (λ x fs ps qs i j q.
+      (each-part (λ (j : Part). (j ≡ member) ⊎ Without 6 (ownNumbers j)) (inr refl) (inl refl) (inr refl)) (λ x fs ps qs i j q.
       record { name = refl; size = refl; since = refl; members = parts-perm nothing 7 _ member refl refl (λ t h y ys. refl) fs ps qs i j q })
 
   -- what the variants give, in another order
-  variants-perm : (fs : List Str) (ps qs : List (List Str)) → areCommands (fieldsOf variant) fs ≡ true → allOf (isPart variant) ps ≡ true → List·Permᴰ ps qs
+  variants-perm : (fs : List Str) (ps qs : List (List Str)) → areCommands (fieldNumbers variant) fs ≡ true → allOf (isPart variant) ps ≡ true → List·Permᴰ ps qs
       → List·Permᴰ (theVariants p (fs ++ flatten ps)) (theVariants p (fs ++ flatten qs))
-  unfolding theVariants allOf any partOf fieldsOf bodyOf
+  unfolding theVariants allOf any partNumber fieldNumbers bodyNumbers
   variants-perm = parts-perm aField 10 _ variant refl refl (λ t h x xs. ap (variantOf p (variantAt x)) (fields-variant t h xs))
 
   -- a family's own fields come before its variants
-  own-fields : (fs : List Str) (ps : List (List Str)) → allOf (isPart variant) ps ≡ true → theFields p (fs ++ flatten ps) ≡ theFields p fs
-  own-fields fs ps h = fields-variant (flatten ps) (parts-start variant ps h) fs
+  common-fields : (fs : List Str) (ps : List (List Str)) → allOf (isPart variant) ps ≡ true → theFields p (fs ++ flatten ps) ≡ theFields p fs
+  common-fields fs ps h = fields-variant (flatten ps) (parts-start variant ps h) fs
 
   pub moved-families : (s t : List Str) → PartsMoved s t → Forall₂ PermutedFamily (theFamilies p s) (theFamilies p t)
-  unfolding theFamilies allOf any sectionOf partOf fieldsOf bodyOf numbersOf
+  unfolding theFamilies allOf any sectionNumber partNumber fieldNumbers bodyNumbers ownNumbers
   moved-families =
       moved-listed 9 _ PermutedFamily (λ m. same m refl (Permᴰ·refl (m .variants))) variant refl refl
-      (each-part (λ (j : Part). (j ≡ variant) ⊎ Without 9 (numbersOf j)) (inr refl) (inr refl) (inl refl)) (λ x fs ps qs i j q. record {
+      (each-part (λ (j : Part). (j ≡ variant) ⊎ Without 9 (ownNumbers j)) (inr refl) (inr refl) (inl refl)) (λ x fs ps qs i j q. record {
         name = refl;
         discField = refl;
         discType = refl;
         lenField = refl;
         lenType = refl;
         standalone = refl;
-        common = own-fields fs ps j ∙ sym (own-fields fs qs (all-perm (isPart variant) q j));
+        common = common-fields fs ps j ∙ sym (common-fields fs qs (all-perm (isPart variant) q j));
         variants = variants-perm fs ps qs i j q;
       })
     where
@@ -434,15 +434,15 @@ module _ (p : Str) where
   opened-none l h i j (x ∷ xs) c =
       let w = both (isCommand l x) _ c in
       let k = its-number l x (w .0) in
-      rw (other l 9 i (number x) k, other l 8 h (number x) k, other l 10 j (number x) k) (opened-none l h i j xs (w .1))
+      rw (differs l 9 i (number x) k, differs l 8 h (number x) k, differs l 10 j (number x) k) (opened-none l h i j xs (w .1))
 
-  none-opened : (k : Part) → Without 8 (numbersOf k) → Without 9 (numbersOf k) → Without 10 (numbersOf k) → (x : Str) (fs : List Str)
-      (ps qs : List (List Str)) → isCommand (sectionOf k ∷ []) x ≡ true → areCommands (fieldsOf k) fs ≡ true → allOf (isPart k) ps ≡ true → List·Permᴰ ps qs
+  none-opened : (k : Part) → Without 8 (ownNumbers k) → Without 9 (ownNumbers k) → Without 10 (ownNumbers k) → (x : Str) (fs : List Str)
+      (ps qs : List (List Str)) → isCommand (sectionNumber k ∷ []) x ≡ true → areCommands (fieldNumbers k) fs ≡ true → allOf (isPart k) ps ≡ true → List·Permᴰ ps qs
       → theOpened (x ∷ fs ++ flatten ps) ≡ theOpened (x ∷ fs ++ flatten qs)
   none-opened k a b c x fs ps qs i j l q = none ps l ∙ sym (none qs (all-perm (isPart k) q l))
     where
       none : (rs : List (List Str)) → allOf (isPart k) rs ≡ true → theOpened (x ∷ fs ++ flatten rs) ≡ []
-      none rs m = opened-none (numbersOf k) a b c (x ∷ fs ++ flatten rs) (moved-commands k x (fs ++ flatten rs) i (body-commands k fs rs j m))
+      none rs m = opened-none (ownNumbers k) a b c (x ∷ fs ++ flatten rs) (moved-commands k x (fs ++ flatten rs) i (body-commands k fs rs j m))
 
   opened-body : (x : Str) (fs : List Str) (ps : List (List Str)) → number x ≡ 9 → allOf (isPart variant) ps ≡ true
       → theOpened (x ∷ fs ++ flatten ps) ≡ (prefix (familyOf p (familyAt x) [] []) ++ theFields p fs) ∷ (theOpened fs ++ flatMap theOpened ps)
@@ -454,7 +454,7 @@ module _ (p : Str) where
       (opened-append (flatten ps) closed fs ∙ ap (λ (l : List (List Field)). theOpened fs ++ l) (opened-parts ps k)))
 
   pub moved-opened : (s t : List Str) → PartsMoved s t → List·Permᴰ (theOpened s) (theOpened t)
-  unfolding allOf any sectionOf partOf fieldsOf numbersOf
+  unfolding allOf any sectionNumber partNumber fieldNumbers ownNumbers
   moved-opened s t (as-it-is e) = perm-eq (ap theOpened e)
   moved-opened s t (parts-moved value x fs ps qs i j l q) = perm-eq (none-opened value refl refl refl x fs ps qs i j l q)
   moved-opened s t (parts-moved member x fs ps qs i j l q) = perm-eq (none-opened member refl refl refl x fs ps qs i j l q)

@@ -29,8 +29,8 @@ use Rattle.definition.specs.Pass.{allOf}
 use Rattle.definition.specs.Sections.{number, streamOf, isCommand, areCommands, openers, insiders, isSection, Sectioned}
 use Rattle.definition.proofs.Same.{beq→eq}
 use Rattle.definition.proofs.Lists.{not-true}
-use Rattle.definition.proofs.CommandStreams.{one-of, numbers, Whole, AllWhole, Rest}
-use Rattle.definition.proofs.Fitting.{state, fine, fits, end-row, taken-next, parsed-fits}
+use Rattle.definition.proofs.CommandStreams.{one-of, commandNumbers, Whole, AllWhole, CommandsFrom}
+use Rattle.definition.proofs.Validity.{cursorAfter, faultless, valid, end-row, taken-next, parsed-valid}
 use Rattle.definition.proofs.SectionLists.{its-number}
 
 -- the commands of a stream ------------------------------------------------------------------------------------------------
@@ -40,11 +40,11 @@ unfolding isSome
 some-cond true x y z h = refl
 some-cond false x y z h = h
 
-all-numbers : List ℕ
-all-numbers = 1 ∷ 2 ∷ 3 ∷ 4 ∷ 5 ∷ 6 ∷ 7 ∷ 8 ∷ 9 ∷ 10 ∷ 11 ∷ 12 ∷ 13 ∷ 14 ∷ 15 ∷ []
+rowNumbers : List ℕ
+rowNumbers = 1 ∷ 2 ∷ 3 ∷ 4 ∷ 5 ∷ 6 ∷ 7 ∷ 8 ∷ 9 ∷ 10 ∷ 11 ∷ 12 ∷ 13 ∷ 14 ∷ 15 ∷ []
 
-rows-are : (b : ℕ) → isSome (operands b) ≡ any (eqb b) all-numbers
-unfolding operands any all-numbers
+rows-are : (b : ℕ) → isSome (operands b) ≡ any (eqb b) rowNumbers
+unfolding operands any rowNumbers
 rows-are b =
     some-cond (eqb b 1) _ _ _ (some-cond (eqb b 2) _ _ _ (some-cond (eqb b 3) _ _ _ (some-cond (eqb b 4) _ _ _
     (some-cond (eqb b 5) _ _ _ (some-cond (eqb b 6) _ _ _ (some-cond (eqb b 7) _ _ _ (some-cond (eqb b 8) _ _ _
@@ -52,11 +52,11 @@ rows-are b =
     (some-cond (eqb b 13) _ _ _ (some-cond (eqb b 14) _ _ _ (some-cond (eqb b 15) _ none false (unfold isSome in refl)))))))))))))))
 
 -- a number that has a row is a command's or the end's
-known-number : (b : ℕ) (os : Str) → operands b ≡ some os → (b ≡ 15 → ⊥) → any (eqb b) numbers ≡ true
-unfolding all-numbers allOf numbers any isSome
-known-number b os e g = go (eqb b 15) refl (one-of (λ (k : ℕ). eqb k 15 || any (eqb k) numbers) all-numbers refl b (sym (rows-are b) ∙ ap isSome e))
+known-number : (b : ℕ) (os : Str) → operands b ≡ some os → (b ≡ 15 → ⊥) → any (eqb b) commandNumbers ≡ true
+unfolding rowNumbers allOf commandNumbers any isSome
+known-number b os e g = go (eqb b 15) refl (one-of (λ (k : ℕ). eqb k 15 || any (eqb k) commandNumbers) rowNumbers refl b (sym (rows-are b) ∙ ap isSome e))
   where
-    go : (t : Bool) → eqb b 15 ≡ t → (t || any (eqb b) numbers) ≡ true → any (eqb b) numbers ≡ true
+    go : (t : Bool) → eqb b 15 ≡ t → (t || any (eqb b) commandNumbers) ≡ true → any (eqb b) commandNumbers ≡ true
     go true q h = absurd (g (eqb-true b 15 q))
     go false q h = h
 
@@ -118,14 +118,14 @@ module _ (side : Side) (n : ℕ) (s : Str) where
       go false h = let z : _≡_ {A = ℕ} 0 1 = cc in omega arith
 
   -- what is parsed is whole commands and the end
-  parse-whole : (k : ℕ) (c : Cursor) (ps : List ℕ) → parse k side s n c ≡ ok ps → (xs : List Str) × Rest s (c .at) xs × AllWhole xs
+  parse-whole : (k : ℕ) (c : Cursor) (ps : List ℕ) → parse k side s n c ≡ ok ps → (xs : List Str) × CommandsFrom s (c .at) xs × AllWhole xs
   unfolding parse streamOf
   parse-whole zero c ps e = absurd (let z : _≡_ {A = ℕ} 0 1 = cc in omega arith)
   parse-whole (suc k) c ps e = go (parse-whole k) (judgedAt side s n c) refl e
     where
-      on : ((d : Cursor) (qs : List ℕ) → parse k side s n d ≡ ok qs → (xs : List Str) × Rest s (d .at) xs × AllWhole xs)
+      on : ((d : Cursor) (qs : List ℕ) → parse k side s n d ≡ ok qs → (xs : List Str) × CommandsFrom s (d .at) xs × AllWhole xs)
           → (d : Command) (i : Cursor) → Passed side s n c (Next d i) → (qs : List ℕ) → parse k side s n i ≡ ok qs
-          → (xs : List Str) × Rest s (c .at) xs × AllWhole xs
+          → (xs : List Str) × CommandsFrom s (c .at) xs × AllWhole xs
       on ih d i p qs h =
           let b = getD s (c .at) 0 in
           let w = 1 + widths (p .row) in
@@ -137,11 +137,11 @@ module _ (side : Side) (n : ℕ) (s : Str) where
           let r = ih (moved c b w) qs (ap (parse k side s n) m ∙ h) in (
             x ∷ r .0,
             f .rest ∙ ap (λ (t : Str). x ++ t) (ap (λ (j : ℕ). drop (c .at + j) s) l ∙ r .1),
-            and-more x (r .0) (record { wide = f .wide; known = ap (λ (j : ℕ). any (eqb j) numbers) (f .is-number) ∙ known-number b (p .row) (p .has-row) g }) (r .2),
+            and-more x (r .0) (record { wide = f .wide; known = ap (λ (j : ℕ). any (eqb j) commandNumbers) (f .is-number) ∙ known-number b (p .row) (p .has-row) g }) (r .2),
           )
 
-      go : ((d : Cursor) (qs : List ℕ) → parse k side s n d ≡ ok qs → (xs : List Str) × Rest s (d .at) xs × AllWhole xs) → (j : Judged)
-          → judgedAt side s n c ≡ j → continued (c .at) (parse k side s n) j ≡ ok ps → (xs : List Str) × Rest s (c .at) xs × AllWhole xs
+      go : ((d : Cursor) (qs : List ℕ) → parse k side s n d ≡ ok qs → (xs : List Str) × CommandsFrom s (d .at) xs × AllWhole xs) → (j : Judged)
+          → judgedAt side s n c ≡ j → continued (c .at) (parse k side s n) j ≡ ok ps → (xs : List Str) × CommandsFrom s (c .at) xs × AllWhole xs
       go ih (Next d i) f h =
           let t = onto-ok (c .at) (parse k side s n i) ps (unfold continued in h) in
           on ih d i (passed side s n c (Next d i) tt f) (t .more) (t .parsed-so)
@@ -155,30 +155,30 @@ unfolding isCommand
 is-one l x w h = rw (eq-eqb (length x) (widthOf (number x)) (w .wide), h)
 
 -- only the head may stand first, and only there
-head-first : (b : ℕ) → any (eqb b) numbers ≡ true → mayStand (state 0 NoParent) b ≡ eqb b 1
-unfolding numbers mayStand follows allOf any
-head-first b h = beq→eq _ _ (one-of (λ (k : ℕ). Bool·beq (mayStand (state 0 NoParent) k) (eqb k 1)) numbers refl b h)
+head-first : (b : ℕ) → any (eqb b) commandNumbers ≡ true → mayStand (cursorAfter 0 NoParent) b ≡ eqb b 1
+unfolding commandNumbers mayStand follows allOf any
+head-first b h = beq→eq _ _ (one-of (λ (k : ℕ). Bool·beq (mayStand (cursorAfter 0 NoParent) k) (eqb k 1)) commandNumbers refl b h)
 
-no-stand : (b : ℕ) → any (eqb b) insiders ≡ true → mayStand (state 1 NoParent) b ≡ false
+no-stand : (b : ℕ) → any (eqb b) insiders ≡ true → mayStand (cursorAfter 1 NoParent) b ≡ false
 unfolding insiders mayStand follows allOf
-no-stand b h = not-true (mayStand (state 1 NoParent) b) (one-of (λ (k : ℕ). not (mayStand (state 1 NoParent) k)) insiders refl b h)
+no-stand b h = not-true (mayStand (cursorAfter 1 NoParent) b) (one-of (λ (k : ℕ). not (mayStand (cursorAfter 1 NoParent) k)) insiders refl b h)
 
-begins-or-inside : (l : ℕ) (p : Parent) (x : Str) → eqb l 0 ≡ false → Whole x → mayStand (state l p) (number x) ≡ true
+begins-or-inside : (l : ℕ) (p : Parent) (x : Str) → eqb l 0 ≡ false → Whole x → mayStand (cursorAfter l p) (number x) ≡ true
     → (isCommand openers x ≡ true) ⊎ (isCommand insiders x ≡ true)
-unfolding mayStand numbers openers insiders allOf any
+unfolding mayStand commandNumbers openers insiders allOf any
 begins-or-inside l p x z w m =
     go (eqb (number x) 1) refl (any (eqb (number x)) openers) refl
-    (one-of (λ (k : ℕ). eqb k 1 || (any (eqb k) openers || any (eqb k) insiders)) numbers refl (number x) (w .known))
+    (one-of (λ (k : ℕ). eqb k 1 || (any (eqb k) openers || any (eqb k) insiders)) commandNumbers refl (number x) (w .known))
   where
     go : (a : Bool) → eqb (number x) 1 ≡ a → (c : Bool) → any (eqb (number x)) openers ≡ c → (a || (c || any (eqb (number x)) insiders)) ≡ true
         → (isCommand openers x ≡ true) ⊎ (isCommand insiders x ≡ true)
-    go true q c g k = absurd (false≢true (sym z ∙ sym (ap (mayStand (state l p)) (eqb-true (number x) 1 q)) ∙ m))
+    go true q c g k = absurd (false≢true (sym z ∙ sym (ap (mayStand (cursorAfter l p)) (eqb-true (number x) 1 q)) ∙ m))
     go false q true g k = inl (is-one openers x w g)
     go false q false g k = inr (is-one insiders x w k)
 
 no-zero : (x : Str) → Whole x → eqb (number x) 0 ≡ false
-unfolding numbers allOf
-no-zero x w = not-true (eqb (number x) 0) (one-of (λ (k : ℕ). not (eqb k 0)) numbers refl (number x) (w .known))
+unfolding commandNumbers allOf
+no-zero x w = not-true (eqb (number x) 0) (one-of (λ (k : ℕ). not (eqb k 0)) commandNumbers refl (number x) (w .known))
 
 -- commands inside, and then sections
 record Grouped (xs : List Str) : Type 0 where
@@ -188,14 +188,14 @@ record Grouped (xs : List Str) : Type 0 where
   are-sections : allOf isSection sections ≡ true
   together : front ++ flatten sections ≡ xs
 
-grouped : (side : Side) (n l : ℕ) (p : Parent) (xs : List Str) → eqb l 0 ≡ false → AllWhole xs → fits side n l p xs ≡ true → Grouped xs
-unfolding fits areCommands allOf flatten isSection
+grouped : (side : Side) (n l : ℕ) (p : Parent) (xs : List Str) → eqb l 0 ≡ false → AllWhole xs → valid side n l p xs ≡ true → Grouped xs
+unfolding valid areCommands allOf flatten isSection
 grouped side n l p [] z c h = record { front = []; are-inside = refl; sections = []; are-sections = refl; together = refl }
 grouped side n l p (x ∷ xs) z c h =
-    let m = both (mayStand (state l p) (number x)) _ h in
+    let m = both (mayStand (cursorAfter l p) (number x)) _ h in
     let w = c x (List·Memᴰ·head refl) in
     go (begins-or-inside l p x z w (m .0))
-    (grouped side n (number x) (parentAfter p (number x)) xs (no-zero x w) (λ y i. c y (List·Memᴰ·tail i)) (both (fine side n x) _ (m .1) .1))
+    (grouped side n (number x) (parentAfter p (number x)) xs (no-zero x w) (λ y i. c y (List·Memᴰ·tail i)) (both (faultless side n x) _ (m .1) .1))
   where
     go : (isCommand openers x ≡ true) ⊎ (isCommand insiders x ≡ true) → Grouped xs → Grouped (x ∷ xs)
     go (inl o) r = record {
@@ -214,22 +214,22 @@ grouped side n l p (x ∷ xs) z c h =
     }
 
 -- none is inside before the first section
-none-before : (side : Side) (n : ℕ) (fs zs : List Str) → areCommands insiders fs ≡ true → fits side n 1 NoParent (fs ++ zs) ≡ true → fs ≡ []
-unfolding areCommands allOf fits
+none-before : (side : Side) (n : ℕ) (fs zs : List Str) → areCommands insiders fs ≡ true → valid side n 1 NoParent (fs ++ zs) ≡ true → fs ≡ []
+unfolding areCommands allOf valid
 none-before side n [] zs h e = refl
 none-before side n (f ∷ fs) zs h e =
-    absurd (false≢true (sym (no-stand (number f) (its-number insiders f (both (isCommand insiders f) _ h .0))) ∙ both (mayStand (state 1 NoParent) (number f)) _ e .0))
+    absurd (false≢true (sym (no-stand (number f) (its-number insiders f (both (isCommand insiders f) _ h .0))) ∙ both (mayStand (cursorAfter 1 NoParent) (number f)) _ e .0))
 
-sectioned : (side : Side) (r : Rec) (n : ℕ) (xs : List Str) → r .stream ≡ streamOf xs → AllWhole xs → fits side n 0 NoParent xs ≡ true → Sectioned r
-unfolding fits parentAfter any
+sectioned : (side : Side) (r : Rec) (n : ℕ) (xs : List Str) → r .stream ≡ streamOf xs → AllWhole xs → valid side n 0 NoParent xs ≡ true → Sectioned r
+unfolding valid parentAfter any
 sectioned side r n [] e c h = absurd (false≢true h)
 sectioned side r n (x ∷ xs) e c h =
     let w = c x (List·Memᴰ·head refl) in
-    let m = both (mayStand (state 0 NoParent) (number x)) _ h in
+    let m = both (mayStand (cursorAfter 0 NoParent) (number x)) _ h in
     let one : number x ≡ 1 = eqb-true (number x) 1 (sym (head-first (number x) (w .known)) ∙ m .0) in
-    let fit : fits side n 1 NoParent xs ≡ true = subst (λ (k : ℕ). fits side n k (parentAfter NoParent k) xs ≡ true) one (both (fine side n x) _ (m .1) .1) in
-    let g = grouped side n 1 NoParent xs refl (λ y i. c y (List·Memᴰ·tail i)) fit in
-    let bare = none-before side n (g .front) (flatten (g .sections)) (g .are-inside) (ap (fits side n 1 NoParent) (g .together) ∙ fit) in
+    let valid-here : valid side n 1 NoParent xs ≡ true = subst (λ (k : ℕ). valid side n k (parentAfter NoParent k) xs ≡ true) one (both (faultless side n x) _ (m .1) .1) in
+    let g = grouped side n 1 NoParent xs refl (λ y i. c y (List·Memᴰ·tail i)) valid-here in
+    let bare = none-before side n (g .front) (flatten (g .sections)) (g .are-inside) (ap (valid side n 1 NoParent) (g .together) ∙ valid-here) in
     record {
       head = x;
       is-head = is-one (1 ∷ []) x w (rw (eq-eqb (number x) 1 one));
@@ -244,4 +244,4 @@ readable-sectioned side r t h =
     let a = accepting side r t h in
     let w = parse-whole side (length (r .pool)) (r .stream) (length (r .stream) + 1) start (commandsAt (r .stream) 0) (a .parsed-all) in
     sectioned side r (length (r .pool)) (w .0) (w .1) (w .2)
-    (parsed-fits side (length (r .pool)) (r .stream) (length (r .stream) + 1) start (w .0) (commandsAt (r .stream) 0) (w .1) (w .2) (a .parsed-all))
+    (parsed-valid side (length (r .pool)) (r .stream) (length (r .stream) + 1) start (w .0) (commandsAt (r .stream) 0) (w .1) (w .2) (a .parsed-all))

@@ -30,28 +30,28 @@ use Rattle.definition.specs.Verdicts.{pass}
 use Rattle.definition.specs.Pass.{allOf}
 use Rattle.definition.specs.Compare.{compare}
 use Rattle.definition.specs.Answer.{verdictOf, answered, check}
-use Rattle.definition.specs.Sections.{number, streamOf, isCommand, areCommands, openers, insiders, isSection, isPart, PartsMoved, as-it-is, parts-moved, Shuffled, Sectioned, Reordered, NoneTwice, Readable, Accepts}
+use Rattle.definition.specs.Sections.{number, streamOf, isCommand, areCommands, openers, insiders, isSection, isPart, PartsMoved, as-it-is, parts-moved, Shuffled, Sectioned, Reordered, NoneTwice, CanBeRead, Accepts}
 use Rattle.definition.proofs.Lists.{all-of, mem-flatten, all-perm, perm-eq, perm-by, perm-append, flatten-map, perm-flatMap, shuffled-flatMap, shuffled-sym}
 use Rattle.definition.proofs.LookUps.{any-perm}
 use Rattle.definition.proofs.PermutedSchemas.{Permuted, places-found, none-twice}
 use Rattle.definition.proofs.PermutedPasses.{compare-on}
-use Rattle.definition.proofs.CommandStreams.{numbers, Whole, AllWhole, whole, some-bytes, placesFrom, Rest, number-here, next-here, commands-run, cells, own-bytes, theFields, fields-agree, theSchema, schema-run}
-use Rattle.definition.proofs.Fitting.{fits, parsed-fits, fits-parsed}
+use Rattle.definition.proofs.CommandStreams.{commandNumbers, Whole, AllWhole, whole, some-bytes, commandPlaces, CommandsFrom, number-here, next-here, commands-run, cells, own-bytes, theFields, fields-agree, theSchema, schema-run}
+use Rattle.definition.proofs.Validity.{valid, parsed-valid, valid-parsed}
 use Rattle.definition.proofs.SectionLists.{moved-sections, theOpened}
 use Rattle.definition.proofs.SectionSchemas.{opened-perm, schema-permuted}
-use Rattle.definition.proofs.FittingSections.{reordered-fits}
+use Rattle.definition.proofs.ValidSections.{reordered-valid}
 use Rattle.definition.proofs.Bytes.{accepted}
 
 -- the commands of the stream ----------------------------------------------------------------------------------------------
 
 section-whole : (s : List Str) → isSection s ≡ true → AllWhole s
-unfolding isSection areCommands openers insiders numbers allOf any
+unfolding isSection areCommands openers insiders commandNumbers allOf any
 section-whole [] h x m = absurd (List·Memᴰ·not-nil m)
 section-whole (y ∷ ys) h x (List·Memᴰ·head e) = subst Whole (sym e) (whole openers y refl (both (isCommand openers y) _ h .0))
 section-whole (y ∷ ys) h x (List·Memᴰ·tail m) = whole insiders x refl (all-of (isCommand insiders) ys (both (isCommand openers y) _ h .1) m)
 
 stream-whole : (head : Str) (secs : List (List Str)) → isCommand (1 ∷ []) head ≡ true → allOf isSection secs ≡ true → AllWhole (head ∷ flatten secs)
-unfolding allOf numbers any
+unfolding allOf commandNumbers any
 stream-whole head secs i j x (List·Memᴰ·head e) = subst Whole (sym e) (whole (1 ∷ []) head refl i)
 stream-whole head secs i j x (List·Memᴰ·tail m) = let w = mem-flatten secs m in section-whole (w .0) (all-of isSection secs j (w .1)) x (w .2)
 
@@ -91,8 +91,8 @@ long-enough (x ∷ xs) c =
 
 -- the types that a stream opens -------------------------------------------------------------------------------------------
 
-opened-run : (s p : Str) (at : ℕ) (xs : List Str) → Rest s at xs → AllWhole xs → map (λ (o : Opened). o .fields) (opened s p (placesFrom at xs)) ≡ theOpened p xs
-unfolding opened theOpened placesFrom openedAt cells textAt optText optTextAt flagAt u16At widthOf widthWith widths wide operands bytes
+opened-run : (s p : Str) (at : ℕ) (xs : List Str) → CommandsFrom s at xs → AllWhole xs → map (λ (o : Opened). o .fields) (opened s p (commandPlaces at xs)) ≡ theOpened p xs
+unfolding opened theOpened commandPlaces openedAt cells textAt optText optTextAt flagAt u16At widthOf widthWith widths wide operands bytes
 opened-run s p at [] h c = refl
 opened-run s p at (x ∷ xs) h c =
     go (number x) refl (number-here s at x xs h y) (fields-agree s p (at + length x) xs (next-here s at x xs h y) (λ z m. c z (List·Memᴰ·tail m)))
@@ -102,7 +102,7 @@ opened-run s p at (x ∷ xs) h c =
     y = c x (List·Memᴰ·head refl)
 
     ps : List ℕ
-    ps = placesFrom (at + length x) xs
+    ps = commandPlaces (at + length x) xs
 
     named : List Opened → List (List Field)
     named l = map (λ (o : Opened). o .fields) l
@@ -220,31 +220,31 @@ module _ (side : Side) (p : Str) (w : List Scalar) (head : Str) (is-head : isCom
   reading-on once t h = as-read side (rec (streamOf ys) p w) (theSchema p w ys) (record {
     short = ap (λ (n : ℕ). leb n streamLimit && leb (length p) poolLimit) (sym same-length) ∙ r .short;
     good = r .good;
-    marks = placesFrom 0 ys;
+    marks = commandPlaces 0 ys;
     parsed-so = parsed-there;
-    none-vast = ap (λ (u : Schema). find (vast u) (opened (streamOf ys) p (placesFrom 0 ys))) there ∙ vast-there;
+    none-vast = ap (λ (u : Schema). find (vast u) (opened (streamOf ys) p (commandPlaces 0 ys))) there ∙ vast-there;
     is-schema = there;
   })
     where
       r : ReadAs side (rec (streamOf xs) p w) t
       r = read-as side (rec (streamOf xs) p w) t h
 
-      there : schemaFrom (rec (streamOf ys) p w) (placesFrom 0 ys) ≡ theSchema p w ys
+      there : schemaFrom (rec (streamOf ys) p w) (commandPlaces 0 ys) ≡ theSchema p w ys
       there = schema-run (streamOf ys) p w 0 ys refl ys-whole
 
-      marks-are : r .marks ≡ placesFrom 0 xs
+      marks-are : r .marks ≡ commandPlaces 0 xs
       marks-are = parsed-is side (rec (streamOf xs) p w) (r .marks) (r .parsed-so) ∙ commands-run (streamOf xs) 0 xs refl xs-whole
 
-      fit : fits side (length p) 0 NoParent xs ≡ true
-      fit = unfold parsed in parsed-fits side (length p) (streamOf xs) (length (streamOf xs) + 1) start xs (r .marks) refl xs-whole (r .parsed-so)
+      valid-here : valid side (length p) 0 NoParent xs ≡ true
+      valid-here = unfold parsed in parsed-valid side (length p) (streamOf xs) (length (streamOf xs) + 1) start xs (r .marks) refl xs-whole (r .parsed-so)
 
-      fit-there : fits side (length p) 0 NoParent ys ≡ true
-      fit-there = unfold xs ys in reordered-fits side (length p) head secs others is-head are-secs are-others s fit
+      valid-there : valid side (length p) 0 NoParent ys ≡ true
+      valid-there = unfold xs ys in reordered-valid side (length p) head secs others is-head are-secs are-others s valid-here
 
-      parsed-there : parsed side (rec (streamOf ys) p w) ≡ ok (placesFrom 0 ys)
+      parsed-there : parsed side (rec (streamOf ys) p w) ≡ ok (commandPlaces 0 ys)
       parsed-there =
           let l = long-enough ys ys-whole in
-          unfold parsed in fits-parsed side (length p) (streamOf ys) (length (streamOf ys) + 1) start ys refl ys-whole (omega arith) fit-there
+          unfold parsed in valid-parsed side (length p) (streamOf ys) (length (streamOf ys) + 1) start ys refl ys-whole (omega arith) valid-there
 
       here-schema : schemaFrom (rec (streamOf xs) p w) (r .marks) ≡ theSchema p w xs
       here-schema = ap (schemaFrom (rec (streamOf xs) p w)) marks-are ∙ schema-run (streamOf xs) p w 0 xs refl xs-whole
@@ -264,9 +264,9 @@ module _ (side : Side) (p : Str) (w : List Scalar) (head : Str) (is-head : isCom
           opened-there : List·Permᴰ (theOpened p xs) (theOpened p ys)
           opened-there = unfold xs ys in opened-perm p head is-head secs others are-secs are-others s
 
-      vast-there : find (vast (theSchema p w ys)) (opened (streamOf ys) p (placesFrom 0 ys)) ≡ none
+      vast-there : find (vast (theSchema p w ys)) (opened (streamOf ys) p (commandPlaces 0 ys)) ≡ none
       vast-there =
-          any-none-found (theSchema p w ys) (opened (streamOf ys) p (placesFrom 0 ys))
+          any-none-found (theSchema p w ys) (opened (streamOf ys) p (commandPlaces 0 ys))
           (ap (any (large-in (theSchema p w ys))) (opened-run (streamOf ys) p 0 ys refl ys-whole) ∙ small-there)
 
 -- records -----------------------------------------------------------------------------------------------------------------
@@ -353,7 +353,7 @@ sections-reordered room more cur now rel was mc mr oc or = (
 )
 
 -- and a record can be read exactly if it can with its sections in another order
-pub readable-reordered : (side : Side) (a b : Rec) → Reordered a b → NoneTwice (schemaOf a) → (Readable side a → Readable side b) × (Readable side b → Readable side a)
+pub readable-reordered : (side : Side) (a b : Rec) → Reordered a b → NoneTwice (schemaOf a) → (CanBeRead side a → CanBeRead side b) × (CanBeRead side b → CanBeRead side a)
 readable-reordered side a b m o = (
   λ w. (schemaOf b, reordered-reading a b m side o (w .0) (w .1)),
   λ w. (schemaOf a, reordered-reading b a (reordered-back a b m) side (once-there a b m o) (w .0) (w .1)),

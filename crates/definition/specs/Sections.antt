@@ -65,32 +65,32 @@ pub data Part : Type 0 where
   variant : Part
 
 -- the command that begins a section with such parts
-unfoldable pub sectionOf : Part → ℕ
-sectionOf value = 4
-sectionOf member = 6
-sectionOf variant = 9
+unfoldable pub sectionNumber : Part → ℕ
+sectionNumber value = 4
+sectionNumber member = 6
+sectionNumber variant = 9
 
 -- the command that begins such a part
-unfoldable pub partOf : Part → ℕ
-partOf value = 5
-partOf member = 7
-partOf variant = 10
+unfoldable pub partNumber : Part → ℕ
+partNumber value = 5
+partNumber member = 7
+partNumber variant = 10
 
 -- what goes with either and keeps its order: the fields, with their plugin keys, of a family and of a variant
-unfoldable pub fieldsOf : Part → List ℕ
-fieldsOf value = []
-fieldsOf member = []
-fieldsOf variant = 11 ∷ 12 ∷ []
+unfoldable pub fieldNumbers : Part → List ℕ
+fieldNumbers value = []
+fieldNumbers member = []
+fieldNumbers variant = 11 ∷ 12 ∷ []
 
 unfoldable pub isPart : Part → List Str → Bool
 isPart k [] = false
-isPart k (x ∷ xs) = isCommand (partOf k ∷ []) x && areCommands (fieldsOf k) xs
+isPart k (x ∷ xs) = isCommand (partNumber k ∷ []) x && areCommands (fieldNumbers k) xs
 
 -- a section as it is, or with its values, members or variants in another order. 02: "Fields inside a type are not moved"
 pub data PartsMoved : List Str → List Str → Type 0 where
   as-it-is : {s t : List Str} → s ≡ t → PartsMoved s t
-  parts-moved : (k : Part) (x : Str) (fs : List Str) (ps qs : List (List Str)) → isCommand (sectionOf k ∷ []) x ≡ true
-      → areCommands (fieldsOf k) fs ≡ true → allOf (isPart k) ps ≡ true → List·Permᴰ ps qs
+  parts-moved : (k : Part) (x : Str) (fs : List Str) (ps qs : List (List Str)) → isCommand (sectionNumber k ∷ []) x ≡ true
+      → areCommands (fieldNumbers k) fs ≡ true → allOf (isPart k) ps ≡ true → List·Permᴰ ps qs
       → PartsMoved (x ∷ fs ++ flatten ps) (x ∷ fs ++ flatten qs)
 
 -- one list as another in some order, its elements up to a relation
@@ -134,8 +134,8 @@ pub record NoneTwice (s : Schema) : Type 0 where
 -- what is said ------------------------------------------------------------------------------------------------------------
 
 -- a record that can be read
-abbrev pub Readable : Side → Rec → Type 0
-Readable side r = (s : Schema) × (reading side r ≡ read s)
+abbrev pub CanBeRead : Side → Rec → Type 0
+CanBeRead side r = (s : Schema) × (reading side r ≡ read s)
 
 -- 01: "Number 0 accepts, whatever the buffer"
 abbrev pub Accepts : ℕ → Rec → Rec → Type 0
