@@ -1,7 +1,7 @@
 -- A stream of whole commands: the places of its commands, and its lists read off the commands themselves, wherever they stand. Assumes nothing.
 use mathlib.Core.Path.{_≡_, refl, sym, _∙_, ap, ap₂, subst}
-use mathlib.Core.List.{List, [], _∷_, _++_, List·Memᴰ, List·Memᴰ·head, List·Memᴰ·tail}
-use mathlib.Core.Bool.{Bool, true, false, _||_, not, cond, false≢true}
+use mathlib.Core.List.{List, [], _∷_, _++_, List·Memᴰ, List·Memᴰ·head, List·Memᴰ·tail, List·Memᴰ·not-nil}
+use mathlib.Core.Bool.{Bool, true, false, _||_, not, cond, false≢true, or-false}
 use Prim.Native.Nat.{ℕ, zero, suc, _+_, _-_, _≤_, _<_}
 use native.Mathlib.Omega.{arith}
 use lib.Dec.{eqb, leb}
@@ -20,8 +20,8 @@ use Rattle.record.specs.declared.command.Step.the-variants.{Next, Stop}
 use Rattle.record.proofs.Basics.{both, any-some}
 use Rattle.record.proofs.Stream.{commands-stop, commands-next}
 use Rattle.definition.specs.Pass.{allOf}
-use Rattle.definition.specs.Sections.{number, streamOf, isCommand}
-use Rattle.definition.proofs.Lists.{all-of}
+use Rattle.definition.specs.Sections.{number, streamOf, isCommand, areCommands, openers, insiders, isSection}
+use Rattle.definition.proofs.Lists.{not-true, all-of}
 
 -- numbers -------------------------------------------------------------------------------------------------------------------------
 
@@ -42,6 +42,19 @@ each-one P l (and-one {b = k} {bs = ks} p ps) b e = go (eqb b k) refl e (each-on
     go : (t : Bool) → eqb b k ≡ t → (t || any (eqb b) ks) ≡ true → (any (eqb b) ks ≡ true → P b) → P b
     go true q f r = subst P (sym (eqb-true b k q)) p
     go false q f r = r f
+
+-- a number of a list of one is that one
+pub only : (b k : ℕ) → any (eqb k) (b ∷ []) ≡ true → k ≡ b
+unfolding any
+only b k h = eqb-true k b (sym (or-false (eqb k b)) ∙ h)
+
+-- a command that is one of these has one of their numbers
+pub its-number : (l : List ℕ) (x : Str) → isCommand l x ≡ true → any (eqb (number x)) l ≡ true
+unfolding isCommand
+its-number l x h = both (eqb (length x) (widthOf (number x))) _ h .1
+
+pub is-number : (b : ℕ) (x : Str) → isCommand (b ∷ []) x ≡ true → number x ≡ b
+is-number b x h = only b (number x) (its-number (b ∷ []) x h)
 
 -- the numbers of commands but the end's
 unfoldable pub commandNumbers : List ℕ
@@ -70,17 +83,18 @@ module _ {x : Str} (c : Whole x) where
   unfolding commandNumbers allOf
   no-end e = false≢true (sym (ap not (eq-eqb (number x) 15 e)) ∙ one-of (λ (b : ℕ). not (eqb b 15)) commandNumbers refl (number x) (c .known))
 
--- its number is the one that is asked for
-pub is-number : (b : ℕ) (x : Str) → isCommand (b ∷ []) x ≡ true → number x ≡ b
-unfolding isCommand any
-is-number b x h = go (eqb (number x) b) refl (both (eqb (length x) (widthOf (number x))) _ h .1)
-  where
-    go : (t : Bool) → eqb (number x) b ≡ t → (t || false) ≡ true → number x ≡ b
-    go true e k = eqb-true (number x) b e
-    go false e k = absurd (false≢true k)
+  pub not-zero : eqb (number x) 0 ≡ false
+  unfolding commandNumbers allOf
+  not-zero = not-true (eqb (number x) 0) (one-of (λ (b : ℕ). not (eqb b 0)) commandNumbers refl (number x) (c .known))
 
 abbrev pub AllWhole : List Str → Type 0
 AllWhole xs = (x : Str) → List·Memᴰ x xs → Whole x
+
+pub section-whole : (s : List Str) → isSection s ≡ true → AllWhole s
+unfolding isSection areCommands openers insiders commandNumbers allOf any
+section-whole [] h x m = absurd (List·Memᴰ·not-nil m)
+section-whole (y ∷ ys) h x (List·Memᴰ·head e) = subst Whole (sym e) (whole openers y refl (both (isCommand openers y) _ h .0))
+section-whole (y ∷ ys) h x (List·Memᴰ·tail m) = whole insiders x refl (all-of (isCommand insiders) ys (both (isCommand openers y) _ h .1) m)
 
 -- places --------------------------------------------------------------------------------------------------------------------------
 

@@ -1,6 +1,6 @@
 -- Lists of anything: tests that all elements pass, and lists that are another in some order. Assumes nothing.
 use mathlib.Core.Path.{_≡_, refl, sym, _∙_, ap, subst}
-use mathlib.Core.List.{List, [], _∷_, _++_, map, flatten, flatMap, List·Memᴰ, List·Memᴰ·head, List·Memᴰ·tail, List·Memᴰ·not-nil, List·Memᴰ·append-cases, Memᴰ·cast, Forall₂, Forall₂·nil, Forall₂·cons, List·Permᴰ, List·Permᴰ·nil, List·Permᴰ·cons, List·Permᴰ·swap, List·Permᴰ·trans, Permᴰ·refl, Permᴰ·symm, Permᴰ·append-right, Permᴰ·append-left, Permᴰ·middle}
+use mathlib.Core.List.{List, [], _∷_, _++_, map, flatten, flatMap, List·Memᴰ, List·Memᴰ·head, List·Memᴰ·tail, List·Memᴰ·not-nil, List·Memᴰ·append-cases, Memᴰ·cast, Forall₂, Forall₂·nil, Forall₂·cons, List·Permᴰ, List·Permᴰ·nil, List·Permᴰ·cons, List·Permᴰ·swap, List·Permᴰ·trans, Permᴰ·refl, Permᴰ·symm, Permᴰ·append-right, Permᴰ·append-left, Permᴰ·middle, Permᴰ·map}
 use mathlib.Core.Bool.{Bool, true, false, not, false≢true}
 use mathlib.Core.Logic.{_⊎_, inl, inr}
 use Rattle.record.specs.Base.{Str}
@@ -140,12 +140,6 @@ nodup-perm (List·Permᴰ·swap {a′ = x} {b′ = y} {l = l} e f) d = (other, (
 nodup-perm (List·Permᴰ·trans p q) d = nodup-perm q (nodup-perm p d)
 
 module _ {A B : Type 0} where
-  pub perm-map : (f : A → B) {a b : List A} → List·Permᴰ a b → List·Permᴰ (map f a) (map f b)
-  perm-map f List·Permᴰ·nil = List·Permᴰ·nil
-  perm-map f (List·Permᴰ·cons e d) = List·Permᴰ·cons (ap f e) (perm-map f d)
-  perm-map f (List·Permᴰ·swap e g) = List·Permᴰ·swap (ap f e) (ap f g)
-  perm-map f (List·Permᴰ·trans p q) = List·Permᴰ·trans (perm-map f p) (perm-map f q)
-
   pub perm-flatMap : (f : A → List B) {a b : List A} → List·Permᴰ a b → List·Permᴰ (flatMap f a) (flatMap f b)
   unfolding flatMap
   perm-flatMap f List·Permᴰ·nil = List·Permᴰ·nil
@@ -178,7 +172,7 @@ module _ {A B : Type 0} where
     shuffled-flatMap f g h s = List·Permᴰ·trans (perm-flatMap f (s .permuted)) (related-flatMap f g h (s .related))
 
     pub shuffled-map : (f : A → B) → ((x y : A) → R x y → f x ≡ f y) → {a b : List A} → Shuffled R a b → List·Permᴰ (map f a) (map f b)
-    shuffled-map f h s = List·Permᴰ·trans (perm-map f (s .permuted)) (related-map f h (s .related))
+    shuffled-map f h s = List·Permᴰ·trans (Permᴰ·map f (s .permuted)) (related-map f h (s .related))
 
     pub shuffled-over : {S : B → B → Type 0} (f : A → List B) → ((x y : A) → R x y → Forall₂ S (f x) (f y)) → {a b : List A} → Shuffled R a b
         → Shuffled S (flatMap f a) (flatMap f b)

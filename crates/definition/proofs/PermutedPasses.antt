@@ -1,6 +1,6 @@
 -- A pair of schemas that differs from one that passes in the order of its lists alone passes too. Assumes nothing.
 use mathlib.Core.Path.{_≡_, refl, sym, _∙_, ap, ap₂, subst}
-use mathlib.Core.List.{List, [], _∷_, map, List·Memᴰ, List·Memᴰ·head, List·Memᴰ·tail, List·Permᴰ, List·Permᴰ·cons, List·Permᴰ·trans}
+use mathlib.Core.List.{List, [], _∷_, map, List·Memᴰ, List·Memᴰ·head, List·Memᴰ·tail, List·Permᴰ, List·Permᴰ·cons, List·Permᴰ·trans, Permᴰ·map}
 use mathlib.Core.Option.{Option, none, some}
 use mathlib.Core.Bool.{Bool, true, false, _&&_, _||_, not, cond, false≢true, Bool·beq}
 use Prim.Native.Nat.{ℕ, _+_, _^_}
@@ -32,7 +32,7 @@ use Rattle.definition.specs.Compare.{passList, firstOf, compare}
 use Rattle.definition.specs.Chain.{NoDup}
 use Rattle.definition.specs.Sections.{Shuffled, NoneTwice}
 use Rattle.definition.proofs.Passes.{stop≢pass, then-pass, each-pass, never}
-use Rattle.definition.proofs.Lists.{perm-eq, perm-map, shuffled-back}
+use Rattle.definition.proofs.Lists.{perm-eq, shuffled-back}
 use Rattle.definition.proofs.LookUps.{exactly, any-shuffled, any-perm, empty-shuffled, FoundAs, OptionRel, neither, both-hold, option-cong, option-map, AtMostOne, find-perm, last-shuffled, last-perm, named-once}
 use Rattle.definition.proofs.PermutedSchemas.{PermutedEnum, PermutedBits, PermutedFamily, Permuted, keys-perm, enum-found, bitfield-found, family-found, none-twice, constant-found, constant-last, constants-sorted, versioned-found, generation-found, is-generation, types-same, owner-same}
 
@@ -246,7 +246,7 @@ module _ (c d r q : Schema) (oc : Permuted c d) (or : Permuted r q) (nc : NoneTw
   unfolding layoutsOf variantNames
   layout-names m n s =
       List·Permᴰ·cons (s .name) (List·Permᴰ·trans (perm-eq (ap (λ (x : Str). map (λ (v : Variant). variantName x (v .disc)) (m .variants)) (s .name)))
-      (perm-map (λ (v : Variant). variantName (n .name) (v .disc)) (s .variants)))
+      (Permᴰ·map (λ (v : Variant). variantName (n .name) (v .disc)) (s .variants)))
 
   standalone-pass : (is was : List TypeLayout) → checkStandalone (c .families) (r .families) is was ≡ pass → checkStandalone (d .families) (q .families) is was ≡ pass
   unfolding checkStandalone checkFamily checkShippedAll

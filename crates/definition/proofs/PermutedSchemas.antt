@@ -1,7 +1,7 @@
 -- Two schemas whose lists are permutations of each other, with no name or slot twice: the same look-ups, sizes, layouts, owners and
 -- generations, and no name or slot twice in the other. Assumes nothing.
 use mathlib.Core.Path.{_≡_, refl, sym, _∙_, ap, ap₂, subst}
-use mathlib.Core.List.{List, [], _∷_, _++_, map, flatMap, append-assoc, List·Permᴰ, List·Permᴰ·cons, List·Permᴰ·trans, Permᴰ·refl, Permᴰ·symm}
+use mathlib.Core.List.{List, [], _∷_, _++_, map, flatMap, append-assoc, List·Permᴰ, List·Permᴰ·cons, List·Permᴰ·trans, Permᴰ·refl, Permᴰ·symm, Permᴰ·map}
 use mathlib.Core.Option.{Option, none, some}
 use Prim.Native.Nat.{ℕ, _+_, _*_}
 use Rattle.record.specs.Base.{Str, bytes, eqs, isText, orElse, mapOption, withSome, any}
@@ -25,7 +25,7 @@ use Rattle.definition.specs.Chain.{NoDup, slotsOf}
 use Rattle.definition.specs.Sections.{Shuffled, NoneTwice}
 use Rattle.definition.proofs.Same.{slot-only}
 use Rattle.definition.proofs.Unmoved.{isText→eq}
-use Rattle.definition.proofs.Lists.{perm-mem, perm-eq, perm-by, perm-append, perm-map, perm-flatMap, nodup-perm, shuffled-back, shuffled-map, shuffled-flatMap}
+use Rattle.definition.proofs.Lists.{perm-mem, perm-eq, perm-by, perm-append, perm-flatMap, nodup-perm, shuffled-back, shuffled-map, shuffled-flatMap}
 use Rattle.definition.proofs.LookUps.{FoundAs, OptionRel, neither, both-hold, option-map, find-shuffled, find-perm, last-perm, named-once, sorted-perm}
 
 -- another order -----------------------------------------------------------------------------------------------------------
@@ -127,7 +127,7 @@ module _ (a b : Schema) (o : Permuted a b) where
   bitfields-once n = nodup-perm (shuffled-map (λ (e : BitField). e .name) (λ x y e. e .name) (o .bitfields)) (n .bitfields)
 
   aliases-once : NoneTwice a → NoDup (map (λ (e : Alias). e .name) (b .aliases))
-  aliases-once n = nodup-perm (perm-map (λ (e : Alias). e .name) (o .aliases)) (n .aliases)
+  aliases-once n = nodup-perm (Permᴰ·map (λ (e : Alias). e .name) (o .aliases)) (n .aliases)
 
   module _ (oa : NoneTwice a) where
     pub enum-found : (n : Str) → OptionRel (FoundAs PermutedEnum (b .enums)) (enumIn n (a .enums)) (enumIn n (b .enums))
@@ -215,13 +215,13 @@ module _ (a b : Schema) (o : Permuted a b) where
     family-layouts m n e =
         List·Permᴰ·cons (family-laid m n e)
         (List·Permᴰ·trans (perm-eq (ap (λ (f : Variant → TypeLayout). map f (m .variants)) (λ i v. variant-laid (n .name) m v (e .name) i)))
-        (perm-map (layVariant b n) (e .variants)))
+        (Permᴰ·map (layVariant b n) (e .variants)))
 
     layouts-perm : List·Permᴰ (flattened a) (flattened b)
     unfolding flattened
     layouts-perm =
         perm-append
-        (List·Permᴰ·trans (perm-eq (ap (λ (f : Struct → TypeLayout). map f (a .structs)) (λ i t. struct-laid t i))) (perm-map (layStruct b) (o .structs)))
+        (List·Permᴰ·trans (perm-eq (ap (λ (f : Struct → TypeLayout). map f (a .structs)) (λ i t. struct-laid t i))) (Permᴰ·map (layStruct b) (o .structs)))
         (perm-by (families-flat a (a .families)) (families-flat b (b .families))
         (shuffled-flatMap (familyLayouts a) (familyLayouts b) family-layouts (o .families)))
 
@@ -229,17 +229,17 @@ module _ (a b : Schema) (o : Permuted a b) where
 
     pub none-twice : NoneTwice b
     none-twice = record {
-      constants = nodup-perm (perm-map (λ (c : Const). c .name) (o .constants)) (oa .constants);
+      constants = nodup-perm (Permᴰ·map (λ (c : Const). c .name) (o .constants)) (oa .constants);
       aliases = aliases-once oa;
       enums = enums-once oa;
-      values = λ e m. let w = shuffled-back (o .enums) m in nodup-perm (perm-map (λ (v : EnumValue). v .name) (w .2 .values)) (oa .values (w .0) (w .1));
+      values = λ e m. let w = shuffled-back (o .enums) m in nodup-perm (Permᴰ·map (λ (v : EnumValue). v .name) (w .2 .values)) (oa .values (w .0) (w .1));
       bitfields = bitfields-once oa;
-      members = λ e m. let w = shuffled-back (o .bitfields) m in nodup-perm (perm-map (λ (v : Member). v .name) (w .2 .members)) (oa .members (w .0) (w .1));
-      structs = nodup-perm (perm-map (λ (c : Struct). c .name) (o .structs)) (oa .structs);
+      members = λ e m. let w = shuffled-back (o .bitfields) m in nodup-perm (Permᴰ·map (λ (v : Member). v .name) (w .2 .members)) (oa .members (w .0) (w .1));
+      structs = nodup-perm (Permᴰ·map (λ (c : Struct). c .name) (o .structs)) (oa .structs);
       families = nodup-perm (shuffled-map (λ (c : Family). c .name) (λ x y e. e .name) (o .families)) (oa .families);
-      keys = nodup-perm (perm-map (λ (k : Key). k .name) keys-perm) (oa .keys);
+      keys = nodup-perm (Permᴰ·map (λ (k : Key). k .name) keys-perm) (oa .keys);
       slots = nodup-perm slots-perm (oa .slots);
-      layouts = nodup-perm (perm-map (λ (t : TypeLayout). t .name) layouts-perm) (oa .layouts);
+      layouts = nodup-perm (Permᴰ·map (λ (t : TypeLayout). t .name) layouts-perm) (oa .layouts);
     }
 
     pub types-same : types a ≡ types b

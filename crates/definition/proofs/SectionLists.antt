@@ -1,7 +1,7 @@
 -- The lists of a stream section by section, and those of a section with its parts moved. Assumes nothing.
 use mathlib.Core.Path.{_≡_, refl, sym, _∙_, ap, ap₂, subst}
 use mathlib.Core.List.{List, [], _∷_, _++_, flatten, flatMap, List·Memᴰ, List·Memᴰ·head, List·Memᴰ·tail, List·Memᴰ·append-cases, Forall₂, Forall₂·nil, Forall₂·cons, List·Permᴰ, List·Permᴰ·cons, Permᴰ·refl}
-use mathlib.Core.Bool.{Bool, true, false, _&&_, _||_, not, cond, false≢true}
+use mathlib.Core.Bool.{Bool, true, false, _&&_, _||_, not, cond, false≢true, or-true}
 use mathlib.Core.Logic.{_⊎_, inl, inr}
 use Prim.Native.Nat.{ℕ}
 use lib.Dec.{eqb}
@@ -17,13 +17,9 @@ use Rattle.definition.specs.Pass.{allOf}
 use Rattle.definition.specs.Sections.{number, isCommand, areCommands, openers, insiders, isSection, Part, value, member, variant, sectionNumber, partNumber, fieldNumbers, isPart, PartsMoved, as-it-is, parts-moved}
 use Rattle.definition.proofs.Lists.{not-true, all-of, of-all, mem-flatten, all-perm, perm-eq, perm-by, perm-append, perm-flatMap, related-refl, related-by}
 use Rattle.definition.proofs.PermutedSchemas.{PermutedEnum, PermutedBits, PermutedFamily}
-use Rattle.definition.proofs.CommandStreams.{one-of, is-number, listedIn, theConstants, theAliases, theValues, theEnums, theMembers, theBitfields, theKeys, theFields, theStructs, theVariants, theFamilies, theUnstored, theVersions}
+use Rattle.definition.proofs.CommandStreams.{one-of, its-number, is-number, listedIn, theConstants, theAliases, theValues, theEnums, theMembers, theBitfields, theKeys, theFields, theStructs, theVariants, theFamilies, theUnstored, theVersions}
 
 -- tests of commands -------------------------------------------------------------------------------------------------------
-
-pub its-number : (l : List ℕ) (x : Str) → isCommand l x ≡ true → any (eqb (number x)) l ≡ true
-unfolding isCommand
-its-number l x h = both (eqb (length x) (widthOf (number x))) _ h .1
 
 -- these numbers are among those
 abbrev Among : List ℕ → List ℕ → Type 0
@@ -216,10 +212,6 @@ module _ {A : Type 0} (b : ℕ) (g : Str → List Str → A) where
   listed-append : (t : List Str) → ((x : Str) (xs : List Str) → g x (xs ++ t) ≡ g x xs) → (s : List Str)
       → listedIn anything b g (s ++ t) ≡ listedIn anything b g s ++ listedIn anything b g t
   listed-append t same s = listed-through anything b g t same s (λ x m. or-true (eqb (number x) b))
-    where
-      or-true : (a : Bool) → (a || true) ≡ true
-      or-true true = refl
-      or-true false = refl
 
   -- another command first
   pub listed-skip : (x : Str) (xs : List Str) → eqb (number x) b ≡ false → listedIn anything b g (x ∷ xs) ≡ listedIn anything b g xs

@@ -29,9 +29,8 @@ use Rattle.definition.specs.Pass.{allOf}
 use Rattle.definition.specs.Sections.{number, streamOf, isCommand, areCommands, openers, insiders, isSection, Sectioned}
 use Rattle.definition.proofs.Same.{beq→eq}
 use Rattle.definition.proofs.Lists.{not-true}
-use Rattle.definition.proofs.CommandStreams.{one-of, commandNumbers, Whole, AllWhole, CommandsFrom}
+use Rattle.definition.proofs.CommandStreams.{one-of, its-number, commandNumbers, Whole, AllWhole, not-zero, CommandsFrom}
 use Rattle.definition.proofs.Validity.{cursorAfter, faultless, valid, end-row, taken-next, parsed-valid}
-use Rattle.definition.proofs.SectionLists.{its-number}
 
 -- the commands of a stream ------------------------------------------------------------------------------------------------
 
@@ -176,10 +175,6 @@ begins-or-inside l p x z w m =
     go false q true g k = inl (is-one openers x w g)
     go false q false g k = inr (is-one insiders x w k)
 
-no-zero : (x : Str) → Whole x → eqb (number x) 0 ≡ false
-unfolding commandNumbers allOf
-no-zero x w = not-true (eqb (number x) 0) (one-of (λ (k : ℕ). not (eqb k 0)) commandNumbers refl (number x) (w .known))
-
 -- commands inside, and then sections
 record Grouped (xs : List Str) : Type 0 where
   front : List Str
@@ -195,7 +190,7 @@ grouped side n l p (x ∷ xs) z c h =
     let m = both (mayStand (cursorAfter l p) (number x)) _ h in
     let w = c x (List·Memᴰ·head refl) in
     go (begins-or-inside l p x z w (m .0))
-    (grouped side n (number x) (parentAfter p (number x)) xs (no-zero x w) (λ y i. c y (List·Memᴰ·tail i)) (both (faultless side n x) _ (m .1) .1))
+    (grouped side n (number x) (parentAfter p (number x)) xs (not-zero w) (λ y i. c y (List·Memᴰ·tail i)) (both (faultless side n x) _ (m .1) .1))
   where
     go : (isCommand openers x ≡ true) ⊎ (isCommand insiders x ≡ true) → Grouped xs → Grouped (x ∷ xs)
     go (inl o) r = record {

@@ -1,6 +1,6 @@
 -- W-214: a pair of records whose sections stand in another order is accepted exactly if the pair is. Assumes nothing.
 use mathlib.Core.Path.{_≡_, refl, sym, _∙_, ap, ap₂, subst}
-use mathlib.Core.List.{List, [], _∷_, _++_, map, flatten, List·Memᴰ·head, List·Memᴰ·tail, List·Memᴰ·not-nil, List·Permᴰ, List·Permᴰ·nil, List·Permᴰ·cons, List·Permᴰ·swap, List·Permᴰ·trans, Permᴰ·refl, Permᴰ·symm}
+use mathlib.Core.List.{List, [], _∷_, _++_, map, flatten, List·Memᴰ·head, List·Memᴰ·tail, List·Permᴰ, List·Permᴰ·nil, List·Permᴰ·cons, List·Permᴰ·swap, List·Permᴰ·trans, Permᴰ·refl, Permᴰ·symm}
 use mathlib.Core.Option.{Option, none, some}
 use mathlib.Core.Bool.{Bool, true, false, _&&_, _||_, cond, false≢true}
 use Prim.Native.Nat.{ℕ, _+_, _≤_}
@@ -30,12 +30,12 @@ use Rattle.definition.specs.Verdicts.{pass}
 use Rattle.definition.specs.Pass.{allOf}
 use Rattle.definition.specs.Compare.{compare}
 use Rattle.definition.specs.Answer.{verdictOf, answered, check}
-use Rattle.definition.specs.Sections.{number, streamOf, isCommand, areCommands, openers, insiders, isSection, isPart, PartsMoved, as-it-is, parts-moved, Shuffled, Sectioned, Reordered, NoneTwice, CanBeRead, Accepts}
+use Rattle.definition.specs.Sections.{number, streamOf, isCommand, isSection, isPart, PartsMoved, as-it-is, parts-moved, Shuffled, Sectioned, Reordered, NoneTwice, CanBeRead, Accepts}
 use Rattle.definition.proofs.Lists.{all-of, mem-flatten, all-perm, perm-eq, perm-by, perm-append, flatten-map, perm-flatMap, shuffled-flatMap, shuffled-sym}
 use Rattle.definition.proofs.LookUps.{any-perm}
 use Rattle.definition.proofs.PermutedSchemas.{Permuted, places-found, none-twice}
 use Rattle.definition.proofs.PermutedPasses.{compare-on}
-use Rattle.definition.proofs.CommandStreams.{commandNumbers, Whole, AllWhole, whole, some-bytes, commandPlaces, CommandsFrom, number-here, next-here, commands-run, cells, own-bytes, theFields, fields-agree, theSchema, schema-run}
+use Rattle.definition.proofs.CommandStreams.{commandNumbers, Whole, AllWhole, whole, section-whole, some-bytes, commandPlaces, CommandsFrom, number-here, next-here, commands-run, cells, own-bytes, theFields, fields-agree, theSchema, schema-run}
 use Rattle.definition.proofs.Validity.{valid, parsed-valid, valid-parsed}
 use Rattle.definition.proofs.SectionLists.{moved-sections, theOpened}
 use Rattle.definition.proofs.SectionSchemas.{opened-perm, schema-permuted}
@@ -43,12 +43,6 @@ use Rattle.definition.proofs.ValidSections.{reordered-valid}
 use Rattle.definition.proofs.Bytes.{accepted}
 
 -- the commands of the stream ----------------------------------------------------------------------------------------------
-
-section-whole : (s : List Str) → isSection s ≡ true → AllWhole s
-unfolding isSection areCommands openers insiders commandNumbers allOf any
-section-whole [] h x m = absurd (List·Memᴰ·not-nil m)
-section-whole (y ∷ ys) h x (List·Memᴰ·head e) = subst Whole (sym e) (whole openers y refl (both (isCommand openers y) _ h .0))
-section-whole (y ∷ ys) h x (List·Memᴰ·tail m) = whole insiders x refl (all-of (isCommand insiders) ys (both (isCommand openers y) _ h .1) m)
 
 stream-whole : (head : Str) (secs : List (List Str)) → isCommand (1 ∷ []) head ≡ true → allOf isSection secs ≡ true → AllWhole (head ∷ flatten secs)
 unfolding allOf commandNumbers any

@@ -1,10 +1,10 @@
 -- Sections are valid in any order, and so are the parts of a section. Assumes nothing.
 use mathlib.Core.Path.{_≡_, refl, sym, _∙_, ap, ap₂}
-use mathlib.Core.List.{List, [], _∷_, _++_, flatten, List·Memᴰ, List·Memᴰ·head, List·Memᴰ·tail, List·Memᴰ·not-nil, Forall₂, Forall₂·nil, Forall₂·cons, List·Permᴰ}
-use mathlib.Core.Bool.{Bool, true, false, _&&_, _||_, not, false≢true}
+use mathlib.Core.List.{List, [], _∷_, _++_, flatten, List·Memᴰ, List·Memᴰ·head, List·Memᴰ·tail, Forall₂, Forall₂·nil, Forall₂·cons, List·Permᴰ}
+use mathlib.Core.Bool.{Bool, true, false, _&&_, _||_, not, and-assoc, or-true}
 use Prim.Native.Nat.{ℕ}
 use lib.Dec.{eqb}
-use borrow.Author.Tests.{eqb-true, eq-eqb}
+use borrow.Author.Tests.{eq-eqb}
 use Rattle.record.specs.Base.{Str, any}
 use Rattle.record.specs.Judge.{mayStand, follows, parentAfter}
 use Rattle.record.specs.declared.command.Parent.{Parent}
@@ -12,28 +12,11 @@ use Rattle.record.specs.declared.command.Parent.the-variants.{NoParent, InFamil
 use Rattle.record.specs.declared.refusal.Side.{Side}
 use Rattle.record.proofs.Basics.{both}
 use Rattle.definition.specs.Pass.{allOf}
-use Rattle.definition.specs.Sections.{number, isCommand, areCommands, openers, insiders, isSection, Part, value, member, variant, sectionNumber, partNumber, fieldNumbers, isPart, PartsMoved, as-it-is, parts-moved, Shuffled}
+use Rattle.definition.specs.Sections.{number, isCommand, areCommands, openers, isSection, Part, value, member, variant, sectionNumber, partNumber, fieldNumbers, isPart, PartsMoved, as-it-is, parts-moved, Shuffled}
 use Rattle.definition.proofs.Lists.{all-of, all-perm}
-use Rattle.definition.proofs.CommandStreams.{one-of, is-number, EachNumber, no-number, and-one, each-one}
+use Rattle.definition.proofs.CommandStreams.{one-of, only, its-number, is-number, not-zero, section-whole, EachNumber, no-number, and-one, each-one}
 use Rattle.definition.proofs.Validity.{cursorAfter, faultless, valid}
-use Rattle.definition.proofs.SectionLists.{its-number, differs, each-part, bodyNumbers, ownNumbers, own-commands, part-commands, StartsWith, sections-start, parts-start}
-
-and-assoc : (a b c : Bool) → (a && (b && c)) ≡ ((a && b) && c)
-and-assoc true b c = refl
-and-assoc false b c = refl
-
-or-right : (a b : Bool) → b ≡ true → (a || b) ≡ true
-or-right true b e = refl
-or-right false b e = e
-
--- the one number of a list of one
-only : (b k : ℕ) → any (eqb k) (b ∷ []) ≡ true → k ≡ b
-unfolding any
-only b k h = go (eqb k b) refl h
-  where
-    go : (t : Bool) → eqb k b ≡ t → (t || false) ≡ true → k ≡ b
-    go true e q = eqb-true k b e
-    go false e q = absurd (false≢true q)
+use Rattle.definition.proofs.SectionLists.{differs, each-part, bodyNumbers, ownNumbers, own-commands, part-commands, StartsWith, sections-start, parts-start}
 
 module _ (side : Side) (n : ℕ) where
   -- a stretch and what stands behind it, where that is as valid as it is after a given command within a given parent
@@ -46,7 +29,7 @@ module _ (side : Side) (n : ℕ) where
     valid-append (x ∷ xs) keep l p i =
         ap (λ (b : Bool). mayStand (cursorAfter l p) (number x) && (faultless side n x && b))
         (valid-append xs (λ y m. keep y (List·Memᴰ·tail m)) (number x) (parentAfter p (number x)) (keep x (List·Memᴰ·head refl) l p i))
-        ∙ ap (λ (b : Bool). mayStand (cursorAfter l p) (number x) && b) (and-assoc (faultless side n x) _ _) ∙ and-assoc (mayStand (cursorAfter l p) (number x)) _ _
+        ∙ ap (λ (b : Bool). mayStand (cursorAfter l p) (number x) && b) (sym (and-assoc (faultless side n x) _ _)) ∙ sym (and-assoc (mayStand (cursorAfter l p) (number x)) _ _)
 
   -- sections --------------------------------------------------------------------------------------------------------------
 
@@ -71,21 +54,13 @@ module _ (side : Side) (n : ℕ) where
   abbrev validAlone : List Str → Bool
   validAlone s = valid side n 1 NoParent s
 
-  no-zero : (s : List Str) → isSection s ≡ true → (x : Str) → List·Memᴰ x s → eqb (number x) 0 ≡ false
-  unfolding isSection areCommands openers insiders allOf
-  no-zero [] h x m = absurd (List·Memᴰ·not-nil m)
-  no-zero (y ∷ ys) h x (List·Memᴰ·head e) =
-      ap (λ (z : Str). eqb (number z) 0) e ∙ differs openers 0 refl (number y) (its-number openers y (both (isCommand openers y) _ h .0))
-  no-zero (y ∷ ys) h x (List·Memᴰ·tail m) =
-      differs insiders 0 refl (number x) (its-number insiders x (all-of (isCommand insiders) ys (both (isCommand openers y) _ h .1) m))
-
   valid-sections : (secs : List (List Str)) → allOf isSection secs ≡ true → validAlone (flatten secs) ≡ allOf validAlone secs
   unfolding allOf flatten valid
   valid-sections [] h = refl
   valid-sections (s ∷ secs) h =
       let w = both (isSection s) (allOf isSection secs) h in
       valid-append (λ (l : ℕ) (p : Parent). eqb l 0 ≡ false) (flatten secs) 1 NoParent (λ l p i. i) (valid-anywhere (flatten secs) (sections-start secs (w .1)))
-      s (λ x m l p i. no-zero s (w .0) x m) 1 NoParent refl ∙ ap (λ (b : Bool). validAlone s && b) (valid-sections secs (w .1))
+      s (λ x m l p i. not-zero (section-whole s (w .0) x m)) 1 NoParent refl ∙ ap (λ (b : Bool). validAlone s && b) (valid-sections secs (w .1))
 
   -- the parts of a section ------------------------------------------------------------------------------------------------
 
@@ -131,7 +106,7 @@ module _ (side : Side) (n : ℕ) where
     unfolding Inside areCommands any ownNumbers bodyNumbers
     inside-on s c x m l p i =
         let b = its-number (bodyNumbers k) x (all-of (isCommand (bodyNumbers k)) s c m) in (
-          or-right (eqb (number x) (sectionNumber k)) _ b,
+          ap (λ (i : Bool). eqb (number x) (sectionNumber k) || i) b ∙ or-true (eqb (number x) (sectionNumber k)),
           ap (λ (q : Parent). parentAfter q (number x)) (i .1)
               ∙ each-one (λ (j : ℕ). parentAfter (parentOf k) j ≡ parentOf k) (bodyNumbers k) (stays-open k) (number x) b,
         )
