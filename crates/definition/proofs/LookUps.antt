@@ -64,6 +64,21 @@ module _ {A : Type 0} where
   unfolding mapOption
   option-map g w h = option-cong (mapOption g) w (λ x y r. ap some (h x y r))
 
+  -- nothing is found exactly if nothing passes
+  pub none-any : (p : A → Bool) (l : List A) → find p l ≡ none → any p l ≡ false
+  none-any p l h = go (any p l) refl
+    where
+      go : (b : Bool) → any p l ≡ b → b ≡ false
+      go true e = let w = any-some p l e in absurd (none≢some (sym h ∙ find-any p l (w .1) (w .2) .1))
+      go false e = refl
+
+  pub any-none-found : (p : A → Bool) (l : List A) → any p l ≡ false → find p l ≡ none
+  any-none-found p l h = go (find p l) refl
+    where
+      go : (o : Option A) → find p l ≡ o → o ≡ none
+      go none e = refl
+      go (some x) e = let w = find-some p l e in absurd (any-none p l h (w .0) (w .1))
+
   -- at most one element passes the test
   abbrev pub AtMostOne : (A → Bool) → List A → Type 0
   AtMostOne p l = (x y : A) → List·Memᴰ x l → List·Memᴰ y l → p x ≡ true → p y ≡ true → x ≡ y

@@ -1,8 +1,8 @@
 -- W-214: a pair of records whose sections stand in another order is accepted exactly if the pair is. Assumes nothing.
 use mathlib.Core.Path.{_≡_, refl, sym, _∙_, ap, ap₂, subst}
 use mathlib.Core.List.{List, [], _∷_, _++_, map, flatten, List·Memᴰ·head, List·Memᴰ·tail, List·Permᴰ, List·Permᴰ·nil, List·Permᴰ·cons, List·Permᴰ·swap, List·Permᴰ·trans, Permᴰ·refl, Permᴰ·symm}
-use mathlib.Core.Option.{Option, none, some}
-use mathlib.Core.Bool.{Bool, true, false, _&&_, _||_, cond, false≢true}
+use mathlib.Core.Option.{none}
+use mathlib.Core.Bool.{Bool, true, false, _&&_, _||_, cond}
 use Prim.Native.Nat.{ℕ, _+_, _≤_}
 use native.Mathlib.Omega.{arith}
 use lib.Dec.{eqb, leb}
@@ -17,14 +17,14 @@ use Rattle.record.specs.Commands.{widthOf, widthWith, widths, wide, operands, f
 use Rattle.record.specs.Lists.{fields, familyOf}
 use Rattle.record.specs.Letters.{oddLetter}
 use Rattle.record.specs.Shapes.{places, prefix}
-use Rattle.record.specs.Reading.{Rec, rec, schemaFrom, schemaOf, Opened, openedAt, opened, large, vast, Reading, read, Parsed, ok, bad, parsed, streamLimit, poolLimit, vastOr, sizesOf, concluded, reading}
+use Rattle.record.specs.Reading.{Rec, rec, schemaFrom, schemaOf, Opened, openedAt, opened, large, vast, Reading, read, ok, parsed, streamLimit, poolLimit, vastOr, sizesOf, concluded, reading}
 use Rattle.record.specs.declared.command.Parent.the-variants.{NoParent}
 use Rattle.record.specs.declared.refusal.Side.{Side}
 use Rattle.record.specs.declared.refusal.Side.the-variants.{Current, Released}
 use Rattle.record.specs.declared.letters.Letters.{Letters}
 use Rattle.record.specs.declared.letters.Letters.the-variants.{Good, Odd}
-use Rattle.record.proofs.Basics.{both, none≢some}
-use Rattle.record.proofs.Accepted.{parsed-is}
+use Rattle.record.proofs.Basics.{both}
+use Rattle.record.proofs.Accepted.{Accepted, accepting}
 use Rattle.record.proofs.Accepted as A
 use Rattle.definition.specs.Verdicts.{pass}
 use Rattle.definition.specs.Pass.{allOf}
@@ -32,7 +32,7 @@ use Rattle.definition.specs.Compare.{compare}
 use Rattle.definition.specs.Answer.{verdictOf, answered, check}
 use Rattle.definition.specs.Sections.{number, streamOf, isCommand, isSection, isPart, PartsMoved, as-it-is, parts-moved, Shuffled, Sectioned, Reordered, NoneTwice, CanBeRead, Accepts}
 use Rattle.definition.proofs.Lists.{all-of, mem-flatten, all-perm, perm-eq, perm-by, perm-append, flatten-map, perm-flatMap, shuffled-flatMap, shuffled-sym}
-use Rattle.definition.proofs.LookUps.{any-perm}
+use Rattle.definition.proofs.LookUps.{any-perm, none-any, any-none-found}
 use Rattle.definition.proofs.PermutedSchemas.{Permuted, places-found, none-twice}
 use Rattle.definition.proofs.PermutedPasses.{compare-on}
 use Rattle.definition.proofs.CommandStreams.{commandNumbers, Whole, AllWhole, whole, section-whole, some-bytes, commandPlaces, CommandsFrom, number-here, next-here, commands-run, cells, own-bytes, theFields, fields-agree, theSchema, schema-run}
@@ -126,58 +126,27 @@ opened-run s p at (x ∷ xs) h c =
 abbrev large-in : Schema → List Field → Bool
 large-in s fs = any large (places s 0 fs)
 
-none-any : (s : Schema) (l : List Opened) → find (vast s) l ≡ none → any (large-in s) (map (λ (o : Opened). o .fields) l) ≡ false
-unfolding find any vast
-none-any s [] h = refl
-none-any s (o ∷ l) h = go (large-in s (o .fields)) h (λ k. none-any s l k)
-  where
-    go : (b : Bool) → cond b (some o) (find (vast s) l) ≡ none → (find (vast s) l ≡ none → any (large-in s) (map (λ (x : Opened). x .fields) l) ≡ false)
-        → (b || any (large-in s) (map (λ (x : Opened). x .fields) l)) ≡ false
-    go true k r = absurd (none≢some (sym k))
-    go false k r = r k
-
-any-none-found : (s : Schema) (l : List Opened) → any (large-in s) (map (λ (o : Opened). o .fields) l) ≡ false → find (vast s) l ≡ none
-unfolding find any vast
-any-none-found s [] h = refl
-any-none-found s (o ∷ l) h = go (large-in s (o .fields)) h (λ k. any-none-found s l k)
-  where
-    go : (b : Bool) → (b || any (large-in s) (map (λ (x : Opened). x .fields) l)) ≡ false → (any (large-in s) (map (λ (x : Opened). x .fields) l) ≡ false → find (vast s) l ≡ none)
-        → cond b (some o) (find (vast s) l) ≡ none
-    go true k r = absurd (false≢true (sym k))
-    go false k r = r k
+large-opened : (s : Schema) (l : List Opened) → any (vast s) l ≡ any (large-in s) (map (λ (o : Opened). o .fields) l)
+unfolding any vast
+large-opened s [] = refl
+large-opened s (o ∷ l) = ap (λ (b : Bool). large-in s (o .fields) || b) (large-opened s l)
 
 -- readings ------------------------------------------------------------------------------------------------------------------------
 
-record ReadAs (side : Side) (r : Rec) (t : Schema) : Type 0 where
-  short : (leb (length (r .stream)) streamLimit && leb (length (r .pool)) poolLimit) ≡ true
-  good : oddLetter 0 (r .pool) ≡ Good
-  marks : List ℕ
-  parsed-so : parsed side r ≡ ok marks
-  none-vast : find (vast (schemaFrom r marks)) (opened (r .stream) (r .pool) marks) ≡ none
-  is-schema : schemaFrom r marks ≡ t
-
-read-as : (side : Side) (r : Rec) (t : Schema) → reading side r ≡ read t → ReadAs side r t
+-- a record as long as one that can be read, with its pool, can be read where it parses and has no vast type
+read-there : (side : Side) (a b : Rec) (t : Schema) (ps : List ℕ) → length (a .stream) ≡ length (b .stream) → a .pool ≡ b .pool → reading side a ≡ read t
+    → parsed side b ≡ ok ps → find (vast (schemaFrom b ps)) (opened (b .stream) (b .pool) ps) ≡ none → reading side b ≡ read (schemaFrom b ps)
 unfolding reading concluded sizesOf vastOr
-read-as side r t h = go (leb (length (r .stream)) streamLimit && leb (length (r .pool)) poolLimit) (oddLetter 0 (r .pool)) (parsed side r) refl refl refl h
+read-there side a b t ps l p h e v = go _ _ refl refl h
   where
-    last : (leb (length (r .stream)) streamLimit && leb (length (r .pool)) poolLimit) ≡ true → oddLetter 0 (r .pool) ≡ Good → (ps : List ℕ) → parsed side r ≡ ok ps → (o : Option Opened)
-        → find (vast (schemaFrom r ps)) (opened (r .stream) (r .pool) ps) ≡ o → vastOr (schemaFrom r ps) o ≡ read t → ReadAs side r t
-    last a b ps c none d k = let q : schemaFrom r ps ≡ t = cc in record { short = a; good = b; marks = ps; parsed-so = c; none-vast = d; is-schema = q }
-    last a b ps c (some x) d k = absurd (let z : _≡_ {A = ℕ} 0 1 = cc in omega arith)
-
-    go : (a : Bool) (l : Letters) (x : Parsed) → (leb (length (r .stream)) streamLimit && leb (length (r .pool)) poolLimit) ≡ a → oddLetter 0 (r .pool) ≡ l → parsed side r ≡ x
-        → concluded r a l x ≡ read t → ReadAs side r t
-    go false l x a b c k = absurd (let z : _≡_ {A = ℕ} 0 1 = cc in omega arith)
-    go true (Odd i) x a b c k = absurd (let z : _≡_ {A = ℕ} 0 1 = cc in omega arith)
-    go true Good (bad m q) a b c k = absurd (let z : _≡_ {A = ℕ} 0 1 = cc in omega arith)
-    go true Good (ok ps) a b c k = last a b ps c (find (vast (schemaFrom r ps)) (opened (r .stream) (r .pool) ps)) refl k
-
-as-read : (side : Side) (r : Rec) (t : Schema) → ReadAs side r t → reading side r ≡ read t
-unfolding reading concluded sizesOf vastOr
-as-read side r t w =
-    ap₂ (λ (a : Bool) (l : Letters). concluded r a l (parsed side r)) (w .short) (w .good)
-    ∙ ap (concluded r true Good) (w .parsed-so)
-    ∙ ap (vastOr (schemaFrom r (w .marks))) (w .none-vast) ∙ ap read (w .is-schema)
+    go : (short : Bool) (letters : Letters) → (leb (length (a .stream)) streamLimit && leb (length (a .pool)) poolLimit) ≡ short
+        → oddLetter 0 (a .pool) ≡ letters → concluded a short letters (parsed side a) ≡ read t → reading side b ≡ read (schemaFrom b ps)
+    go false letters f g k = absurd (let z : _≡_ {A = ℕ} 0 1 = cc in omega arith)
+    go true (Odd i) f g k = absurd (let z : _≡_ {A = ℕ} 0 1 = cc in omega arith)
+    go true Good f g k =
+        sym (λ i. concluded b (leb (length (b .stream)) streamLimit && leb (length (b .pool)) poolLimit) (oddLetter 0 (p i)) (parsed side b))
+        ∙ sym (λ i. concluded b (leb (l i) streamLimit && leb (length (p i)) poolLimit) (oddLetter 0 (a .pool)) (parsed side b))
+        ∙ ap₂ (λ (x : Bool) (y : Letters). concluded b x y (parsed side b)) f g ∙ ap (concluded b true Good) e ∙ ap (vastOr (schemaFrom b ps)) v
 
 -- a record of these commands and its schema
 schema-is : (p : Str) (w : List Scalar) (xs : List Str) → AllWhole xs → schemaOf (rec (streamOf xs) p w) ≡ theSchema p w xs
@@ -211,26 +180,19 @@ module _ (side : Side) (p : Str) (w : List Scalar) (head : Str) (is-head : isCom
   -- the one can be read if the other can
   reading-on : NoneTwice (theSchema p w xs) → (t : Schema) → reading side (rec (streamOf xs) p w) ≡ read t
       → reading side (rec (streamOf ys) p w) ≡ read (theSchema p w ys)
-  reading-on once t h = as-read side (rec (streamOf ys) p w) (theSchema p w ys) (record {
-    short = ap (λ (n : ℕ). leb n streamLimit && leb (length p) poolLimit) (sym same-length) ∙ r .short;
-    good = r .good;
-    marks = commandPlaces 0 ys;
-    parsed-so = parsed-there;
-    none-vast = ap (λ (u : Schema). find (vast u) (opened (streamOf ys) p (commandPlaces 0 ys))) there ∙ vast-there;
-    is-schema = there;
-  })
+  reading-on once t h =
+      read-there side (rec (streamOf xs) p w) (rec (streamOf ys) p w) t (commandPlaces 0 ys) same-length refl h parsed-there
+      (ap (λ (u : Schema). find (vast u) (opened (streamOf ys) p (commandPlaces 0 ys))) there ∙ vast-there)
+      ∙ ap read there
     where
-      r : ReadAs side (rec (streamOf xs) p w) t
-      r = read-as side (rec (streamOf xs) p w) t h
+      r : Accepted side (rec (streamOf xs) p w) t
+      r = accepting side (rec (streamOf xs) p w) t h
 
       there : schemaFrom (rec (streamOf ys) p w) (commandPlaces 0 ys) ≡ theSchema p w ys
       there = schema-run (streamOf ys) p w 0 ys refl ys-whole
 
-      marks-are : r .marks ≡ commandPlaces 0 xs
-      marks-are = parsed-is side (rec (streamOf xs) p w) (r .marks) (r .parsed-so) ∙ commands-run (streamOf xs) 0 xs refl xs-whole
-
       valid-here : valid side (length p) 0 NoParent xs ≡ true
-      valid-here = unfold parsed in parsed-valid side (length p) (streamOf xs) (length (streamOf xs) + 1) start xs (r .marks) refl xs-whole (r .parsed-so)
+      valid-here = unfold parsed in parsed-valid side (length p) (streamOf xs) (length (streamOf xs) + 1) start xs _ refl xs-whole (r .parsed-all)
 
       valid-there : valid side (length p) 0 NoParent ys ≡ true
       valid-there = unfold xs ys in reordered-valid side (length p) head secs others is-head are-secs are-others s valid-here
@@ -240,15 +202,13 @@ module _ (side : Side) (p : Str) (w : List Scalar) (head : Str) (is-head : isCom
           let l = long-enough ys ys-whole in
           unfold parsed in valid-parsed side (length p) (streamOf ys) (length (streamOf ys) + 1) start ys refl ys-whole (omega arith) valid-there
 
-      here-schema : schemaFrom (rec (streamOf xs) p w) (r .marks) ≡ theSchema p w xs
-      here-schema = ap (schemaFrom (rec (streamOf xs) p w)) marks-are ∙ schema-run (streamOf xs) p w 0 xs refl xs-whole
-
       small : any (large-in (theSchema p w xs)) (theOpened p xs) ≡ false
       small =
-          sym (ap (any (large-in (theSchema p w xs)))
-          (ap (λ (ps : List ℕ). map (λ (o : Opened). o .fields) (opened (streamOf xs) p ps)) marks-are ∙ opened-run (streamOf xs) p 0 xs refl xs-whole))
-          ∙ none-any (theSchema p w xs) (opened (streamOf xs) p (r .marks))
-          (ap (λ (u : Schema). find (vast u) (opened (streamOf xs) p (r .marks))) (sym here-schema) ∙ r .none-vast)
+          sym (ap (any (large-in (theSchema p w xs))) (opened-run (streamOf xs) p 0 xs refl xs-whole))
+          ∙ sym (large-opened (theSchema p w xs) (opened (streamOf xs) p (commandPlaces 0 xs)))
+          ∙ ap₂ (λ (u : Schema) (ps : List ℕ). any (vast u) (opened (streamOf xs) p ps)) (sym (schema-is p w xs xs-whole) ∙ r .is-schema)
+          (sym (commands-run (streamOf xs) 0 xs refl xs-whole))
+          ∙ none-any (vast t) _ (r .none-vast)
 
       small-there : any (large-in (theSchema p w ys)) (theOpened p ys) ≡ false
       small-there =
@@ -260,8 +220,9 @@ module _ (side : Side) (p : Str) (w : List Scalar) (head : Str) (is-head : isCom
 
       vast-there : find (vast (theSchema p w ys)) (opened (streamOf ys) p (commandPlaces 0 ys)) ≡ none
       vast-there =
-          any-none-found (theSchema p w ys) (opened (streamOf ys) p (commandPlaces 0 ys))
-          (ap (any (large-in (theSchema p w ys))) (opened-run (streamOf ys) p 0 ys refl ys-whole) ∙ small-there)
+          any-none-found (vast (theSchema p w ys)) (opened (streamOf ys) p (commandPlaces 0 ys))
+          (large-opened (theSchema p w ys) (opened (streamOf ys) p (commandPlaces 0 ys))
+          ∙ ap (any (large-in (theSchema p w ys))) (opened-run (streamOf ys) p 0 ys refl ys-whole) ∙ small-there)
 
 -- records -----------------------------------------------------------------------------------------------------------------
 
