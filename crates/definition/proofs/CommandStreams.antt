@@ -7,7 +7,7 @@ use native.Mathlib.Omega.{arith}
 use lib.Dec.{eqb, leb}
 use lib.ListN.{length, getD, drop, length-append, length-drop, List·getD-append}
 use lib.Seq.{drop-append-seam, drop-drop, getD-drop}
-use borrow.Author.Tests.{eqb-true, ne-eqb, eq-eqb, lt-ltb, le-ltb, leb-true}
+use borrow.Author.Tests.{eqb-true, ne-eqb, eq-eqb, lt-ltb, le-ltb, leb-true, not-true}
 use Rattle.record.specs.Base.{Str, any, first, bytes}
 use Rattle.record.specs.Le.{u16At, u32At, u64At}
 use Rattle.record.specs.Operands.{textAt, optText, optTextAt, optNumberAt, flagAt}
@@ -21,7 +21,7 @@ use Rattle.record.proofs.Basics.{both, any-some}
 use Rattle.record.proofs.Stream.{commands-stop, commands-next}
 use Rattle.definition.specs.Pass.{allOf}
 use Rattle.definition.specs.Sections.{number, streamOf, isCommand, areCommands, openers, insiders, isSection}
-use Rattle.definition.proofs.Lists.{not-true, all-of}
+use Rattle.definition.proofs.Lists.{all-of}
 
 -- numbers -------------------------------------------------------------------------------------------------------------------------
 
@@ -272,7 +272,8 @@ module _ (s p : Str) where
   Agree f g = (at : ℕ) (xs : List Str) → CommandsFrom s at xs → AllWhole xs → f (commandPlaces at xs) ≡ g xs
 
   -- and after a command
-  after-command : {A : Type 0} (f : List ℕ → List A) (g : List Str → List A) → Agree f g → (at : ℕ) (x : Str) (xs : List Str) → CommandsFrom s at (x ∷ xs) → Whole x → AllWhole xs
+  after-command : {A : Type 0} (f : List ℕ → List A) (g : List Str → List A) → Agree f g → (at : ℕ) (x : Str) (xs : List Str)
+      → CommandsFrom s at (x ∷ xs) → Whole x → AllWhole xs
       → f (commandPlaces (at + length x) xs) ≡ g xs
   after-command f g same at x xs h c r = same (at + length x) xs (next-here s at x xs h c) r
 
@@ -338,7 +339,8 @@ module _ (s p : Str) where
   families-agree = listed-run s anything 9 _ _ (λ at x xs h c r e.
       λ i. familyOf p (own-bytes 9 17 refl familyAt (λ f t. refl) s at x xs h c e i) (after-command (fields s p) (theFields p) fields-agree at x xs h c r i) (after-command (variants s p) (theVariants p) variants-agree at x xs h c r i))
 
-  pub schema-run : (w : List Scalar) (at : ℕ) (xs : List Str) → CommandsFrom s at xs → AllWhole xs → schemaFrom (rec s p w) (commandPlaces at xs) ≡ theSchema p w xs
+  pub schema-run : (w : List Scalar) (at : ℕ) (xs : List Str) → CommandsFrom s at xs → AllWhole xs
+      → schemaFrom (rec s p w) (commandPlaces at xs) ≡ theSchema p w xs
   unfolding schemaFrom theSchema
   schema-run w at xs h c = λ i. record {
     scalars = w;

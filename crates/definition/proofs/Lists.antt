@@ -1,17 +1,13 @@
 -- Lists of anything: tests that all elements pass, and lists that are another in some order. Assumes nothing.
 use mathlib.Core.Path.{_≡_, refl, sym, _∙_, ap, subst}
 use mathlib.Core.List.{List, [], _∷_, _++_, map, flatten, flatMap, List·Memᴰ, List·Memᴰ·head, List·Memᴰ·tail, List·Memᴰ·not-nil, List·Memᴰ·append-cases, Memᴰ·cast, Forall₂, Forall₂·nil, Forall₂·cons, List·Permᴰ, List·Permᴰ·nil, List·Permᴰ·cons, List·Permᴰ·swap, List·Permᴰ·trans, Permᴰ·refl, Permᴰ·symm, Permᴰ·append-right, Permᴰ·append-left, Permᴰ·middle, Permᴰ·map}
-use mathlib.Core.Bool.{Bool, true, false, not, false≢true}
+use mathlib.Core.Bool.{Bool, true}
 use mathlib.Core.Logic.{_⊎_, inl, inr}
 use Rattle.record.specs.Base.{Str}
 use Rattle.record.proofs.Basics.{both}
 use Rattle.definition.specs.Pass.{allOf}
 use Rattle.definition.specs.Chain.{NoDup}
 use Rattle.definition.specs.Sections.{Shuffled}
-
-pub not-true : (b : Bool) → not b ≡ true → b ≡ false
-not-true true h = absurd (false≢true h)
-not-true false h = refl
 
 module _ {A : Type 0} where
   -- tests -----------------------------------------------------------------------------------------------------------------

@@ -98,7 +98,8 @@ module _ {A : Type 0} where
 module _ (c d r q : Schema) (oc : Permuted c d) (or : Permuted r q) (nc : NoneTwice c) (nr : NoneTwice r) where
   -- enums -----------------------------------------------------------------------------------------------------------------
 
-  value-found : (s : Schema) → NoneTwice s → (x y : Enum) → FoundAs PermutedEnum (s .enums) x y → (n : Str) → valueIn n (x .values) ≡ valueIn n (y .values)
+  value-found : (s : Schema) → NoneTwice s → (x y : Enum) → FoundAs PermutedEnum (s .enums) x y → (n : Str)
+      → valueIn n (x .values) ≡ valueIn n (y .values)
   unfolding valueIn
   value-found s once x y w n =
       find-perm (λ (v : EnumValue). eqs (v .name) n) (w .0 .values) (named-once (λ (v : EnumValue). v .name) n (y .values) (once .values y (w .1)))
@@ -141,7 +142,8 @@ module _ (c d r q : Schema) (oc : Permuted c d) (or : Permuted r q) (nc : NoneTw
   unfolding bitfieldRelease
   bits-released n = option-map (λ (b : BitField). b .since) (bitfield-found r q or nr n) (λ x y w. w .0 .since)
 
-  bitfield-releases-pass : (t : Str) → checkBitfieldReleases t (c .bitfields) (r .bitfields) ≡ pass → checkBitfieldReleases t (d .bitfields) (q .bitfields) ≡ pass
+  bitfield-releases-pass : (t : Str) → checkBitfieldReleases t (c .bitfields) (r .bitfields) ≡ pass
+      → checkBitfieldReleases t (d .bitfields) (q .bitfields) ≡ pass
   unfolding checkBitfieldReleases checkBitfieldArrived checkMembersArrived checkMemberArrived
   bitfield-releases-pass t = each-shuffled (checkBitfieldArrived t (r .bitfields)) (checkBitfieldArrived t (q .bitfields)) (oc .bitfields) (λ w v s.
       then-mono _ _ _ _
@@ -189,7 +191,8 @@ module _ (c d r q : Schema) (oc : Permuted c d) (or : Permuted r q) (nc : NoneTw
       (named-once (λ (x : Key). x .name) n (pluginKeys (q .structs) (q .unstored)) (none-twice r q or nr .keys)))
 
   module _ (t : Str) (copy : Option Str) where
-    constant-arrivals : checkConstantArrivals t copy (c .constants) (r .constants) ≡ pass → checkConstantArrivals t copy (d .constants) (q .constants) ≡ pass
+    constant-arrivals : checkConstantArrivals t copy (c .constants) (r .constants) ≡ pass
+        → checkConstantArrivals t copy (d .constants) (q .constants) ≡ pass
     unfolding checkConstantArrivals checkConstantArrival
     constant-arrivals = each-perm _ _ (oc .constants) (λ x h.
         sym (λ i. ensure (not (x .api)) (onFound (x .since) pass (λ (names : Str). checkArrival t copy (aConstant (x .name)) names (constant-released (x .name) i)))) ∙ h)
@@ -197,7 +200,8 @@ module _ (c d r q : Schema) (oc : Permuted c d) (or : Permuted r q) (nc : NoneTw
     key-arrivals : checkKeyArrivals t copy (pluginKeys (c .structs) (c .unstored)) (pluginKeys (r .structs) (r .unstored)) ≡ pass
         → checkKeyArrivals t copy (pluginKeys (d .structs) (d .unstored)) (pluginKeys (q .structs) (q .unstored)) ≡ pass
     unfolding checkKeyArrivals checkKeyArrival
-    key-arrivals = each-perm _ _ (keys-perm c d oc) (λ x h. ap (checkArrival t copy (aKey (x .name)) (required (x .since))) (sym (key-released (x .name))) ∙ h)
+    key-arrivals =
+        each-perm _ _ (keys-perm c d oc) (λ x h. ap (checkArrival t copy (aKey (x .name)) (required (x .since))) (sym (key-released (x .name))) ∙ h)
 
     value-arrival : (w v : Enum) → PermutedEnum w v → (x : EnumValue)
         → checkValueArrival t copy (w .name) (w .since) (apiEnum (w .name) (r .enums)) x ≡ checkValueArrival t copy (v .name) (v .since) (apiEnum (v .name) (q .enums)) x
@@ -248,7 +252,8 @@ module _ (c d r q : Schema) (oc : Permuted c d) (or : Permuted r q) (nc : NoneTw
       List·Permᴰ·cons (s .name) (List·Permᴰ·trans (perm-eq (ap (λ (x : Str). map (λ (v : Variant). variantName x (v .disc)) (m .variants)) (s .name)))
       (Permᴰ·map (λ (v : Variant). variantName (n .name) (v .disc)) (s .variants)))
 
-  standalone-pass : (is was : List TypeLayout) → checkStandalone (c .families) (r .families) is was ≡ pass → checkStandalone (d .families) (q .families) is was ≡ pass
+  standalone-pass : (is was : List TypeLayout) → checkStandalone (c .families) (r .families) is was ≡ pass
+      → checkStandalone (d .families) (q .families) is was ≡ pass
   unfolding checkStandalone checkFamily checkShippedAll
   standalone-pass is was = each-shuffled (checkFamily (r .families) is was) (checkFamily (q .families) is was) (oc .families) (λ m n s.
       then-mono _ _ _ _ (λ h. ap₂ (checkStanding (q .families)) (sym (s .name)) (sym (s .standalone)) ∙ sym (standing-same (m .name) (m .standalone)) ∙ h)

@@ -256,11 +256,13 @@ module _ (a b : Schema) (o : Permuted a b) where
 
     struct-found : (n : Str) → structIn n (a .structs) ≡ structIn n (b .structs)
     unfolding structIn
-    struct-found n = find-perm (λ (e : Struct). eqs (e .name) n) (o .structs) (named-once (λ (e : Struct). e .name) n (b .structs) (none-twice .structs))
+    struct-found n =
+        find-perm (λ (e : Struct). eqs (e .name) n) (o .structs) (named-once (λ (e : Struct). e .name) n (b .structs) (none-twice .structs))
 
     pub constant-found : (n : Str) → constantIn n (a .constants) ≡ constantIn n (b .constants)
     unfolding constantIn
-    constant-found n = find-perm (λ (e : Const). eqs (e .name) n) (o .constants) (named-once (λ (e : Const). e .name) n (b .constants) (none-twice .constants))
+    constant-found n =
+        find-perm (λ (e : Const). eqs (e .name) n) (o .constants) (named-once (λ (e : Const). e .name) n (b .constants) (none-twice .constants))
 
     pub constant-last : (n : Str) → lastConstant n (a .constants) ≡ lastConstant n (b .constants)
     unfolding lastConstant
@@ -314,7 +316,8 @@ module _ (a b : Schema) (o : Permuted a b) where
         List·Permᴰ·trans (perm-eq (ap (λ (t : Option Struct). fieldsIn t (familyIn n (a .families))) (struct-found n)))
         (go (structIn n (b .structs)) (family-found n))
       where
-        go : (t : Option Struct) {p q : Option Family} → OptionRel (FoundAs PermutedFamily (b .families)) p q → List·Permᴰ (fieldsIn t p) (fieldsIn t q)
+        go : (t : Option Struct) {p q : Option Family} → OptionRel (FoundAs PermutedFamily (b .families)) p q
+            → List·Permᴰ (fieldsIn t p) (fieldsIn t q)
         go (some t) w = Permᴰ·refl (t .fields)
         go none (neither e f) = perm-eq (ap (fieldsIn none) (e ∙ sym f))
         go none (both-hold {x = x} {y = y} e f r) =

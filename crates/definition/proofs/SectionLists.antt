@@ -6,7 +6,7 @@ use mathlib.Core.Logic.{_⊎_, inl, inr}
 use Prim.Native.Nat.{ℕ}
 use lib.Dec.{eqb}
 use lib.ListN.{length}
-use borrow.Author.Tests.{eq-eqb}
+use borrow.Author.Tests.{eq-eqb, not-true}
 use Rattle.record.specs.Base.{Str, any, first}
 use Rattle.record.specs.Schema.{Key, Field, Family}
 use Rattle.record.specs.Commands.{widthOf, enumAt, bitfieldAt, structAt, familyAt, variantAt, fieldAt}
@@ -15,7 +15,7 @@ use Rattle.record.specs.Shapes.{prefix}
 use Rattle.record.proofs.Basics.{both}
 use Rattle.definition.specs.Pass.{allOf}
 use Rattle.definition.specs.Sections.{number, isCommand, areCommands, openers, insiders, isSection, Part, value, member, variant, sectionNumber, partNumber, fieldNumbers, isPart, PartsMoved, as-it-is, parts-moved}
-use Rattle.definition.proofs.Lists.{not-true, all-of, of-all, mem-flatten, all-perm, perm-eq, perm-by, perm-append, perm-flatMap, related-refl, related-by}
+use Rattle.definition.proofs.Lists.{all-of, of-all, mem-flatten, all-perm, perm-eq, perm-by, perm-append, perm-flatMap, related-refl, related-by}
 use Rattle.definition.proofs.PermutedSchemas.{PermutedEnum, PermutedBits, PermutedFamily}
 use Rattle.definition.proofs.CommandStreams.{one-of, its-number, is-number, listedIn, theConstants, theAliases, theValues, theEnums, theMembers, theBitfields, theKeys, theFields, theStructs, theVariants, theFamilies, theUnstored, theVersions}
 
@@ -170,7 +170,8 @@ module _ {A : Type 0} (over : ℕ → Bool) (b : ℕ) (g : Str → List Str → 
         → listedIn over b g (s ++ t) ≡ listedIn over b g s ++ listedIn over b g t
     unfolding listedIn
     listed-through [] h = refl
-    listed-through (x ∷ xs) h = go (eqb (number x) b) (over (number x)) (h x (List·Memᴰ·head refl)) (listed-through xs (λ y m. h y (List·Memᴰ·tail m)))
+    listed-through (x ∷ xs) h =
+        go (eqb (number x) b) (over (number x)) (h x (List·Memᴰ·head refl)) (listed-through xs (λ y m. h y (List·Memᴰ·tail m)))
       where
         go : (u v : Bool) → (u || v) ≡ true → listedIn over b g (xs ++ t) ≡ listedIn over b g xs ++ listedIn over b g t
             → cond u (g x (xs ++ t) ∷ listedIn over b g (xs ++ t)) (cond v (listedIn over b g (xs ++ t)) [])
@@ -229,11 +230,14 @@ module _ {A : Type 0} (b : ℕ) (g : Str → List Str → A) where
   -- nor in a section with its parts moved
   none-moved : (k : Part) → Without b (ownNumbers k) → (x : Str) (fs : List Str) (ps : List (List Str)) → isCommand (sectionNumber k ∷ []) x ≡ true
       → areCommands (fieldNumbers k) fs ≡ true → allOf (isPart k) ps ≡ true → listedIn anything b g (x ∷ fs ++ flatten ps) ≡ []
-  none-moved k h x fs ps i j l = listed-none (ownNumbers k) h (x ∷ fs ++ flatten ps) (moved-commands k x (fs ++ flatten ps) i (body-commands k fs ps j l))
+  none-moved k h x fs ps i j l =
+      listed-none (ownNumbers k) h (x ∷ fs ++ flatten ps) (moved-commands k x (fs ++ flatten ps) i (body-commands k fs ps j l))
 
   -- the one element of a section that such a command begins
-  one-section : (k : Part) → sectionNumber k ≡ b → Without b (bodyNumbers k) → (x : Str) (fs : List Str) (ps : List (List Str)) → isCommand (sectionNumber k ∷ []) x ≡ true
-      → areCommands (fieldNumbers k) fs ≡ true → allOf (isPart k) ps ≡ true → listedIn anything b g (x ∷ fs ++ flatten ps) ≡ g x (fs ++ flatten ps) ∷ []
+  one-section : (k : Part) → sectionNumber k ≡ b → Without b (bodyNumbers k) → (x : Str) (fs : List Str) (ps : List (List Str))
+      → isCommand (sectionNumber k ∷ []) x ≡ true
+      → areCommands (fieldNumbers k) fs ≡ true → allOf (isPart k) ps ≡ true
+      → listedIn anything b g (x ∷ fs ++ flatten ps) ≡ g x (fs ++ flatten ps) ∷ []
   one-section k e h x fs ps i j l =
       listed-hit anything b g x (fs ++ flatten ps) (is-number (sectionNumber k) x i ∙ e)
       ∙ ap (λ (r : List A). g x (fs ++ flatten ps) ∷ r) (listed-none (bodyNumbers k) h (fs ++ flatten ps) (body-commands k fs ps j l))
@@ -256,7 +260,8 @@ module _ {A : Type 0} (b : ℕ) (g : Str → List Str → A) where
         l' : allOf (isPart j) qs ≡ true
         l' = all-perm (isPart j) p l
 
-        go : (j ≡ k) ⊎ Without b (ownNumbers j) → Forall₂ R (listedIn anything b g (x ∷ fs ++ flatten ps)) (listedIn anything b g (x ∷ fs ++ flatten qs))
+        go : (j ≡ k) ⊎ Without b (ownNumbers j)
+            → Forall₂ R (listedIn anything b g (x ∷ fs ++ flatten ps)) (listedIn anything b g (x ∷ fs ++ flatten qs))
         go (inr h) = related-by (none-moved j h x fs ps i f l) (none-moved j h x fs qs i f l') Forall₂·nil
         go (inl e) =
             let its' : sectionNumber j ≡ b = ap sectionNumber e ∙ its in
@@ -276,7 +281,8 @@ module _ (p : Str) where
   unfolding theMembers openers allOf
   members-closed t h s = listed-closed nothing 7 _ t (λ x xs. refl) (starts-ends nothing 7 openers refl t h) s
 
-  fields-closed : (l : List ℕ) → Closes nothing 12 l → Closes aKey 11 l → (t : List Str) → StartsWith l t → (s : List Str) → theFields p (s ++ t) ≡ theFields p s
+  fields-closed : (l : List ℕ) → Closes nothing 12 l → Closes aKey 11 l → (t : List Str) → StartsWith l t → (s : List Str)
+      → theFields p (s ++ t) ≡ theFields p s
   unfolding theFields theKeys
   fields-closed l e f t h s =
       listed-closed aKey 11 _ t (λ x xs.
@@ -359,7 +365,8 @@ module _ (p : Str) where
       record { name = refl; size = refl; since = refl; members = parts-perm nothing 7 _ member refl refl (λ t h y ys. refl) fs ps qs i j q })
 
   -- what the variants give, in another order
-  variants-perm : (fs : List Str) (ps qs : List (List Str)) → areCommands (fieldNumbers variant) fs ≡ true → allOf (isPart variant) ps ≡ true → List·Permᴰ ps qs
+  variants-perm : (fs : List Str) (ps qs : List (List Str)) → areCommands (fieldNumbers variant) fs ≡ true → allOf (isPart variant) ps ≡ true
+      → List·Permᴰ ps qs
       → List·Permᴰ (theVariants p (fs ++ flatten ps)) (theVariants p (fs ++ flatten qs))
   unfolding theVariants allOf any partNumber fieldNumbers bodyNumbers
   variants-perm = parts-perm aField 10 _ variant refl refl (λ t h x xs. ap (variantOf p (variantAt x)) (fields-variant t h xs))
@@ -394,7 +401,8 @@ module _ (p : Str) where
       cond (eqb (number x) 9) ((prefix (familyOf p (familyAt x) [] []) ++ theFields p xs) ∷ theOpened xs)
       (cond (eqb (number x) 8 || eqb (number x) 10) (theFields p xs ∷ theOpened xs) (theOpened xs))
 
-  opened-append : (t : List Str) → ((s : List Str) → theFields p (s ++ t) ≡ theFields p s) → (s : List Str) → theOpened (s ++ t) ≡ theOpened s ++ theOpened t
+  opened-append : (t : List Str) → ((s : List Str) → theFields p (s ++ t) ≡ theFields p s) → (s : List Str)
+      → theOpened (s ++ t) ≡ theOpened s ++ theOpened t
   unfolding theOpened
   opened-append t same [] = refl
   opened-append t same (x ∷ xs) = go (eqb (number x) 9) (eqb (number x) 8 || eqb (number x) 10) (same xs) (opened-append t same xs)

@@ -17,7 +17,8 @@ use Rattle.definition.proofs.CommandStreams.{is-number, listedIn, theHe
 use Rattle.definition.proofs.SectionLists.{Without, each-part, ownNumbers, listed-hit, listed-skip, moved-equal, moved-enums, moved-bitfields, moved-families, moved-opened, by-section, opened-split, theOpened, constants-split, aliases-split, enums-split, bitfields-split, structs-split, families-split, unstored-split, versions-split}
 
 -- the numbers of a section with parts are none of a list that no part is in
-in-no-part : (b : ℕ) → Without b (ownNumbers value) → Without b (ownNumbers member) → Without b (ownNumbers variant) → (k : Part) → Without b (ownNumbers k)
+in-no-part : (b : ℕ) → Without b (ownNumbers value) → Without b (ownNumbers member) → Without b (ownNumbers variant) → (k : Part)
+    → Without b (ownNumbers k)
 in-no-part b = each-part (λ (k : Part). Without b (ownNumbers k))
 
 module _ (p : Str) (head : Str) (is-head : isCommand (1 ∷ []) head ≡ true) where

@@ -9,7 +9,7 @@ use native.Mathlib.Omega.{arith}
 use lib.Dec.{eqb}
 use lib.ListN.{length, getD, take, drop, take-append-drop, length-drop, drop-of-length-le}
 use lib.Seq.{length-take-le, drop-cons, drop-drop, getD-take, getD-drop}
-use borrow.Author.Tests.{eqb-true, eq-eqb}
+use borrow.Author.Tests.{eqb-true, eq-eqb, not-true}
 use Rattle.record.specs.Base.{Str, any, isSome}
 use Rattle.record.specs.Schema.{Schema}
 use Rattle.record.specs.Commands.{operands, widths, widthWith, widthOf, commandOf, commandsAt, start}
@@ -28,7 +28,6 @@ use Rattle.record.proofs.Accepted.{Passed, passed, onto-ok, accepting}
 use Rattle.definition.specs.Pass.{allOf}
 use Rattle.definition.specs.Sections.{number, streamOf, isCommand, areCommands, openers, insiders, isSection, Sectioned}
 use Rattle.definition.proofs.Same.{beq→eq}
-use Rattle.definition.proofs.Lists.{not-true}
 use Rattle.definition.proofs.CommandStreams.{one-of, its-number, commandNumbers, Whole, AllWhole, not-zero, CommandsFrom}
 use Rattle.definition.proofs.Validity.{cursorAfter, faultless, valid, end-row, taken-next, parsed-valid}
 
@@ -53,7 +52,8 @@ rows-are b =
 -- a number that has a row is a command's or the end's
 known-number : (b : ℕ) (os : Str) → operands b ≡ some os → (b ≡ 15 → ⊥) → any (eqb b) commandNumbers ≡ true
 unfolding rowNumbers allOf commandNumbers any isSome
-known-number b os e g = go (eqb b 15) refl (one-of (λ (k : ℕ). eqb k 15 || any (eqb k) commandNumbers) rowNumbers refl b (sym (rows-are b) ∙ ap isSome e))
+known-number b os e g =
+    go (eqb b 15) refl (one-of (λ (k : ℕ). eqb k 15 || any (eqb k) commandNumbers) rowNumbers refl b (sym (rows-are b) ∙ ap isSome e))
   where
     go : (t : Bool) → eqb b 15 ≡ t → (t || any (eqb b) commandNumbers) ≡ true → any (eqb b) commandNumbers ≡ true
     go true q h = absurd (g (eqb-true b 15 q))
@@ -98,7 +98,8 @@ module _ (side : Side) (n : ℕ) (s : Str) where
           let v = ap widths w in
           drop-cons s (c .at) 0 (p .inside) ∙ ap₂ _∷_ e (drop-of-length-le s {i = suc (c .at)} (omega arith))
 
-      last : getD s (c .at) 0 ≡ 15 → (t : Bool) → eqb (c .at + (1 + widths (p .row))) (length s) ≡ t → cond t Done (Refused R.Misplaced (c .at + (1 + widths (p .row)))) ≡ Done → drop (c .at) s ≡ 15 ∷ []
+      last : getD s (c .at) 0 ≡ 15 → (t : Bool) → eqb (c .at + (1 + widths (p .row))) (length s) ≡ t
+          → cond t Done (Refused R.Misplaced (c .at + (1 + widths (p .row)))) ≡ Done → drop (c .at) s ≡ 15 ∷ []
       last e true q h = at-last e (eqb-true (c .at + (1 + widths (p .row))) (length s) q)
       last e false q h = absurd (let z : _≡_ {A = ℕ} 0 1 = cc in omega arith)
 
@@ -110,7 +111,8 @@ module _ (side : Side) (n : ℕ) (s : Str) where
 
   not-end : (c : Cursor) (b w : ℕ) (d : Command) (k : Cursor) → ready s c b w ≡ Next d k → b ≡ 15 → ⊥
   unfolding ready
-  not-end c b w d k e q = go (eqb (c .at + w) (length s)) (sym (ap (λ (t : Bool). cond t (cond (eqb (c .at + w) (length s)) Done (Refused R.Misplaced (c .at + w))) (Next (commandOf b (drop (c .at) s)) (moved c b w))) (eq-eqb b 15 q)) ∙ e)
+  not-end c b w d k e q =
+      go (eqb (c .at + w) (length s)) (sym (ap (λ (t : Bool). cond t (cond (eqb (c .at + w) (length s)) Done (Refused R.Misplaced (c .at + w))) (Next (commandOf b (drop (c .at) s)) (moved c b w))) (eq-eqb b 15 q)) ∙ e)
     where
       go : (t : Bool) → cond t Done (Refused R.Misplaced (c .at + w)) ≡ Next d k → ⊥
       go true h = let z : _≡_ {A = ℕ} 0 1 = cc in omega arith

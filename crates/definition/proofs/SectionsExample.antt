@@ -28,9 +28,9 @@ unfoldable pub written : String → List (List Str) → Rec
 unfolding pool head
 written release l = rec (streamOf (head release ∷ flatten l)) pool builtIn
 
-pub valueOf : String → ℕ → Str
+pub enumValue : String → ℕ → Str
 unfolding t w o
-valueOf n k = 5 ∷ t n ++ w k ++ w 0 ++ o
+enumValue n k = 5 ∷ t n ++ w k ++ w 0 ++ o
 
 -- an enum with these values
 pub enum : List (List Str) → List Str
@@ -51,8 +51,8 @@ unfolding t o
 family vs = (9 ∷ t "fam" ++ t "tag" ++ t "e" ++ t "len" ++ o ++ 1 ∷ []) ∷ [] ++ flatten vs
 
 pub values : List (List Str)
-unfolding valueOf
-values = (valueOf "a" 7 ∷ []) ∷ (valueOf "b" 9 ∷ []) ∷ []
+unfolding enumValue
+values = (enumValue "a" 7 ∷ []) ∷ (enumValue "b" 9 ∷ []) ∷ []
 
 -- two variants, the first with a field
 variants : List (List Str)
@@ -70,7 +70,7 @@ unfolding constant enum struct family values variants
 others = family (reverse variants) ∷ struct ∷ enum (reverse values) ∷ constant "GEN" 3 ∷ []
 
 sectioned : (release : String) → isCommand (1 ∷ []) (head release) ≡ true → Sectioned (written release sections)
-unfolding written sections constant enum struct family values variants valueOf field t w o no pool placeIn
+unfolding written sections constant enum struct family values variants enumValue field t w o no pool placeIn
     isCommand areCommands openers insiders isSection allOf flatten any widthOf widthWith widths wide operands bytes
 sectioned release h = record { head = head release; is-head = h; sections = sections; are-sections = refl; stream = refl }
 
@@ -78,7 +78,7 @@ in-order : Shuffled PartsMoved sections sections
 in-order = record { between = sections; permuted = Permᴰ·refl sections; related = related-refl (λ s. as-it-is refl) sections }
 
 shuffled : Shuffled PartsMoved sections others
-unfolding sections others constant enum struct family values variants valueOf field t w o no pool placeIn
+unfolding sections others constant enum struct family values variants enumValue field t w o no pool placeIn
     isCommand areCommands sectionNumber partNumber fieldNumbers isPart allOf flatten any widthOf widthWith widths wide operands bytes
 shuffled = record {
   between = reverse sections;
@@ -100,15 +100,17 @@ unfolding head t pool placeIn isCommand any widthOf widthWith widths wide operan
 was-head = refl
 
 now-once : NoneTwice (schemaOf (written "0.9.0" sections))
-unfolding noneTwice allOf slotsOf withSome schemaOf says written sections constant enum struct family values variants valueOf field head t w o no pool placeIn streamOf flatten
+unfolding noneTwice allOf slotsOf withSome schemaOf says written sections constant enum struct family values variants enumValue field head
+    t w o no pool placeIn streamOf flatten
 now-once = none-twice-is (schemaOf (written "0.9.0" sections)) refl
 
 was-once : NoneTwice (schemaOf (written "0.8.0" sections))
-unfolding noneTwice allOf slotsOf withSome schemaOf says written sections constant enum struct family values variants valueOf field head t w o no pool placeIn streamOf flatten
+unfolding noneTwice allOf slotsOf withSome schemaOf says written sections constant enum struct family values variants enumValue field head
+    t w o no pool placeIn streamOf flatten
 was-once = none-twice-is (schemaOf (written "0.8.0" sections)) refl
 
 pair-accepted : Accepts 0 (written "0.9.0" sections) (written "0.8.0" sections)
-unfolding says written sections constant enum struct family values variants valueOf field head t w o no pool placeIn streamOf flatten
+unfolding says written sections constant enum struct family values variants enumValue field head t w o no pool placeIn streamOf flatten
 pair-accepted = refl
 
 now-reordered : (l : List (List Str)) → Shuffled PartsMoved sections l → Reordered (written "0.9.0" sections) (written "0.9.0" l)
@@ -121,10 +123,12 @@ was-reordered = every-order (written "0.8.0" sections) (sectioned "0.8.0" was-he
 
 -- so the pair is accepted with the sections of either record in another order, and of both
 pub current-reordered : Accepts 0 (written "0.9.0" others) (written "0.8.0" sections)
-current-reordered = sections-reordered 0 0 _ _ _ _ (now-reordered others shuffled) (was-reordered sections in-order) now-once was-once .0 pair-accepted
+current-reordered =
+    sections-reordered 0 0 _ _ _ _ (now-reordered others shuffled) (was-reordered sections in-order) now-once was-once .0 pair-accepted
 
 pub released-reordered : Accepts 0 (written "0.9.0" sections) (written "0.8.0" others)
-released-reordered = sections-reordered 0 0 _ _ _ _ (now-reordered sections in-order) (was-reordered others shuffled) now-once was-once .0 pair-accepted
+released-reordered =
+    sections-reordered 0 0 _ _ _ _ (now-reordered sections in-order) (was-reordered others shuffled) now-once was-once .0 pair-accepted
 
 pub both-reordered : Accepts 65536 (written "0.9.0" others) (written "0.8.0" others)
 both-reordered = sections-reordered 0 65536 _ _ _ _ (now-reordered others shuffled) (was-reordered others shuffled) now-once was-once .0 pair-accepted
@@ -139,10 +143,10 @@ unfolding constantChanged says written constant head t w o pool placeIn streamOf
 twice-refused = refl
 
 -- 02: "The first verdict may differ": a was renamed and b is gone, and the one that stood first is told
-pub renamed-first : check 65536 (written "0.9.0" (enum ((valueOf "V" 7 ∷ []) ∷ []) ∷ [])) (written "0.8.0" (enum values ∷ [])) .number ≡ 24
-unfolding renamed says written enum values valueOf head t w o pool placeIn streamOf flatten
+pub renamed-first : check 65536 (written "0.9.0" (enum ((enumValue "V" 7 ∷ []) ∷ []) ∷ [])) (written "0.8.0" (enum values ∷ [])) .number ≡ 24
+unfolding renamed says written enum values enumValue head t w o pool placeIn streamOf flatten
 renamed-first = refl
 
-pub gone-first : check 65536 (written "0.9.0" (enum ((valueOf "V" 7 ∷ []) ∷ []) ∷ [])) (written "0.8.0" (enum (reverse values) ∷ [])) .number ≡ 25
-unfolding valueGone says written enum values valueOf head t w o pool placeIn streamOf flatten
+pub gone-first : check 65536 (written "0.9.0" (enum ((enumValue "V" 7 ∷ []) ∷ []) ∷ [])) (written "0.8.0" (enum (reverse values) ∷ [])) .number ≡ 25
+unfolding valueGone says written enum values enumValue head t w o pool placeIn streamOf flatten
 gone-first = refl

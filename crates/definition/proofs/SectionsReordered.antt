@@ -85,7 +85,8 @@ long-enough (x ∷ xs) c =
 
 -- the types that a stream opens -------------------------------------------------------------------------------------------
 
-opened-run : (s p : Str) (at : ℕ) (xs : List Str) → CommandsFrom s at xs → AllWhole xs → map (λ (o : Opened). o .fields) (opened s p (commandPlaces at xs)) ≡ theOpened p xs
+opened-run : (s p : Str) (at : ℕ) (xs : List Str) → CommandsFrom s at xs → AllWhole xs
+    → map (λ (o : Opened). o .fields) (opened s p (commandPlaces at xs)) ≡ theOpened p xs
 unfolding opened theOpened commandPlaces openedAt cells textAt optText optTextAt flagAt u16At widthOf widthWith widths wide operands bytes
 opened-run s p at [] h c = refl
 opened-run s p at (x ∷ xs) h c =
@@ -134,7 +135,8 @@ large-opened s (o ∷ l) = ap (λ (b : Bool). large-in s (o .fields) || b) (larg
 -- readings ------------------------------------------------------------------------------------------------------------------------
 
 -- a record as long as one that can be read, with its pool, can be read where it parses and has no vast type
-read-there : (side : Side) (a b : Rec) (t : Schema) (ps : List ℕ) → length (a .stream) ≡ length (b .stream) → a .pool ≡ b .pool → reading side a ≡ read t
+read-there : (side : Side) (a b : Rec) (t : Schema) (ps : List ℕ) → length (a .stream) ≡ length (b .stream) → a .pool ≡ b .pool
+    → reading side a ≡ read t
     → parsed side b ≡ ok ps → find (vast (schemaFrom b ps)) (opened (b .stream) (b .pool) ps) ≡ none → reading side b ≡ read (schemaFrom b ps)
 unfolding reading concluded sizesOf vastOr
 read-there side a b t ps l p h e v = go _ _ refl refl h
@@ -300,7 +302,8 @@ accepts-on room more cur now rel was mc mr oc or h =
 
 -- with no name or slot twice, a pair of records is accepted with the sections of either, or of both, in another order exactly if it is as it
 -- stands, whatever the rooms
-pub sections-reordered : (room more : ℕ) (cur now rel was : Rec) → Reordered cur now → Reordered rel was → NoneTwice (schemaOf cur) → NoneTwice (schemaOf rel)
+pub sections-reordered : (room more : ℕ) (cur now rel was : Rec) → Reordered cur now → Reordered rel was → NoneTwice (schemaOf cur)
+    → NoneTwice (schemaOf rel)
     → (Accepts room cur rel → Accepts more now was) × (Accepts more now was → Accepts room cur rel)
 sections-reordered room more cur now rel was mc mr oc or = (
   accepts-on room more cur now rel was mc mr oc or,
@@ -308,7 +311,8 @@ sections-reordered room more cur now rel was mc mr oc or = (
 )
 
 -- and a record can be read exactly if it can with its sections in another order
-pub readable-reordered : (side : Side) (a b : Rec) → Reordered a b → NoneTwice (schemaOf a) → (CanBeRead side a → CanBeRead side b) × (CanBeRead side b → CanBeRead side a)
+pub readable-reordered : (side : Side) (a b : Rec) → Reordered a b → NoneTwice (schemaOf a)
+    → (CanBeRead side a → CanBeRead side b) × (CanBeRead side b → CanBeRead side a)
 readable-reordered side a b m o = (
   λ w. (schemaOf b, reordered-reading a b m side o (w .0) (w .1)),
   λ w. (schemaOf a, reordered-reading b a (reordered-back a b m) side (once-there a b m o) (w .0) (w .1)),
@@ -316,7 +320,8 @@ readable-reordered side a b m o = (
 
 -- in 02's words, "for readable records with no name or slot twice": the premise is of what is read
 pub readable-pair : (room more : ℕ) (cur now rel was : Rec) (c r : Schema) → Reordered cur now → Reordered rel was → reading Current cur ≡ read c
-    → reading Released rel ≡ read r → NoneTwice c → NoneTwice r → (Accepts room cur rel → Accepts more now was) × (Accepts more now was → Accepts room cur rel)
+    → reading Released rel ≡ read r → NoneTwice c → NoneTwice r
+    → (Accepts room cur rel → Accepts more now was) × (Accepts more now was → Accepts room cur rel)
 readable-pair room more cur now rel was c r mc mr e f oc or =
     sections-reordered room more cur now rel was mc mr (subst NoneTwice (sym (A.accepted Current cur c e)) oc) (subst NoneTwice (sym (A.accepted Released rel r f)) or)
 

@@ -112,7 +112,8 @@ module _ (side : Side) (n : ℕ) where
         )
 
     -- parts, after any command of the section
-    valid-inside : (t : List Str) → StartsWith (partNumber k ∷ []) t → (l : ℕ) (p : Parent) → Inside l p → valid side n l p t ≡ valid side n (sectionNumber k) (parentOf k) t
+    valid-inside : (t : List Str) → StartsWith (partNumber k ∷ []) t → (l : ℕ) (p : Parent) → Inside l p
+        → valid side n l p t ≡ valid side n (sectionNumber k) (parentOf k) t
     unfolding valid Inside
     valid-inside [] h l p i = ap not (inside-going l p i) ∙ sym (ap not (inside-going (sectionNumber k) (parentOf k) (at-section, refl)))
     valid-inside (x ∷ xs) h l p i =
@@ -152,7 +153,8 @@ module _ (side : Side) (n : ℕ) where
         split rs h = valid-body fs rs (own-commands k fs j) h ∙ ap (λ (b : Bool). validWithin fs && b) (valid-parts rs h)
 
   -- after a command of a known number, within what it opens
-  valid-after : (b : ℕ) (q : Parent) → parentAfter NoParent b ≡ q → (x : Str) (xs ys : List Str) → number x ≡ b → (valid side n b q xs ≡ true → valid side n b q ys ≡ true)
+  valid-after : (b : ℕ) (q : Parent) → parentAfter NoParent b ≡ q → (x : Str) (xs ys : List Str) → number x ≡ b
+      → (valid side n b q xs ≡ true → valid side n b q ys ≡ true)
       → (l : ℕ) → valid side n l NoParent (x ∷ xs) ≡ true → valid side n l NoParent (x ∷ ys) ≡ true
   unfolding valid
   valid-after b q o x xs ys e f l h =
@@ -175,8 +177,10 @@ module _ (side : Side) (n : ℕ) where
       rw (moved-valid x y r (w .0)) (all-valid p (w .1))
 
   -- the whole stream
-  pub reordered-valid : (head : Str) (secs others : List (List Str)) → isCommand (1 ∷ []) head ≡ true → allOf isSection secs ≡ true → allOf isSection others ≡ true
-      → Shuffled PartsMoved secs others → valid side n 0 NoParent (head ∷ flatten secs) ≡ true → valid side n 0 NoParent (head ∷ flatten others) ≡ true
+  pub reordered-valid : (head : Str) (secs others : List (List Str)) → isCommand (1 ∷ []) head ≡ true → allOf isSection secs ≡ true
+      → allOf isSection others ≡ true
+      → Shuffled PartsMoved secs others → valid side n 0 NoParent (head ∷ flatten secs) ≡ true
+      → valid side n 0 NoParent (head ∷ flatten others) ≡ true
   unfolding parentAfter
   reordered-valid head secs others i j k s h =
       valid-after 1 NoParent refl head (flatten secs) (flatten others) (is-number 1 head i) (λ a.

@@ -67,11 +67,13 @@ module _ (side : Side) (n : ℕ) (s : Str) (at : ℕ) (x : Str) (xs : List Str) 
 
   -- one of them, and those behind it
   own : (b w : ℕ) {bs : List ℕ} → widthOf b ≡ w
-      → ((f : ℕ → ℕ) (t : Str) → faultsOf side n (cells w f ++ t) (operands b) ≡ faultsOf side n (cells w f) (operands b)) → EachNumber OwnFaults bs → EachNumber OwnFaults (b ∷ bs)
+      → ((f : ℕ → ℕ) (t : Str) → faultsOf side n (cells w f ++ t) (operands b) ≡ faultsOf side n (cells w f) (operands b))
+      → EachNumber OwnFaults bs → EachNumber OwnFaults (b ∷ bs)
   own b w e f rest = and-one (own-bytes b w e (λ (y : Str). faultsOf side n y (operands b)) f s at x xs h c) rest
 
   faults-own : faultsOf side n (drop at s) (operands (number x)) ≡ faultsOf side n x (operands (number x))
-  unfolding commandNumbers operands faultsOf faultsFrom operandFault ifAbsent cells textAt optText optTextAt flagAt u16At widthOf widthWith widths wide bytes
+  unfolding commandNumbers operands faultsOf faultsFrom operandFault ifAbsent cells textAt optText optTextAt flagAt u16At widthOf widthWith
+      widths wide bytes
   faults-own = each-one OwnFaults commandNumbers every (number x) (c .known) refl
     where
       every : EachNumber OwnFaults commandNumbers
@@ -105,7 +107,8 @@ module _ (side : Side) (n : ℕ) (s : Str) where
   unfolding ready
   taken-next c b w d k g e = go (eqb b 15) refl e
     where
-      go : (t : Bool) → eqb b 15 ≡ t → cond t (cond (eqb (c .at + w) (length s)) Done (Refused R.Misplaced (c .at + w))) (Next (commandOf b (drop (c .at) s)) (moved c b w)) ≡ Next d k → moved c b w ≡ k
+      go : (t : Bool) → eqb b 15 ≡ t
+          → cond t (cond (eqb (c .at + w) (length s)) Done (Refused R.Misplaced (c .at + w))) (Next (commandOf b (drop (c .at) s)) (moved c b w)) ≡ Next d k → moved c b w ≡ k
       go true q h = absurd (g (eqb-true b 15 q))
       go false q h = cc
 
@@ -113,7 +116,8 @@ module _ (side : Side) (n : ℕ) (s : Str) where
   unfolding ready
   not-done c b w g e = go (eqb b 15) refl e
     where
-      go : (t : Bool) → eqb b 15 ≡ t → cond t (cond (eqb (c .at + w) (length s)) Done (Refused R.Misplaced (c .at + w))) (Next (commandOf b (drop (c .at) s)) (moved c b w)) ≡ Done → ⊥
+      go : (t : Bool) → eqb b 15 ≡ t
+          → cond t (cond (eqb (c .at + w) (length s)) Done (Refused R.Misplaced (c .at + w))) (Next (commandOf b (drop (c .at) s)) (moved c b w)) ≡ Done → ⊥
       go true q h = g (eqb-true b 15 q)
       go false q h = let z : _≡_ {A = ℕ} 0 1 = cc in omega arith
 
@@ -131,7 +135,8 @@ module _ (side : Side) (n : ℕ) (s : Str) where
       )
 
   -- what is parsed is valid
-  pub parsed-valid : (k : ℕ) (c : Cursor) (xs : List Str) (ps : List ℕ) → CommandsFrom s (c .at) xs → AllWhole xs → parse k side s n c ≡ ok ps → valid side n (c .last) (c .parent) xs ≡ true
+  pub parsed-valid : (k : ℕ) (c : Cursor) (xs : List Str) (ps : List ℕ) → CommandsFrom s (c .at) xs → AllWhole xs → parse k side s n c ≡ ok ps
+      → valid side n (c .last) (c .parent) xs ≡ true
   unfolding parse valid
   parsed-valid zero c xs ps h m e = absurd (let z : _≡_ {A = ℕ} 0 1 = cc in omega arith)
   parsed-valid (suc k) c [] ps h m e = end (judgedAt side s n c) refl e
@@ -155,11 +160,13 @@ module _ (side : Side) (n : ℕ) (s : Str) where
       here-cmd : Whole x
       here-cmd = m x (List·Memᴰ·head refl)
 
-      on : (d : Cursor) → moved c (number x) (length x) ≡ d → ((d : Cursor) (qs : List ℕ) → CommandsFrom s (d .at) xs → parse k side s n d ≡ ok qs → valid side n (d .last) (d .parent) xs ≡ true)
+      on : (d : Cursor) → moved c (number x) (length x) ≡ d
+          → ((d : Cursor) (qs : List ℕ) → CommandsFrom s (d .at) xs → parse k side s n d ≡ ok qs → valid side n (d .last) (d .parent) xs ≡ true)
           → (qs : List ℕ) → parse k side s n d ≡ ok qs → valid side n (number x) (parentAfter (c .parent) (number x)) xs ≡ true
       on d f ih qs g = ih (moved c (number x) (length x)) qs (next-here s (c .at) x xs h here-cmd) (ap (parse k side s n) f ∙ g)
 
-      go : ((d : Cursor) (qs : List ℕ) → CommandsFrom s (d .at) xs → parse k side s n d ≡ ok qs → valid side n (d .last) (d .parent) xs ≡ true) → (j : Judged) → judgedAt side s n c ≡ j
+      go : ((d : Cursor) (qs : List ℕ) → CommandsFrom s (d .at) xs → parse k side s n d ≡ ok qs → valid side n (d .last) (d .parent) xs ≡ true)
+          → (j : Judged) → judgedAt side s n c ≡ j
           → continued (c .at) (parse k side s n) j ≡ ok ps
           → (mayStand (cursorAfter (c .last) (c .parent)) (number x) && (faultless side n x && valid side n (number x) (parentAfter (c .parent) (number x)) xs)) ≡ true
       go ih (Next d i) f g =
@@ -178,7 +185,8 @@ module _ (side : Side) (n : ℕ) (s : Str) where
       let b : getD s (c .at) 0 ≡ 15 = sym (ap (λ (i : ℕ). getD s i 0) z) ∙ sym (getD-drop (c .at) s 0 0) ∙ ap (λ (y : Str). getD y 0 0) h in
       rw (lt-ltb (c .at) (length s) (omega arith), b, end-row, le-ltb (length s - c .at) 1 (omega arith), t, eq-eqb (c .at + 1) (length s) (omega arith), b)
 
-  judged-next : (c : Cursor) (x : Str) (xs : List Str) → CommandsFrom s (c .at) (x ∷ xs) → Whole x → mayStand (cursorAfter (c .last) (c .parent)) (number x) ≡ true → faultless side n x ≡ true
+  judged-next : (c : Cursor) (x : Str) (xs : List Str) → CommandsFrom s (c .at) (x ∷ xs) → Whole x
+      → mayStand (cursorAfter (c .last) (c .parent)) (number x) ≡ true → faultless side n x ≡ true
       → judgedAt side s n c ≡ Next (commandOf (number x) (drop (c .at) s)) (moved c (number x) (length x))
   unfolding judgedAt judgedWith ready faultless faultsOf
   judged-next c x xs h m t f =
@@ -201,7 +209,8 @@ module _ (side : Side) (n : ℕ) (s : Str) where
         ne-eqb (number x) 15 (no-end m),
       )
 
-  pub valid-parsed : (k : ℕ) (c : Cursor) (xs : List Str) → CommandsFrom s (c .at) xs → AllWhole xs → length xs + 1 ≤ k → valid side n (c .last) (c .parent) xs ≡ true
+  pub valid-parsed : (k : ℕ) (c : Cursor) (xs : List Str) → CommandsFrom s (c .at) xs → AllWhole xs → length xs + 1 ≤ k
+      → valid side n (c .last) (c .parent) xs ≡ true
       → parse k side s n c ≡ ok (commandPlaces (c .at) xs)
   unfolding parse valid continued commandPlaces onto
   valid-parsed zero c xs h m l e = absurd (omega arith)
