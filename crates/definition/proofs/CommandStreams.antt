@@ -1,6 +1,6 @@
 -- A stream of whole commands: the places of its commands, and its lists read off the commands themselves, wherever they stand. Assumes nothing.
 use mathlib.Core.Path.{_≡_, refl, sym, _∙_, ap, ap₂, subst}
-use mathlib.Core.List.{List, [], _∷_, _++_, List·Memᴰ, List·Memᴰ·head, List·Memᴰ·tail, List·Memᴰ·not-nil}
+use mathlib.Core.List.{List, [], _∷_, _++_, flatten, List·Memᴰ, List·Memᴰ·head, List·Memᴰ·tail, List·Memᴰ·not-nil}
 use mathlib.Core.Bool.{Bool, true, false, _||_, not, cond, false≢true, or-false}
 use Prim.Native.Nat.{ℕ, zero, suc, _+_, _-_, _≤_, _<_}
 use native.Mathlib.Omega.{arith}
@@ -21,7 +21,7 @@ use Rattle.record.proofs.Basics.{both, any-some}
 use Rattle.record.proofs.Stream.{commands-stop, commands-next}
 use Rattle.definition.specs.Pass.{allOf}
 use Rattle.definition.specs.Sections.{number, streamOf, isCommand, areCommands, openers, insiders, isSection}
-use Rattle.definition.proofs.Lists.{all-of}
+use Rattle.definition.proofs.Lists.{all-of, mem-flatten}
 
 -- numbers -------------------------------------------------------------------------------------------------------------------------
 
@@ -95,6 +95,11 @@ unfolding isSection areCommands openers insiders commandNumbers allOf any
 section-whole [] h x m = absurd (List·Memᴰ·not-nil m)
 section-whole (y ∷ ys) h x (List·Memᴰ·head e) = subst Whole (sym e) (whole openers y refl (both (isCommand openers y) _ h .0))
 section-whole (y ∷ ys) h x (List·Memᴰ·tail m) = whole insiders x refl (all-of (isCommand insiders) ys (both (isCommand openers y) _ h .1) m)
+
+pub stream-whole : (head : Str) (secs : List (List Str)) → isCommand (1 ∷ []) head ≡ true → allOf isSection secs ≡ true → AllWhole (head ∷ flatten secs)
+unfolding allOf commandNumbers any
+stream-whole head secs i j x (List·Memᴰ·head e) = subst Whole (sym e) (whole (1 ∷ []) head refl i)
+stream-whole head secs i j x (List·Memᴰ·tail m) = let w = mem-flatten secs m in section-whole (w .0) (all-of isSection secs j (w .1)) x (w .2)
 
 -- places --------------------------------------------------------------------------------------------------------------------------
 

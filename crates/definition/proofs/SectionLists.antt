@@ -25,11 +25,13 @@ use Rattle.definition.proofs.CommandStreams.{one-of, its-number, is-num
 abbrev Among : List ℕ → List ℕ → Type 0
 Among l k = allOf (λ (b : ℕ). any (eqb b) k) l ≡ true
 
-command-more : (l k : List ℕ) → Among l k → (x : Str) → isCommand l x ≡ true → isCommand k x ≡ true
+-- a command, of which the number is one of others too
+pub again : (l k : List ℕ) (x : Str) → isCommand l x ≡ true → any (eqb (number x)) k ≡ true → isCommand k x ≡ true
 unfolding isCommand
-command-more l k h x e =
-    let w = both (eqb (length x) (widthOf (number x))) _ e in
-    rw (w .0, one-of (λ (b : ℕ). any (eqb b) k) l h (number x) (w .1))
+again l k x e h = rw (both (eqb (length x) (widthOf (number x))) _ e .0, h)
+
+command-more : (l k : List ℕ) → Among l k → (x : Str) → isCommand l x ≡ true → isCommand k x ≡ true
+command-more l k h x e = again l k x e (one-of (λ (b : ℕ). any (eqb b) k) l h (number x) (its-number l x e))
 
 commands-more : (l k : List ℕ) → Among l k → (xs : List Str) → areCommands l xs ≡ true → areCommands k xs ≡ true
 unfolding areCommands

@@ -1,6 +1,6 @@
 -- Every record that can be read is its head, whole sections and the end. Assumes nothing.
 use mathlib.Core.Path.{_≡_, refl, sym, _∙_, ap, ap₂, subst}
-use mathlib.Core.List.{List, [], _∷_, _++_, flatten, List·Memᴰ·head, List·Memᴰ·tail, List·Memᴰ·not-nil}
+use mathlib.Core.List.{List, [], _∷_, _++_, flatten, List·Memᴰ, List·Memᴰ·head, List·Memᴰ·tail, List·Memᴰ·not-nil}
 use mathlib.Core.Option.{Option, none, some}
 use mathlib.Core.Bool.{Bool, true, false, _||_, not, cond, false≢true, Bool·beq}
 use mathlib.Core.Logic.{_⊎_, inl, inr}
@@ -26,10 +26,13 @@ use Rattle.record.specs.declared.judge.Judged.the-variants.{Next, Done, Refused
 use Rattle.record.proofs.Basics.{both}
 use Rattle.record.proofs.Accepted.{Passed, passed, onto-ok, accepting}
 use Rattle.definition.specs.Pass.{allOf}
-use Rattle.definition.specs.Sections.{number, streamOf, isCommand, areCommands, openers, insiders, isSection, Sectioned}
+use Rattle.definition.specs.Sections.{number, streamOf, isCommand, areCommands, isGroup, openers, insiders, isSection, Sectioned, Part, sectionNumber, partNumber, fieldNumbers, isPart, Parted}
 use Rattle.definition.proofs.Same.{beq→eq}
-use Rattle.definition.proofs.CommandStreams.{one-of, its-number, commandNumbers, Whole, AllWhole, not-zero, CommandsFrom}
+use Rattle.definition.proofs.Lists.{all-of}
+use Rattle.definition.proofs.CommandStreams.{one-of, its-number, commandNumbers, Whole, AllWhole, not-zero, CommandsFrom, is-number, stream-whole}
 use Rattle.definition.proofs.Validity.{cursorAfter, faultless, valid, end-row, taken-next, parsed-valid}
+use Rattle.definition.proofs.SectionLists.{again, bodyNumbers}
+use Rattle.definition.proofs.ValidSections.{validAlone, valid-sections, section-body}
 
 -- the commands of a stream ------------------------------------------------------------------------------------------------
 
@@ -177,36 +180,45 @@ begins-or-inside l p x z w m =
     go false q true g k = inl (is-one openers x w g)
     go false q false g k = inr (is-one insiders x w k)
 
--- commands inside, and then sections
-record Grouped (xs : List Str) : Type 0 where
-  front : List Str
-  are-inside : areCommands insiders front ≡ true
-  sections : List (List Str)
-  are-sections : allOf isSection sections ≡ true
-  together : front ++ flatten sections ≡ xs
+-- each command behind the head begins a section or is inside one
+each-command : (side : Side) (n l : ℕ) (p : Parent) (xs : List Str) → eqb l 0 ≡ false → AllWhole xs → valid side n l p xs ≡ true
+    → (x : Str) → List·Memᴰ x xs → (isCommand openers x ≡ true) ⊎ (isCommand insiders x ≡ true)
+unfolding valid
+each-command side n l p [] z c h x m = absurd (List·Memᴰ·not-nil m)
+each-command side n l p (y ∷ ys) z c h x (List·Memᴰ·head e) =
+    subst (λ (u : Str). (isCommand openers u ≡ true) ⊎ (isCommand insiders u ≡ true)) (sym e)
+    (begins-or-inside l p y z (c y (List·Memᴰ·head refl)) (both (mayStand (cursorAfter l p) (number y)) _ h .0))
+each-command side n l p (y ∷ ys) z c h x (List·Memᴰ·tail m) =
+    each-command side n (number y) (parentAfter p (number y)) ys (not-zero (c y (List·Memᴰ·head refl))) (λ u i. c u (List·Memᴰ·tail i))
+    (both (faultless side n y) _ (both (mayStand (cursorAfter l p) (number y)) _ h .1) .1) x m
 
-grouped : (side : Side) (n l : ℕ) (p : Parent) (xs : List Str) → eqb l 0 ≡ false → AllWhole xs → valid side n l p xs ≡ true → Grouped xs
-unfolding valid areCommands allOf flatten isSection
-grouped side n l p [] z c h = record { front = []; are-inside = refl; sections = []; are-sections = refl; together = refl }
-grouped side n l p (x ∷ xs) z c h =
-    let m = both (mayStand (cursorAfter l p) (number x)) _ h in
-    let w = c x (List·Memᴰ·head refl) in
-    go (begins-or-inside l p x z w (m .0))
-    (grouped side n (number x) (parentAfter p (number x)) xs (not-zero w) (λ y i. c y (List·Memᴰ·tail i)) (both (faultless side n x) _ (m .1) .1))
+-- commands inside, and then groups
+record Grouped (begin inside : List ℕ) (xs : List Str) : Type 0 where
+  front : List Str
+  are-inside : areCommands inside front ≡ true
+  groups : List (List Str)
+  are-groups : allOf (isGroup begin inside) groups ≡ true
+  together : front ++ flatten groups ≡ xs
+
+grouped : (begin inside : List ℕ) (xs : List Str) → ((x : Str) → List·Memᴰ x xs → (isCommand begin x ≡ true) ⊎ (isCommand inside x ≡ true))
+    → Grouped begin inside xs
+unfolding areCommands allOf flatten
+grouped begin inside [] h = record { front = []; are-inside = refl; groups = []; are-groups = refl; together = refl }
+grouped begin inside (x ∷ xs) h = go (h x (List·Memᴰ·head refl)) (grouped begin inside xs (λ y m. h y (List·Memᴰ·tail m)))
   where
-    go : (isCommand openers x ≡ true) ⊎ (isCommand insiders x ≡ true) → Grouped xs → Grouped (x ∷ xs)
+    go : (isCommand begin x ≡ true) ⊎ (isCommand inside x ≡ true) → Grouped begin inside xs → Grouped begin inside (x ∷ xs)
     go (inl o) r = record {
       front = [];
       are-inside = refl;
-      sections = (x ∷ r .front) ∷ r .sections;
-      are-sections = rw (o, r .are-inside, r .are-sections);
+      groups = (x ∷ r .front) ∷ r .groups;
+      are-groups = rw (o, r .are-inside, r .are-groups);
       together = ap (λ (l : List Str). x ∷ l) (r .together);
     }
     go (inr i) r = record {
       front = x ∷ r .front;
       are-inside = rw (i, r .are-inside);
-      sections = r .sections;
-      are-sections = r .are-sections;
+      groups = r .groups;
+      are-groups = r .are-groups;
       together = ap (λ (l : List Str). x ∷ l) (r .together);
     }
 
@@ -218,21 +230,21 @@ none-before side n (f ∷ fs) zs h e =
     absurd (false≢true (sym (no-stand (number f) (its-number insiders f (both (isCommand insiders f) _ h .0))) ∙ both (mayStand (cursorAfter 1 NoParent) (number f)) _ e .0))
 
 sectioned : (side : Side) (r : Rec) (n : ℕ) (xs : List Str) → r .stream ≡ streamOf xs → AllWhole xs → valid side n 0 NoParent xs ≡ true → Sectioned r
-unfolding valid parentAfter any
+unfolding isSection valid parentAfter any
 sectioned side r n [] e c h = absurd (false≢true h)
 sectioned side r n (x ∷ xs) e c h =
     let w = c x (List·Memᴰ·head refl) in
     let m = both (mayStand (cursorAfter 0 NoParent) (number x)) _ h in
     let one : number x ≡ 1 = eqb-true (number x) 1 (sym (head-first (number x) (w .known)) ∙ m .0) in
     let valid-here : valid side n 1 NoParent xs ≡ true = subst (λ (k : ℕ). valid side n k (parentAfter NoParent k) xs ≡ true) one (both (faultless side n x) _ (m .1) .1) in
-    let g = grouped side n 1 NoParent xs refl (λ y i. c y (List·Memᴰ·tail i)) valid-here in
-    let bare = none-before side n (g .front) (flatten (g .sections)) (g .are-inside) (ap (valid side n 1 NoParent) (g .together) ∙ valid-here) in
+    let g = grouped openers insiders xs (each-command side n 1 NoParent xs refl (λ y i. c y (List·Memᴰ·tail i)) valid-here) in
+    let bare = none-before side n (g .front) (flatten (g .groups)) (g .are-inside) (ap (valid side n 1 NoParent) (g .together) ∙ valid-here) in
     record {
       head = x;
       is-head = is-one (1 ∷ []) x w (rw (eq-eqb (number x) 1 one));
-      sections = g .sections;
-      are-sections = g .are-sections;
-      stream = e ∙ ap (λ (l : List Str). streamOf (x ∷ l)) (sym (g .together) ∙ ap (λ (l : List Str). l ++ flatten (g .sections)) bare);
+      sections = g .groups;
+      are-sections = g .are-groups;
+      stream = e ∙ ap (λ (l : List Str). streamOf (x ∷ l)) (sym (g .together) ∙ ap (λ (l : List Str). l ++ flatten (g .groups)) bare);
     }
 
 pub readable-sectioned : (side : Side) (r : Rec) (t : Schema) → reading side r ≡ read t → Sectioned r
@@ -242,3 +254,54 @@ readable-sectioned side r t h =
     let w = parse-whole side (length (r .pool)) (r .stream) (length (r .stream) + 1) start (commandsAt (r .stream) 0) (a .parsed-all) in
     sectioned side r (length (r .pool)) (w .0) (w .1) (w .2)
     (parsed-valid side (length (r .pool)) (r .stream) (length (r .stream) + 1) start (w .0) (commandsAt (r .stream) 0) (w .1) (w .2) (a .parsed-all))
+
+-- a command of a section with parts begins a part or is a field
+part-or-field : (k : Part) (x : Str) → isCommand (bodyNumbers k) x ≡ true → (isCommand (partNumber k ∷ []) x ≡ true) ⊎ (isCommand (fieldNumbers k) x ≡ true)
+unfolding bodyNumbers any
+part-or-field k x h = go (eqb (number x) (partNumber k)) refl (its-number (bodyNumbers k) x h)
+  where
+    go : (t : Bool) → eqb (number x) (partNumber k) ≡ t → (t || any (eqb (number x)) (fieldNumbers k)) ≡ true
+        → (isCommand (partNumber k ∷ []) x ≡ true) ⊎ (isCommand (fieldNumbers k) x ≡ true)
+    go true e i = inl (again (bodyNumbers k) (partNumber k ∷ []) x h (ap (λ (t : Bool). t || false) e))
+    go false e i = inr (again (bodyNumbers k) (fieldNumbers k) x h i)
+
+-- 02's "two variants of a family, two enum values or two members" are parts of their section in every record that can be read
+pub readable-parted : (side : Side) (r : Rec) (t : Schema) → reading side r ≡ read t → (c : Sectioned r) (k : Part) (x : Str) (xs : List Str)
+    → List·Memᴰ (x ∷ xs) (c .sections) → number x ≡ sectionNumber k → Parted k (x ∷ xs)
+readable-parted side r t h c k x xs m e = record {
+  opener = x;
+  is-opener = again openers (sectionNumber k ∷ []) x (unfold isSection in both (isCommand openers x) _ section .0)
+      (unfold any in rw (eq-eqb (number x) (sectionNumber k) e));
+  fields = g .front;
+  are-fields = g .are-inside;
+  parts = g .groups;
+  are-parts = unfold isPart in g .are-groups;
+  commands = ap (λ (l : List Str). x ∷ l) (sym (g .together));
+}
+  where
+    n : ℕ
+    n = length (r .pool)
+
+    section : isSection (x ∷ xs) ≡ true
+    section = all-of isSection (c .sections) (c .are-sections) m
+
+    stream-valid : valid side n 0 NoParent (c .head ∷ flatten (c .sections)) ≡ true
+    stream-valid =
+        unfold parsed in
+        parsed-valid side n (r .stream) (length (r .stream) + 1) start (c .head ∷ flatten (c .sections)) (commandsAt (r .stream) 0) (c .stream)
+        (stream-whole (c .head) (c .sections) (c .is-head) (c .are-sections)) (accepting side r t h .parsed-all)
+
+    behind : validAlone side n (flatten (c .sections)) ≡ true
+    behind =
+        unfold valid parentAfter in
+        subst (λ (b : ℕ). valid side n b (parentAfter NoParent b) (flatten (c .sections)) ≡ true) (is-number 1 (c .head) (c .is-head))
+        (both (faultless side n (c .head)) _ (both (mayStand (cursorAfter 0 NoParent) (number (c .head))) _ stream-valid .1) .1)
+
+    alone : validAlone side n (x ∷ xs) ≡ true
+    alone = all-of (validAlone side n) (c .sections) (sym (valid-sections side n (c .sections) (c .are-sections)) ∙ behind) m
+
+    body : areCommands (bodyNumbers k) xs ≡ true
+    body = section-body side n k x xs section e alone
+
+    g : Grouped (partNumber k ∷ []) (fieldNumbers k) xs
+    g = unfold areCommands in grouped (partNumber k ∷ []) (fieldNumbers k) xs (λ y i. part-or-field k y (all-of (isCommand (bodyNumbers k)) xs body i))

@@ -31,11 +31,11 @@ use Rattle.definition.specs.Pass.{allOf}
 use Rattle.definition.specs.Compare.{compare}
 use Rattle.definition.specs.Answer.{verdictOf, answered, check}
 use Rattle.definition.specs.Sections.{number, streamOf, isCommand, isSection, isPart, PartsMoved, as-it-is, parts-moved, Shuffled, Sectioned, Reordered, NoneTwice, CanBeRead, Accepts}
-use Rattle.definition.proofs.Lists.{all-of, mem-flatten, all-perm, perm-eq, perm-by, perm-append, flatten-map, perm-flatMap, shuffled-flatMap, shuffled-sym}
+use Rattle.definition.proofs.Lists.{all-perm, perm-eq, perm-by, perm-append, flatten-map, perm-flatMap, shuffled-flatMap, shuffled-sym}
 use Rattle.definition.proofs.LookUps.{any-perm, none-any, any-none-found}
 use Rattle.definition.proofs.PermutedSchemas.{Permuted, places-found, none-twice}
 use Rattle.definition.proofs.PermutedPasses.{compare-on}
-use Rattle.definition.proofs.CommandStreams.{commandNumbers, Whole, AllWhole, whole, section-whole, some-bytes, commandPlaces, CommandsFrom, number-here, next-here, commands-run, cells, own-bytes, theFields, fields-agree, theSchema, schema-run}
+use Rattle.definition.proofs.CommandStreams.{Whole, AllWhole, stream-whole, some-bytes, commandPlaces, CommandsFrom, number-here, next-here, commands-run, cells, own-bytes, theFields, fields-agree, theSchema, schema-run}
 use Rattle.definition.proofs.Validity.{valid, parsed-valid, valid-parsed}
 use Rattle.definition.proofs.SectionLists.{moved-sections, theOpened}
 use Rattle.definition.proofs.SectionSchemas.{opened-perm, schema-permuted}
@@ -44,12 +44,7 @@ use Rattle.definition.proofs.Bytes.{accepted}
 
 -- the commands of the stream ----------------------------------------------------------------------------------------------
 
-stream-whole : (head : Str) (secs : List (List Str)) → isCommand (1 ∷ []) head ≡ true → allOf isSection secs ≡ true → AllWhole (head ∷ flatten secs)
-unfolding allOf commandNumbers any
-stream-whole head secs i j x (List·Memᴰ·head e) = subst Whole (sym e) (whole (1 ∷ []) head refl i)
-stream-whole head secs i j x (List·Memᴰ·tail m) = let w = mem-flatten secs m in section-whole (w .0) (all-of isSection secs j (w .1)) x (w .2)
-
--- the same commands in another order, so as many bytes
+-- its commands in another order, so as many bytes
 moved-perm : (s t : List Str) → PartsMoved s t → List·Permᴰ s t
 moved-perm s t (as-it-is e) = perm-eq e
 moved-perm s t (parts-moved k x fs ps qs i j l p) =

@@ -12,11 +12,11 @@ use Rattle.record.specs.declared.command.Parent.the-variants.{NoParent, InFamil
 use Rattle.record.specs.declared.refusal.Side.{Side}
 use Rattle.record.proofs.Basics.{both}
 use Rattle.definition.specs.Pass.{allOf}
-use Rattle.definition.specs.Sections.{number, isCommand, areCommands, openers, isSection, Part, value, member, variant, sectionNumber, partNumber, fieldNumbers, isPart, PartsMoved, as-it-is, parts-moved, Shuffled}
+use Rattle.definition.specs.Sections.{number, isCommand, areCommands, openers, insiders, isSection, Part, value, member, variant, sectionNumber, partNumber, fieldNumbers, isPart, PartsMoved, as-it-is, parts-moved, Shuffled}
 use Rattle.definition.proofs.Lists.{all-of, all-perm}
 use Rattle.definition.proofs.CommandStreams.{one-of, only, its-number, is-number, not-zero, section-whole, EachNumber, no-number, and-one, each-one}
 use Rattle.definition.proofs.Validity.{cursorAfter, faultless, valid}
-use Rattle.definition.proofs.SectionLists.{differs, each-part, bodyNumbers, ownNumbers, own-commands, part-commands, StartsWith, sections-start, parts-start}
+use Rattle.definition.proofs.SectionLists.{again, differs, each-part, bodyNumbers, ownNumbers, own-commands, part-commands, StartsWith, sections-start, parts-start}
 
 module _ (side : Side) (n : ℕ) where
   -- a stretch and what stands behind it, where that is as valid as it is after a given command within a given parent
@@ -51,10 +51,10 @@ module _ (side : Side) (n : ℕ) where
       (opener-stands (number x) h l p z ∙ sym (opener-stands (number x) h 1 NoParent refl)) (opener-parent (number x) h p NoParent)
 
   -- a section by itself
-  abbrev validAlone : List Str → Bool
+  abbrev pub validAlone : List Str → Bool
   validAlone s = valid side n 1 NoParent s
 
-  valid-sections : (secs : List (List Str)) → allOf isSection secs ≡ true → validAlone (flatten secs) ≡ allOf validAlone secs
+  pub valid-sections : (secs : List (List Str)) → allOf isSection secs ≡ true → validAlone (flatten secs) ≡ allOf validAlone secs
   unfolding allOf flatten valid
   valid-sections [] h = refl
   valid-sections (s ∷ secs) h =
@@ -84,6 +84,14 @@ module _ (side : Side) (n : ℕ) where
   unfolding mayStand follows sectionNumber partNumber fieldNumbers ownNumbers parentOf allOf
   part-stands = each-part (λ (k : Part). allOf (λ (l : ℕ). mayStand (cursorAfter l (parentOf k)) (partNumber k)) (ownNumbers k) ≡ true) refl refl refl
 
+  only-body : (k : Part)
+      → allOf (λ (l : ℕ). allOf (λ (b : ℕ). not (mayStand (cursorAfter l (parentOf k)) b) || any (eqb b) (bodyNumbers k)) insiders) (ownNumbers k) ≡ true
+  unfolding mayStand follows sectionNumber partNumber fieldNumbers bodyNumbers ownNumbers parentOf insiders allOf any
+  only-body =
+      each-part (λ (k : Part).
+      allOf (λ (l : ℕ). allOf (λ (b : ℕ). not (mayStand (cursorAfter l (parentOf k)) b) || any (eqb b) (bodyNumbers k)) insiders) (ownNumbers k) ≡ true)
+      refl refl refl
+
   all-going : (k : Part) → allOf (λ (l : ℕ). not (eqb l 0)) (ownNumbers k) ≡ true
   unfolding sectionNumber partNumber fieldNumbers ownNumbers allOf
   all-going = each-part (λ (k : Part). allOf (λ (l : ℕ). not (eqb l 0)) (ownNumbers k) ≡ true) refl refl refl
@@ -101,15 +109,18 @@ module _ (side : Side) (n : ℕ) where
     unfolding any ownNumbers
     at-section = rw (eq-eqb (sectionNumber k) (sectionNumber k) refl)
 
+    inside-next : (x : Str) → any (eqb (number x)) (bodyNumbers k) ≡ true → (l : ℕ) (p : Parent) → Inside l p → Inside (number x) (parentAfter p (number x))
+    unfolding Inside any ownNumbers bodyNumbers
+    inside-next x b l p i = (
+      ap (λ (i : Bool). eqb (number x) (sectionNumber k) || i) b ∙ or-true (eqb (number x) (sectionNumber k)),
+      ap (λ (q : Parent). parentAfter q (number x)) (i .1)
+          ∙ each-one (λ (j : ℕ). parentAfter (parentOf k) j ≡ parentOf k) (bodyNumbers k) (stays-open k) (number x) b,
+    )
+
     inside-on : (s : List Str) → areCommands (bodyNumbers k) s ≡ true → (x : Str) → List·Memᴰ x s → (l : ℕ) (p : Parent) → Inside l p
         → Inside (number x) (parentAfter p (number x))
-    unfolding Inside areCommands any ownNumbers bodyNumbers
-    inside-on s c x m l p i =
-        let b = its-number (bodyNumbers k) x (all-of (isCommand (bodyNumbers k)) s c m) in (
-          ap (λ (i : Bool). eqb (number x) (sectionNumber k) || i) b ∙ or-true (eqb (number x) (sectionNumber k)),
-          ap (λ (q : Parent). parentAfter q (number x)) (i .1)
-              ∙ each-one (λ (j : ℕ). parentAfter (parentOf k) j ≡ parentOf k) (bodyNumbers k) (stays-open k) (number x) b,
-        )
+    unfolding areCommands
+    inside-on s c x m = inside-next x (its-number (bodyNumbers k) x (all-of (isCommand (bodyNumbers k)) s c m))
 
     -- parts, after any command of the section
     valid-inside : (t : List Str) → StartsWith (partNumber k ∷ []) t → (l : ℕ) (p : Parent) → Inside l p
@@ -124,6 +135,23 @@ module _ (side : Side) (n : ℕ) where
         stands j e =
             ap (mayStand (cursorAfter j (parentOf k))) (only (partNumber k) (number x) h)
             ∙ one-of (λ (i : ℕ). mayStand (cursorAfter i (parentOf k)) (partNumber k)) (ownNumbers k) (part-stands k) j e
+
+    -- only commands of the section may stand in it
+    body-valid : (l : ℕ) (xs : List Str) → any (eqb l) (ownNumbers k) ≡ true → areCommands insiders xs ≡ true → valid side n l (parentOf k) xs ≡ true
+        → areCommands (bodyNumbers k) xs ≡ true
+    unfolding areCommands allOf valid Inside
+    body-valid l [] h c v = refl
+    body-valid l (x ∷ xs) h c v =
+        let i = both (isCommand insiders x) _ c in
+        let m = both (mayStand (cursorAfter l (parentOf k)) (number x)) _ v in
+        let o = one-of (λ (b : ℕ). not (mayStand (cursorAfter l (parentOf k)) b) || any (eqb b) (bodyNumbers k)) insiders
+            (one-of (λ (j : ℕ). allOf (λ (b : ℕ). not (mayStand (cursorAfter j (parentOf k)) b) || any (eqb b) (bodyNumbers k)) insiders) (ownNumbers k) (only-body k) l h)
+            (number x) (its-number insiders x (i .0)) in
+        let b : any (eqb (number x)) (bodyNumbers k) ≡ true = sym (ap (λ (t : Bool). not t || any (eqb (number x)) (bodyNumbers k)) (m .0)) ∙ o in
+        let next = inside-next x b l (parentOf k) (h, refl) in
+        rw (again insiders (bodyNumbers k) x (i .0) b)
+        (body-valid (number x) xs (next .0) (i .1)
+        (sym (ap (λ (q : Parent). valid side n (number x) q xs) (next .1)) ∙ both (faultless side n x) _ (m .1) .1))
 
     -- after the section's first command
     abbrev validWithin : List Str → Bool
@@ -151,6 +179,16 @@ module _ (side : Side) (n : ℕ) where
       where
         split : (rs : List (List Str)) → allOf (isPart k) rs ≡ true → validWithin (fs ++ flatten rs) ≡ (validWithin fs && allOf validWithin rs)
         split rs h = valid-body fs rs (own-commands k fs j) h ∙ ap (λ (b : Bool). validWithin fs && b) (valid-parts rs h)
+
+  -- what stands in a valid section with parts
+  pub section-body : (k : Part) (x : Str) (xs : List Str) → isSection (x ∷ xs) ≡ true → number x ≡ sectionNumber k → validAlone (x ∷ xs) ≡ true
+      → areCommands (bodyNumbers k) xs ≡ true
+  unfolding isSection valid
+  section-body k x xs h e v =
+      let u = both (mayStand (cursorAfter 1 NoParent) (number x)) _ v in
+      let w = both (faultless side n x) _ (u .1) in
+      body-valid k (sectionNumber k) xs (at-section k) (both (isCommand openers x) _ h .1)
+      (sym (ap (λ (j : ℕ). valid side n j (parentAfter NoParent j) xs) e ∙ ap (λ (p : Parent). valid side n (sectionNumber k) p xs) (section-parent k)) ∙ w .1)
 
   -- after a command of a known number, within what it opens
   valid-after : (b : ℕ) (q : Parent) → parentAfter NoParent b ≡ q → (x : Str) (xs ys : List Str) → number x ≡ b

@@ -34,6 +34,11 @@ isCommand ns x = eqb (length x) (widthOf (number x)) && any (eqb (number x)) ns
 unfoldable pub areCommands : List ℕ → List Str → Bool
 areCommands ns xs = allOf (isCommand ns) xs
 
+-- a command of the first numbers, and behind it commands of the second
+abbrev pub isGroup : List ℕ → List ℕ → List Str → Bool
+isGroup begin inside [] = false
+isGroup begin inside (x ∷ xs) = isCommand begin x && areCommands inside xs
+
 -- 02: "whole constants, aliases, enums with their values, bit fields with their members, structures, families, unstored keys and version
 -- entries": the commands that begin a section
 unfoldable pub openers : List ℕ
@@ -45,8 +50,7 @@ insiders = 5 ∷ 7 ∷ 10 ∷ 11 ∷ 12 ∷ []
 
 -- a section, as 02 and this request use the word: a command that begins one, and all commands inside it
 unfoldable pub isSection : List Str → Bool
-isSection [] = false
-isSection (x ∷ xs) = isCommand openers x && areCommands insiders xs
+isSection = isGroup openers insiders
 
 -- a record as its head, its sections and the end, as every record that can be read is (proofs/Sectioned)
 pub record Sectioned (r : Rec) : Type 0 where
@@ -83,8 +87,18 @@ fieldNumbers member = []
 fieldNumbers variant = 11 ∷ 12 ∷ []
 
 unfoldable pub isPart : Part → List Str → Bool
-isPart k [] = false
-isPart k (x ∷ xs) = isCommand (partNumber k ∷ []) x && areCommands (fieldNumbers k) xs
+isPart k = isGroup (partNumber k ∷ []) (fieldNumbers k)
+
+-- a section as its first command, its fields and its parts, as every enum, bit field and family of a record that can be read is
+-- (proofs/Sectioned)
+pub record Parted (k : Part) (s : List Str) : Type 0 where
+  pub opener : Str
+  pub is-opener : isCommand (sectionNumber k ∷ []) opener ≡ true
+  pub fields : List Str
+  pub are-fields : areCommands (fieldNumbers k) fields ≡ true
+  pub parts : List (List Str)
+  pub are-parts : allOf (isPart k) parts ≡ true
+  pub commands : s ≡ opener ∷ fields ++ flatten parts
 
 -- a section as it is, or with its values, members or variants in another order. 02: "Fields inside a type are not moved"
 pub data PartsMoved : List Str → List Str → Type 0 where
