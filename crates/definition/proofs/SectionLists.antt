@@ -14,7 +14,7 @@ use Rattle.record.specs.Lists.{enumOf, bitfieldOf, structOf, familyOf, variantO
 use Rattle.record.specs.Shapes.{prefix}
 use Rattle.record.proofs.Basics.{both}
 use Rattle.definition.specs.Pass.{allOf}
-use Rattle.definition.specs.Sections.{number, isCommand, areCommands, openers, insiders, isSection, Part, value, member, variant, sectionNumber, partNumber, fieldNumbers, isPart, PartsMoved, as-it-is, parts-moved}
+use Rattle.definition.specs.Sections.{number, isCommand, areCommands, isGroup, openers, insiders, isSection, Part, value, member, variant, sectionNumber, partNumber, fieldNumbers, isPart, PartsMoved, as-it-is, parts-moved}
 use Rattle.definition.proofs.Lists.{all-of, of-all, mem-flatten, all-perm, perm-eq, perm-by, perm-append, perm-flatMap, related-refl, related-by}
 use Rattle.definition.proofs.PermutedSchemas.{PermutedEnum, PermutedBits, PermutedFamily}
 use Rattle.definition.proofs.CommandStreams.{one-of, its-number, is-number, listedIn, theConstants, theAliases, theValues, theEnums, theMembers, theBitfields, theKeys, theFields, theStructs, theVariants, theFamilies, theUnstored, theVersions}
@@ -135,18 +135,20 @@ starts-ends over b l h (x ∷ xs) s =
     let w = both (not (eqb (number x) b)) (not (over (number x))) (one-of (λ (k : ℕ). not (eqb k b) && not (over k)) l h (number x) s) in
     (not-true (eqb (number x) b) (w .0), not-true (over (number x)) (w .1))
 
+groups-start : (begin inside : List ℕ) (gs : List (List Str)) → allOf (isGroup begin inside) gs ≡ true → StartsWith begin (flatten gs)
+unfolding flatten allOf
+groups-start begin inside [] h = tt
+groups-start begin inside ([] ∷ gs) h = absurd (false≢true h)
+groups-start begin inside ((x ∷ xs) ∷ gs) h =
+    its-number begin x (both (isCommand begin x) _ (both (isGroup begin inside (x ∷ xs)) (allOf (isGroup begin inside) gs) h .0) .0)
+
 pub sections-start : (secs : List (List Str)) → allOf isSection secs ≡ true → StartsWith openers (flatten secs)
-unfolding flatten allOf isSection
-sections-start [] h = tt
-sections-start ([] ∷ secs) h = absurd (false≢true h)
-sections-start ((x ∷ xs) ∷ secs) h = its-number openers x (both (isCommand openers x) _ (both (isSection (x ∷ xs)) (allOf isSection secs) h .0) .0)
+unfolding isSection
+sections-start = groups-start openers insiders
 
 pub parts-start : (k : Part) (ps : List (List Str)) → allOf (isPart k) ps ≡ true → StartsWith (partNumber k ∷ []) (flatten ps)
-unfolding flatten allOf isPart
-parts-start k [] h = tt
-parts-start k ([] ∷ ps) h = absurd (false≢true h)
-parts-start k ((x ∷ xs) ∷ ps) h =
-    its-number (partNumber k ∷ []) x (both (isCommand (partNumber k ∷ []) x) _ (both (isPart k (x ∷ xs)) (allOf (isPart k) ps) h .0) .0)
+unfolding isPart
+parts-start k = groups-start (partNumber k ∷ []) (fieldNumbers k)
 
 -- lists -------------------------------------------------------------------------------------------------------------------
 
