@@ -29,7 +29,7 @@ use Rattle.definition.proofs.Lists.{all-of, mem-flatten}
 pub one-of : (t : ℕ → Bool) (l : List ℕ) → allOf t l ≡ true → (b : ℕ) → any (eqb b) l ≡ true → t b ≡ true
 one-of t l h b e = let w = any-some (eqb b) l e in ap t (eqb-true b (w .0) (w .2)) ∙ all-of t l h (w .1)
 
--- and what is proved of each of them
+-- a proof for each of these numbers, where no test says it
 pub data EachNumber (P : ℕ → Type 0) : List ℕ → Type 0 where
   no-number : EachNumber P []
   and-one : {b : ℕ} {bs : List ℕ} → P b → EachNumber P bs → EachNumber P (b ∷ bs)
@@ -276,7 +276,7 @@ module _ (s p : Str) where
   abbrev Agree : {A : Type 0} → (List ℕ → List A) → (List Str → List A) → Type 0
   Agree f g = (at : ℕ) (xs : List Str) → CommandsFrom s at xs → AllWhole xs → f (commandPlaces at xs) ≡ g xs
 
-  -- and after a command
+  -- and of what stands behind a command
   after-command : {A : Type 0} (f : List ℕ → List A) (g : List Str → List A) → Agree f g → (at : ℕ) (x : Str) (xs : List Str)
       → CommandsFrom s at (x ∷ xs) → Whole x → AllWhole xs
       → f (commandPlaces (at + length x) xs) ≡ g xs

@@ -42,7 +42,7 @@ then-passes : {v w : Verdict} → v ≡ pass → w ≡ pass → (v then w) ≡ p
 unfolding _then_
 then-passes e f = rw (e, f)
 
--- what is put together from two passes where each passes if the other does
+-- two passes, one after the other: where each of these passes if the other did, so do both
 then-mono : (v w v' w' : Verdict) → (v ≡ pass → v' ≡ pass) → (w ≡ pass → w' ≡ pass) → (v then w) ≡ pass → (v' then w') ≡ pass
 then-mono v w v' w' f g h = let k = then-pass v w h in then-passes (f (k .0)) (g (k .1))
 

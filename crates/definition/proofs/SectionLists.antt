@@ -169,7 +169,7 @@ module _ {A : Type 0} (over : ℕ → Bool) (b : ℕ) (g : Str → List Str → 
     listed-closed e (x ∷ xs) =
         ap₂ (λ (h : A) (l : List A). cond (eqb (number x) b) (h ∷ l) (cond (over (number x)) l [])) (same x xs) (listed-closed e xs)
 
-    -- a list that goes on
+    -- a list that no command of the first stretch ends
     listed-through : (s : List Str) → ((x : Str) → List·Memᴰ x s → (eqb (number x) b || over (number x)) ≡ true)
         → listedIn over b g (s ++ t) ≡ listedIn over b g s ++ listedIn over b g t
     unfolding listedIn
@@ -184,7 +184,7 @@ module _ {A : Type 0} (over : ℕ → Bool) (b : ℕ) (g : Str → List Str → 
         go false true k r = r
         go false false k r = absurd (false≢true k)
 
-  -- the parts of a section, one after the other
+  -- what a list holds of a section is what it holds of the fields and of each part
   module _ (k : Part) (part : partNumber k ≡ b) (on : allOf (λ (n : ℕ). eqb n b || over n) (bodyNumbers k) ≡ true)
       (same : (t : List Str) → StartsWith (partNumber k ∷ []) t → (x : Str) (xs : List Str) → g x (xs ++ t) ≡ g x xs) where
     goes-on : (s : List Str) → areCommands (bodyNumbers k) s ≡ true → (x : Str) → List·Memᴰ x s → (eqb (number x) b || over (number x)) ≡ true
@@ -252,7 +252,7 @@ module _ {A : Type 0} (b : ℕ) (g : Str → List Str → A) where
   moved-equal h s t (parts-moved k x fs ps qs i j l p) =
       none-moved k (h k) x fs ps i j l ∙ sym (none-moved k (h k) x fs qs i j (all-perm (isPart k) p l))
 
-  -- the list of the sections of which a part is, their elements up to a relation
+  -- a list whose elements have parts: they are related, whatever the order of the parts
   module _ (R : A → A → Type 0) (same : (x : A) → R x x) (k : Part) (its : sectionNumber k ≡ b) (alone : Without b (bodyNumbers k))
       (others : (j : Part) → (j ≡ k) ⊎ Without b (ownNumbers j))
       (moved : (x : Str) (fs : List Str) (ps qs : List (List Str)) → areCommands (fieldNumbers k) fs ≡ true → allOf (isPart k) ps ≡ true → List·Permᴰ ps qs

@@ -1,4 +1,5 @@
--- Every record that can be read is its head, whole sections and the end. Assumes nothing.
+-- Every record that can be read is its head, whole sections and the end, and its enums, bit fields and families are made of their parts.
+-- Assumes nothing.
 use mathlib.Core.Path.{_≡_, refl, sym, _∙_, ap, ap₂, subst}
 use mathlib.Core.List.{List, [], _∷_, _++_, flatten, List·Memᴰ, List·Memᴰ·head, List·Memᴰ·tail, List·Memᴰ·not-nil}
 use mathlib.Core.Option.{Option, none, some}

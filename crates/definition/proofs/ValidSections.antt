@@ -145,8 +145,8 @@ module _ (side : Side) (n : ℕ) where
         let i = both (isCommand insiders x) _ c in
         let m = both (mayStand (cursorAfter l (parentOf k)) (number x)) _ v in
         let o = one-of (λ (b : ℕ). not (mayStand (cursorAfter l (parentOf k)) b) || any (eqb b) (bodyNumbers k)) insiders
-            (one-of (λ (j : ℕ). allOf (λ (b : ℕ). not (mayStand (cursorAfter j (parentOf k)) b) || any (eqb b) (bodyNumbers k)) insiders) (ownNumbers k) (only-body k) l h)
-            (number x) (its-number insiders x (i .0)) in
+        (one-of (λ (j : ℕ). allOf (λ (b : ℕ). not (mayStand (cursorAfter j (parentOf k)) b) || any (eqb b) (bodyNumbers k)) insiders) (ownNumbers k) (only-body k) l h)
+        (number x) (its-number insiders x (i .0)) in
         let b : any (eqb (number x)) (bodyNumbers k) ≡ true = sym (ap (λ (t : Bool). not t || any (eqb (number x)) (bodyNumbers k)) (m .0)) ∙ o in
         let next = inside-next x b l (parentOf k) (h, refl) in
         rw (again insiders (bodyNumbers k) x (i .0) b)

@@ -65,7 +65,7 @@ module _ (side : Side) (n : ℕ) (s : Str) (at : ℕ) (x : Str) (xs : List Str) 
   abbrev OwnFaults : ℕ → Type 0
   OwnFaults b = number x ≡ b → faultsOf side n (drop at s) (operands b) ≡ faultsOf side n x (operands b)
 
-  -- one of them, and those behind it
+  -- so it is for one more number, where it is computed on as many cells
   own : (b w : ℕ) {bs : List ℕ} → widthOf b ≡ w
       → ((f : ℕ → ℕ) (t : Str) → faultsOf side n (cells w f ++ t) (operands b) ≡ faultsOf side n (cells w f) (operands b))
       → EachNumber OwnFaults bs → EachNumber OwnFaults (b ∷ bs)

@@ -48,7 +48,7 @@ openers = 2 ∷ 3 ∷ 4 ∷ 6 ∷ 8 ∷ 9 ∷ 13 ∷ 14 ∷ []
 unfoldable pub insiders : List ℕ
 insiders = 5 ∷ 7 ∷ 10 ∷ 11 ∷ 12 ∷ []
 
--- a section, as 02 and this request use the word: a command that begins one, and all commands inside it
+-- a section, as 02 uses the word: a command that begins one, and all commands inside it
 unfoldable pub isSection : List Str → Bool
 isSection = isGroup openers insiders
 
@@ -80,7 +80,7 @@ partNumber value = 5
 partNumber member = 7
 partNumber variant = 10
 
--- what goes with either and keeps its order: the fields, with their plugin keys, of a family and of a variant
+-- the commands that go with a section or a part and keep their order: the fields of a family or a variant, with their plugin keys
 unfoldable pub fieldNumbers : Part → List ℕ
 fieldNumbers value = []
 fieldNumbers member = []
