@@ -175,19 +175,20 @@ module _ {A : Type 0} (s : Str) (over : ℕ → Bool) (b : ℕ) (f : ℕ → Lis
   unfolding listed listedIn commandPlaces
   listed-run at [] h c = refl
   listed-run at (x ∷ xs) h c =
-      go (number x) refl (number-here s at x xs h (c x (List·Memᴰ·head refl)))
-      (listed-run (at + length x) xs (next-here s at x xs h (c x (List·Memᴰ·head refl))) (λ z m. c z (List·Memᴰ·tail m)))
+      ap (λ (k : ℕ). cond (eqb k b) (f at ps ∷ listed s over b f ps) (cond (over k) (listed s over b f ps) [])) (number-here s at x xs h y)
+      ∙ hit (eqb (number x) b) refl (listed-run (at + length x) xs (next-here s at x xs h y) (λ z m. c z (List·Memᴰ·tail m)))
     where
-      go : (n : ℕ) → number x ≡ n → getD s at 0 ≡ n → listed s over b f (commandPlaces (at + length x) xs) ≡ listedIn over b g xs
-          → cond (eqb (getD s at 0) b) (f at (commandPlaces (at + length x) xs) ∷ listed s over b f (commandPlaces (at + length x) xs)) (cond (over (getD s at 0)) (listed s over b f (commandPlaces (at + length x) xs)) [])
-          ≡ cond (eqb (number x) b) (g x xs ∷ listedIn over b g xs) (cond (over (number x)) (listedIn over b g xs) [])
-      go n e k r = rw (e, k) (hit (eqb n b) refl)
-        where
-          hit : (t : Bool) → eqb n b ≡ t
-              → cond t (f at (commandPlaces (at + length x) xs) ∷ listed s over b f (commandPlaces (at + length x) xs)) (cond (over n) (listed s over b f (commandPlaces (at + length x) xs)) [])
-              ≡ cond t (g x xs ∷ listedIn over b g xs) (cond (over n) (listedIn over b g xs) [])
-          hit true q = ap₂ _∷_ (same at x xs h (c x (List·Memᴰ·head refl)) (λ z m. c z (List·Memᴰ·tail m)) (e ∙ eqb-true n b q)) r
-          hit false q = ap (λ (l : List A). cond (over n) l []) r
+      y : Whole x
+      y = c x (List·Memᴰ·head refl)
+
+      ps : List ℕ
+      ps = commandPlaces (at + length x) xs
+
+      hit : (t : Bool) → eqb (number x) b ≡ t → listed s over b f ps ≡ listedIn over b g xs
+          → cond t (f at ps ∷ listed s over b f ps) (cond (over (number x)) (listed s over b f ps) [])
+          ≡ cond t (g x xs ∷ listedIn over b g xs) (cond (over (number x)) (listedIn over b g xs) [])
+      hit true q r = ap₂ _∷_ (same at x xs h y (λ z m. c z (List·Memᴰ·tail m)) (eqb-true (number x) b q)) r
+      hit false q r = ap (λ (l : List A). cond (over (number x)) l []) r
 
 -- the lists of a record, over its commands and its pool
 module _ (p : Str) where

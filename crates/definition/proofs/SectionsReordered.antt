@@ -85,7 +85,10 @@ opened-run : (s p : Str) (at : ℕ) (xs : List Str) → CommandsFrom s at xs →
 unfolding opened theOpened commandPlaces openedAt cells textAt optText optTextAt flagAt u16At widthOf widthWith widths wide operands bytes
 opened-run s p at [] h c = refl
 opened-run s p at (x ∷ xs) h c =
-    go (number x) refl (number-here s at x xs h y) (fields-agree s p (at + length x) xs (next-here s at x xs h y) (λ z m. c z (List·Memᴰ·tail m)))
+    ap (λ (b : ℕ). named (cond (eqb b 9) (family-here ∷ opened s p ps) (cond (eqb b 8 || eqb b 10) (here ∷ opened s p ps) (opened s p ps))))
+    (number-here s at x xs h y)
+    ∙ pick (eqb (number x) 9) refl (eqb (number x) 8 || eqb (number x) 10)
+    (fields-agree s p (at + length x) xs (next-here s at x xs h y) (λ z m. c z (List·Memᴰ·tail m)))
     (opened-run s p (at + length x) xs (next-here s at x xs h y) (λ z m. c z (List·Memᴰ·tail m)))
   where
     y : Whole x
@@ -97,26 +100,22 @@ opened-run s p at (x ∷ xs) h c =
     named : List Opened → List (List Field)
     named l = map (λ (o : Opened). o .fields) l
 
+    here : Opened
+    here = record { place = at; fields = fields s p ps }
+
+    family-here : Opened
+    family-here = record { place = at; fields = prefix (familyOf p (familyAt (drop at s)) [] []) ++ fields s p ps }
+
     family : number x ≡ 9 → familyAt (drop at s) ≡ familyAt x
     family e = own-bytes 9 17 refl familyAt (λ f t. refl) s at x xs h y e
 
-    go : (n : ℕ) → number x ≡ n → getD s at 0 ≡ number x → fields s p ps ≡ theFields p xs → named (opened s p ps) ≡ theOpened p xs
-        → named (cond (eqb (getD s at 0) 9) (record { place = at; fields = prefix (familyOf p (familyAt (drop at s)) [] []) ++ fields s p ps } ∷ opened s p ps)
-        (cond (eqb (getD s at 0) 8 || eqb (getD s at 0) 10) (record { place = at; fields = fields s p ps } ∷ opened s p ps) (opened s p ps)))
-        ≡ cond (eqb (number x) 9) ((prefix (familyOf p (familyAt x) [] []) ++ theFields p xs) ∷ theOpened p xs)
-        (cond (eqb (number x) 8 || eqb (number x) 10) (theFields p xs ∷ theOpened p xs) (theOpened p xs))
-    go n e k f r =
-        ap (λ (b : ℕ). named (cond (eqb b 9) (record { place = at; fields = prefix (familyOf p (familyAt (drop at s)) [] []) ++ fields s p ps } ∷ opened s p ps)
-        (cond (eqb b 8 || eqb b 10) (record { place = at; fields = fields s p ps } ∷ opened s p ps) (opened s p ps)))) k
-        ∙ pick (eqb (number x) 9) refl (eqb (number x) 8 || eqb (number x) 10)
-      where
-        pick : (u : Bool) → eqb (number x) 9 ≡ u → (v : Bool)
-            → named (cond u (record { place = at; fields = prefix (familyOf p (familyAt (drop at s)) [] []) ++ fields s p ps } ∷ opened s p ps)
-            (cond v (record { place = at; fields = fields s p ps } ∷ opened s p ps) (opened s p ps)))
-            ≡ cond u ((prefix (familyOf p (familyAt x) [] []) ++ theFields p xs) ∷ theOpened p xs) (cond v (theFields p xs ∷ theOpened p xs) (theOpened p xs))
-        pick true q v = λ i. (prefix (familyOf p (family (eqb-true (number x) 9 q) i) [] []) ++ f i) ∷ r i
-        pick false q true = ap₂ _∷_ f r
-        pick false q false = r
+    pick : (u : Bool) → eqb (number x) 9 ≡ u → (v : Bool) → fields s p ps ≡ theFields p xs → named (opened s p ps) ≡ theOpened p xs
+        → named (cond u (family-here ∷ opened s p ps) (cond v (here ∷ opened s p ps) (opened s p ps)))
+        ≡ cond u ((prefix (familyOf p (familyAt x) [] []) ++ theFields p xs) ∷ theOpened p xs)
+        (cond v (theFields p xs ∷ theOpened p xs) (theOpened p xs))
+    pick true q v f r = λ i. (prefix (familyOf p (family (eqb-true (number x) 9 q) i) [] []) ++ f i) ∷ r i
+    pick false q true f r = ap₂ _∷_ f r
+    pick false q false f r = r
 
 -- no type is vast
 abbrev large-in : Schema → List Field → Bool
