@@ -170,7 +170,8 @@ listedIn over b g [] = []
 listedIn over b g (x ∷ xs) = cond (eqb (number x) b) (g x xs ∷ listedIn over b g xs) (cond (over (number x)) (listedIn over b g xs) [])
 
 module _ {A : Type 0} (s : Str) (over : ℕ → Bool) (b : ℕ) (f : ℕ → List ℕ → A) (g : Str → List Str → A)
-    (same : (at : ℕ) (x : Str) (xs : List Str) → CommandsFrom s at (x ∷ xs) → Whole x → AllWhole xs → number x ≡ b → f at (commandPlaces (at + length x) xs) ≡ g x xs) where
+    (same : (at : ℕ) (x : Str) (xs : List Str) → CommandsFrom s at (x ∷ xs) → Whole x → AllWhole xs
+    → number x ≡ b → f at (commandPlaces (at + length x) xs) ≡ g x xs) where
   listed-run : (at : ℕ) (xs : List Str) → CommandsFrom s at xs → AllWhole xs → listed s over b f (commandPlaces at xs) ≡ listedIn over b g xs
   unfolding listed listedIn commandPlaces
   listed-run at [] h c = refl
@@ -343,7 +344,8 @@ module _ (s p : Str) where
   families-agree : Agree (families s p) (theFamilies p)
   unfolding families theFamilies cells textAt optText optTextAt flagAt optNumberAt u16At u32At u64At widthOf widthWith widths wide operands bytes
   families-agree = listed-run s anything 9 _ _ (λ at x xs h c r e.
-      λ i. familyOf p (own-bytes 9 17 refl familyAt (λ f t. refl) s at x xs h c e i) (after-command (fields s p) (theFields p) fields-agree at x xs h c r i) (after-command (variants s p) (theVariants p) variants-agree at x xs h c r i))
+      λ i. familyOf p (own-bytes 9 17 refl familyAt (λ f t. refl) s at x xs h c e i)
+      (after-command (fields s p) (theFields p) fields-agree at x xs h c r i) (after-command (variants s p) (theVariants p) variants-agree at x xs h c r i))
 
   pub schema-run : (w : List Scalar) (at : ℕ) (xs : List Str) → CommandsFrom s at xs → AllWhole xs
       → schemaFrom (rec s p w) (commandPlaces at xs) ≡ theSchema p w xs

@@ -142,7 +142,11 @@ module _ (side : Side) (n : ℕ) (s : Str) where
           let r = ih (moved c b w) qs (ap (parse k side s n) m ∙ h) in (
             x ∷ r .0,
             f .rest ∙ ap (λ (t : Str). x ++ t) (ap (λ (j : ℕ). drop (c .at + j) s) l ∙ r .1),
-            and-more x (r .0) (record { wide = f .wide; known = ap (λ (j : ℕ). any (eqb j) commandNumbers) (f .is-number) ∙ known-number b (p .row) (p .has-row) g }) (r .2),
+            and-more x (r .0) (record {
+              wide = f .wide;
+              known = ap (λ (j : ℕ). any (eqb j) commandNumbers) (f .is-number)
+                  ∙ known-number b (p .row) (p .has-row) g;
+            }) (r .2),
           )
 
       go : ((d : Cursor) (qs : List ℕ) → parse k side s n d ≡ ok qs → (xs : List Str) × CommandsFrom s (d .at) xs × AllWhole xs) → (j : Judged)
@@ -228,7 +232,8 @@ none-before : (side : Side) (n : ℕ) (fs zs : List Str) → areCommands insider
 unfolding areCommands allOf valid
 none-before side n [] zs h e = refl
 none-before side n (f ∷ fs) zs h e =
-    absurd (false≢true (sym (no-stand (number f) (its-number insiders f (both (isCommand insiders f) _ h .0))) ∙ both (mayStand (cursorAfter 1 NoParent) (number f)) _ e .0))
+    absurd (false≢true (sym (no-stand (number f) (its-number insiders f (both (isCommand insiders f) _ h .0)))
+    ∙ both (mayStand (cursorAfter 1 NoParent) (number f)) _ e .0))
 
 sectioned : (side : Side) (r : Rec) (n : ℕ) (xs : List Str) → r .stream ≡ streamOf xs → AllWhole xs → valid side n 0 NoParent xs ≡ true → Sectioned r
 unfolding isSection valid parentAfter any
@@ -237,7 +242,8 @@ sectioned side r n (x ∷ xs) e c h =
     let w = c x (List·Memᴰ·head refl) in
     let m = both (mayStand (cursorAfter 0 NoParent) (number x)) _ h in
     let one : number x ≡ 1 = eqb-true (number x) 1 (sym (head-first (number x) (w .known)) ∙ m .0) in
-    let valid-here : valid side n 1 NoParent xs ≡ true = subst (λ (k : ℕ). valid side n k (parentAfter NoParent k) xs ≡ true) one (both (faultless side n x) _ (m .1) .1) in
+    let valid-here : valid side n 1 NoParent xs ≡ true = subst (λ (k : ℕ). valid side n k (parentAfter NoParent k) xs ≡ true) one
+    (both (faultless side n x) _ (m .1) .1) in
     let g = grouped openers insiders xs (each-command side n 1 NoParent xs refl (λ y i. c y (List·Memᴰ·tail i)) valid-here) in
     let bare = none-before side n (g .front) (flatten (g .groups)) (g .are-inside) (ap (valid side n 1 NoParent) (g .together) ∙ valid-here) in
     record {

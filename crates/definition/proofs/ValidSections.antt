@@ -29,7 +29,8 @@ module _ (side : Side) (n : ℕ) where
     valid-append (x ∷ xs) keep l p i =
         ap (λ (b : Bool). mayStand (cursorAfter l p) (number x) && (faultless side n x && b))
         (valid-append xs (λ y m. keep y (List·Memᴰ·tail m)) (number x) (parentAfter p (number x)) (keep x (List·Memᴰ·head refl) l p i))
-        ∙ ap (λ (b : Bool). mayStand (cursorAfter l p) (number x) && b) (sym (and-assoc (faultless side n x) _ _)) ∙ sym (and-assoc (mayStand (cursorAfter l p) (number x)) _ _)
+        ∙ ap (λ (b : Bool). mayStand (cursorAfter l p) (number x) && b) (sym (and-assoc (faultless side n x) _ _))
+        ∙ sym (and-assoc (mayStand (cursorAfter l p) (number x)) _ _)
 
   -- sections --------------------------------------------------------------------------------------------------------------
 
@@ -37,7 +38,15 @@ module _ (side : Side) (n : ℕ) where
   opener-stands : (b : ℕ) → any (eqb b) openers ≡ true → (l : ℕ) (p : Parent) → eqb l 0 ≡ false → mayStand (cursorAfter l p) b ≡ true
   unfolding mayStand openers allOf
   opener-stands b h l p z =
-      rw (differs openers 1 refl b h, differs openers 5 refl b h, differs openers 7 refl b h, differs openers 10 refl b h, differs openers 11 refl b h, differs openers 12 refl b h, z)
+      rw (
+        differs openers 1 refl b h,
+        differs openers 5 refl b h,
+        differs openers 7 refl b h,
+        differs openers 10 refl b h,
+        differs openers 11 refl b h,
+        differs openers 12 refl b h,
+        z,
+      )
 
   opener-parent : (b : ℕ) → any (eqb b) openers ≡ true → (p q : Parent) → parentAfter p b ≡ parentAfter q b
   unfolding parentAfter openers allOf
@@ -205,7 +214,8 @@ module _ (side : Side) (n : ℕ) where
   moved-valid : (s t : List Str) → PartsMoved s t → validAlone s ≡ true → validAlone t ≡ true
   moved-valid s t (as-it-is e) h = sym (ap validAlone e) ∙ h
   moved-valid s t (parts-moved k x fs ps qs i j l q) h =
-      valid-after (sectionNumber k) (parentOf k) (section-parent k) x (fs ++ flatten ps) (fs ++ flatten qs) (is-number (sectionNumber k) x i) (parts-valid k fs ps qs j l q) 1 h
+      valid-after (sectionNumber k) (parentOf k) (section-parent k) x (fs ++ flatten ps) (fs ++ flatten qs)
+      (is-number (sectionNumber k) x i) (parts-valid k fs ps qs j l q) 1 h
 
   all-valid : {a b : List (List Str)} → Forall₂ PartsMoved a b → allOf validAlone a ≡ true → allOf validAlone b ≡ true
   unfolding allOf
