@@ -147,7 +147,8 @@ module _ (c d r q : Schema) (oc : Permuted c d) (or : Permuted r q) (nc : NoneTw
   unfolding checkBitfieldReleases checkBitfieldArrived checkMembersArrived checkMemberArrived
   bitfield-releases-pass t = each-shuffled (checkBitfieldArrived t (r .bitfields)) (checkBitfieldArrived t (q .bitfields)) (oc .bitfields) (λ w v s.
       then-mono _ _ _ _
-      (λ h. sym (λ i. checkArrived t (aBitfield (s .name i)) (required (s .since i)) ((bits-released (w .name) ∙ ap (λ (n : Str). bitfieldRelease (bitfieldIn n (q .bitfields))) (s .name)) i)) ∙ h)
+      (λ h. sym (λ i. checkArrived t (aBitfield (s .name i)) (required (s .since i))
+      ((bits-released (w .name) ∙ ap (λ (n : Str). bitfieldRelease (bitfieldIn n (q .bitfields))) (s .name)) i)) ∙ h)
       (each-perm _ _ (s .members) (λ m h.
       sym (λ i. checkArrived t (within (s .name i) (m .name)) (orElse (m .since) (required (s .since i)))
       ((member-released (w .name) (m .name) ∙ ap (λ (n : Str). memberRelease (bitfieldIn n (q .bitfields)) (m .name)) (s .name)) i)) ∙ h)))
@@ -217,7 +218,8 @@ module _ (c d r q : Schema) (oc : Permuted c d) (or : Permuted r q) (nc : NoneTw
     enum-arrivals = each-shuffled (checkEnumArrival t copy (r .enums)) (checkEnumArrival t copy (q .enums)) (oc .enums) (λ w v s.
         ensure-mono (not (w .api)) (not (v .api)) _ _ (ap not (s .api)) (found-by pass pass _ _ (s .since) (λ k. k) (λ names.
         then-mono _ _ _ _
-        (λ h. sym (λ i. checkArrival t copy (anEnum (s .name i)) names ((enum-released (w .name) ∙ ap (λ (n : Str). enumRelease (apiEnum n (q .enums))) (s .name)) i)) ∙ h)
+        (λ h. sym (λ i. checkArrival t copy (anEnum (s .name i)) names
+        ((enum-released (w .name) ∙ ap (λ (n : Str). enumRelease (apiEnum n (q .enums))) (s .name)) i)) ∙ h)
         (each-perm _ _ (s .values) (λ x h. sym (value-arrival w v s x) ∙ h)))))
 
     first-releases-pass : checkFirstReleases t copy (c .constants) (r .constants) (c .enums) (r .enums)
@@ -338,7 +340,8 @@ module _ (c d r q : Schema) (oc : Permuted c d) (or : Permuted r q) (nc : NoneTw
       (then-mono _ _ _ _ bitfields-pass
       (then-mono _ _ _ _ (λ h. subst (λ (t : Str). checkBitfieldReleases t (d .bitfields) (q .bitfields) ≡ pass) now (bitfield-releases-pass (required (c .release)) h))
       (then-mono _ _ _ _ (λ h. ap₂ checkFields (sym (types-same c d oc nc)) (sym (types-same r q or nr)) ∙ h)
-      (then-mono _ _ _ _ (λ h. ap₂ (checkStandalone (d .families) (q .families)) (sym (types-same c d oc nc)) (sym (types-same r q or nr)) ∙ standalone-pass (types c) (types r) h)
+      (then-mono _ _ _ _ (λ h. ap₂ (checkStandalone (d .families) (q .families)) (sym (types-same c d oc nc)) (sym (types-same r q or nr))
+      ∙ standalone-pass (types c) (types r) h)
       (then-mono _ _ _ _ (λ h. sym generations ∙ h) (λ h. h)))))))))
     where
       now : required (c .release) ≡ required (d .release)
@@ -355,7 +358,8 @@ module _ (c d r q : Schema) (oc : Permuted c d) (or : Permuted r q) (nc : NoneTw
           ≡ checkGenerations (required (d .release)) (q .release) (d .versions) (typesIn d) (d .constants) (q .constants) (changed (types d) (types q))
       generations =
           generations-same (required (c .release)) (r .release) (changed (types c) (types r))
-          ∙ (λ i. checkGenerations (now i) (or .release i) (d .versions) (typesIn d) (d .constants) (q .constants) (changed (types-same c d oc nc i) (types-same r q or nr i)))
+          ∙ (λ i. checkGenerations (now i) (or .release i) (d .versions) (typesIn d) (d .constants) (q .constants)
+          (changed (types-same c d oc nc i) (types-same r q or nr i)))
 
   -- the pair passes in the one order if it does in the other
   pub compare-on : compare c r ≡ pass → compare d q ≡ pass
