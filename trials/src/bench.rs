@@ -44,7 +44,7 @@ impl fmt::Display for Row {
 }
 
 /// The room for text that the programs lend.
-fn room() -> Vec<u8> {
+pub fn room() -> Vec<u8> {
     vec![0; oracle::answers::ROOM]
 }
 
@@ -65,7 +65,7 @@ fn check(input: &Input, number: u32) -> Row {
 }
 
 /// The room for a record's list: the programs', or as much as the list asks for.
-fn room_for(now: Record) -> Vec<u8> {
+pub fn room_for(now: Record) -> Vec<u8> {
     let mut out = room();
     let asked = menqachu::list(now, menqachu::Side::Current, &mut out);
     out.resize(out.len().max(asked.len), 0);
@@ -99,13 +99,18 @@ fn owner(input: &Input) -> Row {
     asked(input, &pair.current)
 }
 
-/// The same on a record that has a byte after its end: it is read from the front to the end and refused, so this is the time
-/// of reading, but for number 9.
-fn reading(input: &Input) -> Row {
+/// A record with a byte after its end: it is read from the front to the end and refused, so the time of the owner call on it
+/// is the time of reading, but for number 9.
+pub fn refused_at_its_end(record: &Encoded) -> Encoded {
+    let mut given = record.clone();
+    given.stream.push(0);
+    given
+}
+
+fn reading(input: &Input, name: String) -> Row {
     let mut given = input.clone();
-    given.name = format!("{}, refused at its end", input.name);
-    let mut current = input.records().current;
-    current.stream.push(0);
+    given.name = name;
+    let current = refused_at_its_end(&input.records().current);
     let answer = menqachu::owner(record(&current), input.asked.as_bytes());
     let place = current.stream.len() - 1;
     assert!(matches!(answer, menqachu::Owner::Refused { place: at, .. } if at == place), "{}", given.name);
@@ -128,68 +133,102 @@ fn row(call: &'static str, input: &Input, current: &Encoded, [ours, theirs, buil
     Row { call, input: input.name.clone(), bytes: current.stream.len(), ours, theirs, build, grown: None }
 }
 
-/// Lines of one input in growing sizes.
-fn series(sizes: &[usize], input: fn(usize) -> Input, measure: fn(&Input) -> Row) {
-    let mut before: Option<f64> = None;
-    for &kib in sizes {
-        let mut given = input(kib * 1_024);
-        given.name = format!("{}, {kib} KiB", given.name);
-        let mut row = measure(&given);
-        row.grown = before.map(|before| row.ours / before);
-        before = Some(row.ours);
-        println!("{row}");
+/// A call that is measured.
+#[derive(Clone, Copy)]
+pub enum Call {
+    /// The check, whose answer has this number.
+    Check {
+        number: u32,
+    },
+    List,
+    Owner,
+    /// The owner call on a record that is refused at its end.
+    Reading,
+}
+
+impl Call {
+    pub fn name(self) -> &'static str {
+        match self {
+            Call::Check { .. } => "check",
+            Call::List => "list",
+            Call::Owner | Call::Reading => "owner",
+        }
     }
 }
 
-fn accepted(input: &Input) -> Row {
-    check(input, 0)
+const ACCEPTED: Call = Call::Check { number: 0 };
+
+/// A call on an input; `grows` where the case before is the same in another size.
+pub struct Case {
+    pub call: Call,
+    pub input: Input,
+    grows: bool,
+}
+
+impl Case {
+    fn of(call: Call, input: Input) -> Case {
+        Case { call, input, grows: false }
+    }
+
+    pub fn name(&self) -> String {
+        match self.call {
+            Call::Reading => format!("{}, refused at its end", self.input.name),
+            _ => self.input.name.clone(),
+        }
+    }
+
+    fn measured(&self) -> Row {
+        match self.call {
+            Call::Check { number } => check(&self.input, number),
+            Call::List => list(&self.input),
+            Call::Owner => owner(&self.input),
+            Call::Reading => reading(&self.input, self.name()),
+        }
+    }
+}
+
+/// One call on one input in growing sizes.
+fn series(call: Call, sizes: &[usize], input: fn(usize) -> Input) -> Vec<Case> {
+    let sized = |(at, &kib): (usize, &usize)| {
+        let mut given = input(kib * 1_024);
+        given.name = format!("{}, {kib} KiB", given.name);
+        Case { call, input: given, grows: at > 0 }
+    };
+    sizes.iter().enumerate().map(sized).collect()
+}
+
+/// All that is measured, in the order of the table.
+pub fn cases() -> Vec<Case> {
+    let mut cases = Vec::new();
+    for call in [ACCEPTED, Call::List, Call::Owner, Call::Reading] {
+        cases.extend(inputs::named().into_iter().map(|input| Case::of(call, input)));
+    }
+    for input in inputs::named() {
+        cases.push(Case::of(Call::Check { number: 15 }, input.clone().unraised()));
+        cases.push(Case::of(Call::Check { number: 17 }, input.late()));
+    }
+    for call in [ACCEPTED, Call::List, Call::Owner] {
+        cases.extend(series(call, &[1, 2, 4, 8, 16, 32], inputs::realistic));
+    }
+    let sizes = [8, 16, 32];
+    let many = [inputs::shipped_variants, inputs::new_variants, inputs::fronted_variants, inputs::enums_last];
+    many.into_iter().for_each(|input| cases.extend(series(ACCEPTED, &sizes, input)));
+    for input in [inputs::owned_chain, inputs::owned_fan] {
+        cases.extend(series(ACCEPTED, &sizes, input));
+        cases.extend(series(Call::Owner, &sizes, input));
+    }
+    cases.push(Case::of(Call::Check { number: 41 }, inputs::deepest()));
+    cases.push(Case::of(Call::Owner, inputs::deepest()));
+    cases
 }
 
 pub fn run() {
     println!("{HEAD}");
-    for measure in [accepted, list, owner, reading] {
-        inputs::named().iter().for_each(|input| println!("{}", measure(input)));
+    let mut before = f64::INFINITY;
+    for case in cases() {
+        let mut row = case.measured();
+        row.grown = case.grows.then_some(row.ours / before);
+        before = row.ours;
+        println!("{row}");
     }
-    for input in inputs::named() {
-        println!("{}", check(&input.clone().unraised(), 15));
-        println!("{}", check(&input.late(), 17));
-    }
-    for measure in [accepted, list, owner] {
-        series(&[1, 2, 4, 8, 16, 32], inputs::realistic, measure);
-    }
-    let sizes = [8, 16, 32];
-    let many = [inputs::shipped_variants, inputs::new_variants, inputs::fronted_variants, inputs::enums_last];
-    many.into_iter().for_each(|input| series(&sizes, input, accepted));
-    for input in [inputs::owned_chain, inputs::owned_fan] {
-        series(&sizes, input, accepted);
-        series(&sizes, input, owner);
-    }
-    println!("{}", check(&inputs::deepest(), 41));
-    println!("{}", owner(&inputs::deepest()));
-}
-
-/// One call on one input so many times and nothing else, for a tool that counts what the code does; none where the words name
-/// no call or no input.
-pub fn repeat(call: &str, name: &str, turns: u64) -> Option<bool> {
-    let full = 32 * 1_024;
-    let hard = [inputs::fronted_variants, inputs::enums_last, inputs::owned_chain, inputs::owned_fan]
-        .map(|input| input(full));
-    let mut all = inputs::named().into_iter().chain(hard).chain([inputs::deepest()]);
-    let input = all.find(|input| input.name == name)?;
-    let pair = input.records();
-    let (now, was) = (record(&pair.current), record(&pair.released));
-    let mut out = room_for(now);
-    for _ in 0..turns {
-        let number = match call {
-            "check" => menqachu::check(now, was, &mut out).number,
-            "list" => menqachu::list(now, menqachu::Side::Current, &mut out).number,
-            "owner" => u32::from(matches!(
-                menqachu::owner(now, input.asked.as_bytes()),
-                menqachu::Owner::Named { .. }
-            )),
-            _ => return None,
-        };
-        std::hint::black_box(number);
-    }
-    Some(true)
 }

@@ -20,14 +20,16 @@ pub fn timed<T>(call: impl FnOnce() -> T) -> Duration {
     took
 }
 
-/// The nanoseconds of each call: the least mean of several runs. The calls take turns, so that all meet the same machine.
+/// The nanoseconds of each call: the least mean of several runs. The calls take turns, so that all meet the same machine, and
+/// every other run goes from the last to the first, so that none always follows the same one.
 pub fn least<const N: usize>(mut calls: [Turn; N]) -> [f64; N] {
     let turns = calls.each_mut().map(|call| turns_of(call()));
     let mut least = [f64::INFINITY; N];
-    for _ in 0..RUNS {
-        for ((call, turns), least) in calls.iter_mut().zip(turns).zip(&mut least) {
-            let total: Duration = (0..turns).map(|_| call()).sum();
-            *least = least.min(total.as_nanos() as f64 / f64::from(turns));
+    for run in 0..RUNS {
+        for nth in 0..N {
+            let at = if run % 2 == 0 { nth } else { N - 1 - nth };
+            let total: Duration = (0..turns[at]).map(|_| calls[at]()).sum();
+            least[at] = least[at].min(total.as_nanos() as f64 / f64::from(turns[at]));
         }
     }
     least

@@ -4,12 +4,16 @@
 //!     trials lists SEED COUNT            records drawn, listed as current and as released
 //!     trials owners SEED COUNT           records drawn, asked for owners
 //!     trials chains SEED COUNT           chains of offers, and what the last keeps of the first
+//!     trials sections SEED COUNT         pairs in another order of their sections, accepted as before
 //!     trials memcheck SEED COUNT         the calls on blocks of exact lengths, to be run under valgrind
 //!     trials stack                       the smallest thread that suffices for the largest records
 //!     trials fuzz SECONDS SEED [FOLDER]  a search for pairs that differ; they are written to the folder
 //!     trials bench                       the time of each call beside the Rust's
-//!     trials repeat CALL INPUT TURNS     one call on one of the measured inputs, for a tool that counts instructions
+//!     trials bench --against FOLDER      the time of each call beside that of the archive in this folder
+//!     trials repeat CALL INPUT TURNS [--against FOLDER]
+//!                                        one call on one of the measured inputs, for a tool that counts instructions
 
+mod against;
 mod bench;
 mod chains;
 mod clock;
@@ -20,7 +24,9 @@ mod inputs;
 mod kept;
 mod memcheck;
 mod mutate;
+mod other;
 mod premises;
+mod sections;
 mod stack;
 mod table;
 mod tally;
@@ -28,8 +34,10 @@ mod tally;
 use std::path::Path;
 use std::process::ExitCode;
 
-const USAGE: &str = "usage: trials checks SEED COUNT [LEAST] | trials lists|owners|chains|memcheck SEED COUNT
-       trials fuzz SECONDS SEED [FOLDER] | trials stack | trials bench | trials repeat check|list|owner INPUT TURNS";
+const USAGE: &str =
+    "usage: trials checks SEED COUNT [LEAST] | trials lists|owners|chains|sections|memcheck SEED COUNT
+       trials fuzz SECONDS SEED [FOLDER] | trials stack | trials bench [--against FOLDER]
+       trials repeat check|list|owner INPUT TURNS [--against FOLDER]";
 
 fn main() -> ExitCode {
     let words: Vec<String> = std::env::args().skip(1).collect();
@@ -48,11 +56,7 @@ fn main() -> ExitCode {
 fn run(words: &[&str]) -> Option<bool> {
     let number = |at: usize| words.get(at).and_then(|word| word.parse::<u64>().ok());
     match (*words.first()?, words.len()) {
-        ("bench", 1) => {
-            bench::run();
-            Some(true)
-        }
-        ("repeat", 4) => bench::repeat(words[1], words[2], number(3)?),
+        ("bench" | "repeat", _) => measure(words),
         ("checks", 3 | 4) => {
             let least = if words.len() == 4 { number(3)? } else { 0 };
             let pairs = differ::checks(number(1)?, number(2)?);
@@ -63,6 +67,11 @@ fn run(words: &[&str]) -> Option<bool> {
             let chains = chains::run(number(1)?, number(2)?);
             println!("{chains}");
             Some(chains.tally.differ() == 0 && chains.lost == 0)
+        }
+        ("sections", 3) => {
+            let sections = sections::run(number(1)?, number(2)?);
+            println!("{sections}");
+            Some(sections.hold())
         }
         ("fuzz", 3 | 4) => {
             let folder = words.get(3).unwrap_or(&"found");
@@ -84,4 +93,22 @@ fn run(words: &[&str]) -> Option<bool> {
         }
         _ => None,
     }
+}
+
+/// A run that measures or is measured: nothing is amiss unless an archive is asked for that is not linked.
+fn measure(words: &[&str]) -> Option<bool> {
+    match words {
+        ["bench"] => bench::run(),
+        ["bench", "--against", folder] => match other::others(folder) {
+            Some(others) => against::run(&others),
+            None => return Some(false),
+        },
+        ["repeat", call, input, turns] => against::repeat(&other::OURS, call, input, turns.parse().ok()?)?,
+        ["repeat", call, input, turns, "--against", folder] => match other::others(folder) {
+            Some(others) => against::repeat(&others, call, input, turns.parse().ok()?)?,
+            None => return Some(false),
+        },
+        _ => return None,
+    }
+    Some(true)
 }

@@ -1,4 +1,4 @@
-//! The premises of document 01 that speak of one record alone.
+//! The premises of documents 01 and 02 that speak of one record alone.
 
 use std::collections::BTreeSet;
 
@@ -21,6 +21,18 @@ pub fn hold(content: &Content) -> bool {
         && reads_as_one(content)
 }
 
+/// Whether the sections of a record may be moved as W-214 of document 02 moves them, as its proof has the premise: fields are
+/// not moved, a variant's name is in its layout's, and the plugin keys are those of structures and the unstored ones.
+pub fn once_each(content: &Content) -> bool {
+    let stored = content.structs().flat_map(|s| &s.fields).filter_map(|f| f.key.as_ref());
+    let mut lists = sections(content);
+    lists.push(stored.chain(content.keys()).map(|k| k.name.as_str()).collect());
+    lists.extend(content.enums().map(|e| e.values.iter().map(|v| v.name.as_str()).collect()));
+    lists.extend(content.bit_fields().map(|b| b.members.iter().map(|m| m.name.as_str()).collect()));
+    lists.push(slots(content));
+    lists.iter().all(|list| once(list)) && once(&layouts(content))
+}
+
 fn is_kind(word: &str) -> bool {
     PLAIN_KINDS.contains(&word) || POINTER_KINDS.contains(&word)
 }
@@ -39,17 +51,22 @@ fn fields(content: &Content) -> Vec<&Field> {
 /// The names of each section, of each parent's children, and of all plugin keys together. A family's fields begin with its front.
 fn names(content: &Content) -> Vec<Vec<&str>> {
     let keys = content.keys().chain(fields(content).into_iter().filter_map(|f| f.key.as_ref()));
-    let mut lists: Vec<Vec<&str>> = vec![
+    let mut lists = sections(content);
+    lists.push(keys.map(|k| k.name.as_str()).collect());
+    content.items.iter().for_each(|item| lists.extend(children(item)));
+    lists
+}
+
+/// The names of each section. Version entries are free.
+fn sections(content: &Content) -> Vec<Vec<&str>> {
+    vec![
         content.constants().map(|c| c.name.as_str()).collect(),
         content.aliases().map(|a| a.name.as_str()).collect(),
         content.enums().map(|e| e.name.as_str()).collect(),
         content.bit_fields().map(|b| b.name.as_str()).collect(),
         content.structs().map(|s| s.name.as_str()).collect(),
         content.families().map(|f| f.name.as_str()).collect(),
-        keys.map(|k| k.name.as_str()).collect(),
-    ];
-    content.items.iter().for_each(|item| lists.extend(children(item)));
-    lists
+    ]
 }
 
 fn children(item: &Item) -> Vec<Vec<&str>> {
@@ -108,10 +125,12 @@ fn complete(content: &Content) -> bool {
 
 #[cfg(test)]
 mod tests {
-    use oracle::generate::make::{content, family, field, integer, key, padding, scalar, slotted, structure};
+    use oracle::generate::make::{
+        content, enumeration, family, field, integer, key, padding, scalar, slotted, structure, version,
+    };
     use oracle::model::{Content, Item};
 
-    use super::hold;
+    use super::{hold, once_each};
 
     fn holds_with(items: Vec<Item>) -> bool {
         hold(&Content { items, ..content("0.9.0") })
@@ -132,6 +151,22 @@ mod tests {
         let keyed = structure("s").field(scalar("n", "u8").keyed("k", "0.8.0"));
         assert!(!holds_with(vec![keyed.into(), key("k", "0.8.0").into()]));
         assert!(!holds_with(vec![family("f").common(scalar("d", "u8")).into()]));
+    }
+
+    /// W-214 asks nothing of fields, kinds, colons and the keys of families.
+    #[test]
+    fn what_is_moved_stands_once() {
+        let holds = |items: Vec<Item>| once_each(&Content { items, ..content("0.9.0") });
+        let strange = structure("a:b").field(field("n", "padding u8")).field(scalar("n", "u8"));
+        let keyed = |name: &str| scalar(name, "u8").keyed("k", "0.8.0");
+        assert!(holds(vec![strange.into(), family("f").common(keyed("c")).into(), key("k", "0.8.0").into()]));
+        assert!(holds(vec![version("s", 1).into(), version("s", 1).into()]));
+        assert!(!holds(vec![structure("s").field(keyed("n")).into(), key("k", "0.8.0").into()]));
+        assert!(!holds(vec![integer("c", 1).into(), integer("c", 2).into()]));
+        assert!(!holds(vec![enumeration("e", 1).value("v", 1).value("v", 2).into()]));
+        assert!(!holds(vec![slotted("a", "other").into(), slotted("b", "other").into()]));
+        assert!(!holds(vec![family("f").variant("V", &[]).variant("V", &[]).into()]));
+        assert!(!holds(vec![family("a").variant(":b", &[]).into(), family("a:").variant("b", &[]).into()]));
     }
 
     #[test]

@@ -21,28 +21,28 @@ use Rattle.definition.specs.Answer.{verdictOf, answered, check}
 use Rattle.definition.proofs.Edges.{Case, failing, gives}
 
 -- writing a record: a text is where the pool has it first
-pool : Str
+unfoldable pub pool : Str
 pool = bytes "0.10.0 0.9.0 0.8.0 GEN metadata struct_ptr bitfield scalar padding enum u16 u8 head next tile skip gap new bits fam tag len m V W b x e a n"
 
-placeIn : Str → Str → ℕ
+unfoldable pub placeIn : Str → Str → ℕ
 placeIn w [] = 0
 placeIn w (b ∷ p) = cond (eqs (take (length w) (b ∷ p)) w) 0 (suc (placeIn w p))
 
-t : String → Str
+unfoldable pub t : String → Str
 unfolding pool placeIn
 t w = placeIn (bytes w) pool ∷ 0 ∷ length (bytes w) ∷ []
 
 -- an absent text, no number, and an unsigned number of four bytes
-o : Str
+unfoldable pub o : Str
 o = 255 ∷ 255 ∷ 0 ∷ []
 
-no : Str
+unfoldable pub no : Str
 no = 0 ∷ 0 ∷ 0 ∷ 0 ∷ 0 ∷ []
 
-w : ℕ → Str
+unfoldable pub w : ℕ → Str
 w n = n ∷ 0 ∷ 0 ∷ 0 ∷ []
 
-field : String → String → Str → Str → Str
+unfoldable pub field : String → String → Str → Str → Str
 unfolding t o no
 field n k ty size = 11 ∷ t n ++ t k ++ ty ++ o ++ no ++ no ++ no ++ size
 

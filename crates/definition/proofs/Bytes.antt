@@ -56,14 +56,14 @@ verdict-passed room (stop w m) h = absurd (go (leb (length m) room) h)
     go false e = omega arith
 
 -- an acceptance reads both records, and the comparison passes
-record Accepted (cur rel : Rec) : Type 0 where
-  now : Schema
-  is-now : reading Current cur ≡ read now
-  was : Schema
-  is-was : reading Released rel ≡ read was
-  passes : compare now was ≡ pass
+pub record Accepted (cur rel : Rec) : Type 0 where
+  pub now : Schema
+  pub is-now : reading Current cur ≡ read now
+  pub was : Schema
+  pub is-was : reading Released rel ≡ read was
+  pub passes : compare now was ≡ pass
 
-accepted : (room : ℕ) (cur rel : Rec) → check room cur rel .number ≡ 0 → Accepted cur rel
+pub accepted : (room : ℕ) (cur rel : Rec) → check room cur rel .number ≡ 0 → Accepted cur rel
 unfolding check answered
 accepted room cur rel h = go (reading Current cur) (reading Released rel) refl refl h
   where

@@ -14,7 +14,9 @@ use Rattle.record.specs.declared.kind.Kind.the-variants as K
 use Rattle.record.proofs.Basics.{both}
 use Rattle.layout.specs.Layout.{TypeLayout, layStruct, layFamily, layVariant, types}
 use Rattle.layout.proofs.Origin.{From, of-struct, of-family, of-variant, from-types}
+use Rattle.definition.specs.Pass.{allOf}
 use Rattle.definition.specs.Chain.{Kinded, Kinds}
+use Rattle.definition.proofs.Lists.{all-of}
 
 -- the bytes before the first space
 word : Str → Str
@@ -64,23 +66,13 @@ starts-rest K.Padding f = starts-spaced _
 starts-rest K.Text f = starts-spaced _
 starts-rest K.Other f = starts-spaced _
 
-unfoldable pub allB : {A : Type 0} → (A → Bool) → List A → Bool
-allB p [] = true
-allB p (x ∷ xs) = p x && allB p xs
-
-pub allB-mem : {A : Type 0} (p : A → Bool) (l : List A) → allB p l ≡ true → {x : A} → List·Memᴰ x l → p x ≡ true
-unfolding allB
-allB-mem p [] h m = absurd (List·Memᴰ·not-nil m)
-allB-mem p (y ∷ ys) h (List·Memᴰ·head e) = ap p e ∙ both (p y) (allB p ys) h .0
-allB-mem p (y ∷ ys) h (List·Memᴰ·tail m) = allB-mem p ys (both (p y) (allB p ys) h .1) m
-
-kinds-clean : allB clean kindWords ≡ true
-unfolding allB clean kindWords words bytes
+kinds-clean : allOf clean kindWords ≡ true
+unfolding allOf clean kindWords words bytes
 kinds-clean = refl
 
 word-kind : (f : Field) → List·Memᴰ (f .kind) kindWords → word (shapeType f) ≡ f .kind
 unfolding shapeType
-word-kind f m = word-append (f .kind) (restAs (kindOf (f .kind)) f) (allB-mem clean kindWords kinds-clean m) (starts-rest (kindOf (f .kind)) f)
+word-kind f m = word-append (f .kind) (restAs (kindOf (f .kind)) f) (all-of clean kindWords kinds-clean m) (starts-rest (kindOf (f .kind)) f)
 
 -- a place tells of the field that it comes from
 pub record Told (p : Place) : Type 0 where

@@ -15,7 +15,7 @@ use Rattle.layout.specs.Layout.{types}
 use Rattle.definition.specs.Answer.{check}
 use Rattle.definition.specs.Chain.{HasValue, HasMember, HasField, Holds, Laid, Kinds, slotsOf, Names, Governed}
 use Rattle.definition.specs.Offers.{Offer, chain, lastOf, lastAccepted, Sound, All, KeptIn, SameIn}
-use Rattle.definition.proofs.Described.{allB}
+use Rattle.definition.specs.Pass.{allOf}
 use Rattle.definition.proofs.Bytes.{nothing-lost, nothing-moved}
 use Rattle.definition.proofs.ByteEdges.{variant, begun, gap, new, entry, whole, written, says}
 use Rattle.definition.proofs.Premises.{kinded, kinded-is, named, named-is, held, held-is, governed, governed-is, laid-field, sound, all-sound}
@@ -85,15 +85,15 @@ records : List Rec
 records = first ∷ raised ∷ later ∷ []
 
 kinds : All (Sound Kinds) records
-unfolding kinded kindWords allB records first raised later schemaOf says
+unfolding kinded kindWords allOf records first raised later schemaOf says
 kinds = all-sound Kinds kinded kinded-is records refl
 
 names : All (Sound Names) records
-unfolding named slotsOf withSome allB records first raised later schemaOf says
+unfolding named slotsOf withSome allOf records first raised later schemaOf says
 names = all-sound Names named named-is records refl
 
 under : All (Sound (Governed root constant type)) records
-unfolding governed allB records first raised later schemaOf says
+unfolding governed allOf records first raised later schemaOf says
 under = all-sound (Governed root constant type) (governed root constant type) (governed-is root constant type) records refl
 
 of-accepted : (P : Rec → Type 0) → All P records → All P (chain first offers)

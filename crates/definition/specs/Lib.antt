@@ -15,3 +15,4 @@ pub mod Compare
 pub mod Answer
 pub mod Chain
 pub mod Offers
+pub mod Sections

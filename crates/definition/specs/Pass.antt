@@ -1,7 +1,7 @@
 -- How a pass is put together. 01, What a check returns: the first violation is the verdict. Assumes nothing.
 use mathlib.Core.List.{List, [], _∷_}
 use mathlib.Core.Option.{Option, none, some}
-use mathlib.Core.Bool.{Bool, true, false}
+use mathlib.Core.Bool.{Bool, true, false, _&&_}
 use Rattle.record.specs.Base.{Str, orElse}
 use Rattle.definition.specs.Verdicts.{Verdict, pass, stop}
 
@@ -33,3 +33,8 @@ module _ {A : Type 0} where
   unfoldable pub empty : List A → Bool
   empty [] = true
   empty (x ∷ xs) = false
+
+  -- a test that all elements pass
+  unfoldable pub allOf : (A → Bool) → List A → Bool
+  allOf p [] = true
+  allOf p (x ∷ xs) = p x && allOf p xs

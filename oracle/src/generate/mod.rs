@@ -10,6 +10,8 @@ pub mod heavy;
 pub mod make;
 pub mod offers;
 pub mod questions;
+pub mod sections;
+pub mod shuffle;
 pub mod steps;
 pub mod wild;
 pub mod words;

@@ -7,6 +7,8 @@ use oracle::extent::extents;
 use oracle::generate::encode::{encode, encode_spread, encode_tight};
 use oracle::generate::findings::{self, lists, owners, records};
 use oracle::generate::offers::Offers;
+use oracle::generate::sections::{doubled, sectioned};
+use oracle::generate::shuffle::{SORTS, shuffled};
 use oracle::generate::{Aim, Pair, aimed, base, faults, faulty, pair, record, stepped, wild};
 use oracle::json;
 use oracle::layout::Layout;
@@ -257,4 +259,55 @@ fn offers_follow_each_other() {
         }
     }
     assert!(accepted * 2 > offered, "{accepted} of {offered}");
+}
+
+/// The items of a content without their order, each with its parts without theirs.
+fn unordered(content: &Content) -> Vec<String> {
+    let mut items = content.items.clone();
+    for item in &mut items {
+        match item {
+            Item::Enum(e) => e.values.sort_by_key(|v| format!("{v:?}")),
+            Item::BitField(b) => b.members.sort_by_key(|m| format!("{m:?}")),
+            Item::Family(f) => f.variants.sort_by_key(|v| format!("{v:?}")),
+            _ => {}
+        }
+    }
+    let mut items: Vec<String> = items.iter().map(|item| format!("{item:?}")).collect();
+    items.sort();
+    items
+}
+
+#[test]
+fn w214_shuffled_records_say_the_same_in_another_order() {
+    let mut rng = Rng::new(214);
+    let mut moved = [0; SORTS.len()];
+    for _ in 0..400 {
+        let before = sectioned(&mut rng).current;
+        let Ok(was) = read(Side::Current, &before.stream, &before.pool) else {
+            continue;
+        };
+        let after = shuffled(&before, &mut rng);
+        assert_eq!(after.record.pool, before.pool);
+        let is = read(Side::Current, &after.record.stream, &before.pool).expect("readable");
+        assert_eq!(unordered(&is.content), unordered(&was.content));
+        assert_eq!(after.moved.contains(&true), after.record != before);
+        for (count, moved) in moved.iter_mut().zip(after.moved) {
+            *count += usize::from(moved);
+        }
+    }
+    assert!(moved.iter().all(|count| *count > 20), "{moved:?}");
+}
+
+#[test]
+fn w214_doubled_pairs_are_accepted_in_one_order_alone_at_times() {
+    let mut rng = Rng::new(7);
+    let mut changed = 0;
+    for _ in 0..200 {
+        let before = doubled(&mut rng);
+        let mut after = before.clone();
+        after.current = shuffled(&before.current, &mut rng).record;
+        let [was, is] = [before, after].map(|pair| pair.check(ROOM).number == 0);
+        changed += usize::from(was != is);
+    }
+    assert!(changed > 10, "{changed}");
 }

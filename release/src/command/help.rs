@@ -6,7 +6,7 @@ pub fn usage(help: &str) -> &str {
 }
 
 pub const COMMANDS: &str = "\
-the commands are check, chain, list, owner, diff, assemble and show
+the commands are check, chain, list, owner, diff, reordered, assemble and show
 `release --help` says what each does";
 
 pub const WHOLE: &str = "\
@@ -19,6 +19,7 @@ Checks the record of a scan-record schema against the record of the last release
   release list RECORD [--released] [--json]  where every field lies
   release owner RECORD NAME [--json]         which versioned structure a name belongs to
   release diff CURRENT RELEASED [--json]     both layouts side by side
+  release reordered ONE OTHER [--json]       whether only the order of sections differs
   release assemble TEXT > RECORD             a record from its text form
   release show RECORD                        the text form of a record
   release COMMAND --help                     more about a command
@@ -30,7 +31,8 @@ where it is given more than once, the records follow each other there. Words aft
 
 Exit status:
   0  accepted, or done
-  1  a verdict (check), or an offered record was dropped (chain)
+  1  a verdict (check), an offered record dropped (chain), or records of which it is
+     not proved that they are accepted alike (reordered)
   2  a damaged record, or a text that cannot be assembled
   3  a usage error, or a file that cannot be read or written
 ";
@@ -109,6 +111,33 @@ first current field of its name, which is the one that the check compares it wit
           current; each of the last two is null or has offset, size and description
 
 Exit status: 0 shown, 2 a damaged record, 3 a usage or file error.
+";
+
+pub const REORDERED: &str = "\
+usage: release reordered ONE OTHER [--json]
+
+Says whether two records have the same sections in another order. Whole sections
+may be moved, among those of other sorts too: constants, aliases, enums, bit fields,
+structs, families, unstored keys and version entries; and within one its values,
+members or variants, a variant with its fields. Fields are not moved. What is
+compared is what the sections say, not where their texts lie. Both records are read
+as released ones.
+
+It is proved that either is accepted where the other is, as current or as released,
+if both have one pool and no name or slot stands twice in its list or among the
+layouts, neither in them nor in the record that they are checked with. Where that
+does not cover the two the reason is printed. Where they differ the first section of
+ONE that OTHER lacks is named, or else the first of OTHER, and what differs in it.
+
+  --json  an object with the keys refusal and order, an object with answer (equal,
+          reordered or apart), covered (status 0), sections (their number), moved
+          (how many sections, values, members and variants stand at another place),
+          same_pool, same_bytes (every command is one of the other's), twice (the
+          first name that is) and apart (null, or an object with at, what, operand,
+          first and second)
+
+Exit status: 0 the proof covers them, or they are equal; 1 it does not; 2 a damaged
+record; 3 a usage or file error.
 ";
 
 pub const ASSEMBLE: &str = "\

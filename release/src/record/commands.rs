@@ -12,6 +12,8 @@ pub const FAMILY: u8 = 0x09;
 pub const VARIANT: u8 = 0x0A;
 pub const FIELD: u8 = 0x0B;
 pub const FIELD_KEY: u8 = 0x0C;
+pub const UNSTORED_KEY: u8 = 0x0D;
+pub const VERSION: u8 = 0x0E;
 pub const END: u8 = 0x0F;
 
 /// The form of an operand; the comment gives its letter in document 01.

@@ -1,16 +1,20 @@
-//! Records as bytes: their file, their commands, their numbers and their layouts.
+//! Records as bytes: their file, their commands, their numbers, their layouts and the order of their sections.
 
+pub mod apart;
 pub mod commands;
 pub mod decode;
 pub mod encode;
 pub mod layout;
 pub mod numbers;
 pub mod parts;
+pub mod reorder;
 pub mod room;
+pub mod sections;
+pub mod twice;
 
 use crate::Answer;
 
-/// Why a record has no layouts or no text form.
+/// Why a record has no layouts, no sections or no text form.
 #[derive(Clone, Copy, Debug, PartialEq, Eq)]
 pub enum Problem {
     /// The proved call refuses the record.

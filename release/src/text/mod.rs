@@ -8,4 +8,5 @@ mod words;
 mod write;
 
 pub use read::{assemble, Fault};
-pub use write::show;
+pub use tokens::{quoted, written};
+pub use write::{constant_value, line, show};

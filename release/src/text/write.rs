@@ -58,7 +58,8 @@ fn pool_lines(commands: &[Said], pool: &[u8]) -> String {
     pool.chunks(POOL_LINE).map(|bytes| format!("pool {}\n", quoted(bytes))).collect()
 }
 
-fn line(said: &Said) -> String {
+/// A command as its line has it, without blanks in front.
+pub fn line(said: &Said) -> String {
     let mut line = said.command.word.to_string();
     for (index, operand) in said.command.operands.iter().enumerate() {
         match (said.command.byte, index) {
@@ -80,7 +81,8 @@ fn release(said: &Said) -> String {
     }
 }
 
-fn constant_value(said: &Said) -> String {
+/// The value of a constant as its line has it, with the blank before it.
+pub fn constant_value(said: &Said) -> String {
     match (said.flag(1), said.text(3), said.values.get(2)) {
         (true, Some(text), _) => format!(" text={}", written(text)),
         (_, _, Some(Value::Value(value))) => format!(" {value}"),
