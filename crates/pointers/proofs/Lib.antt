@@ -1,0 +1,4 @@
+pub mod PointerLaws
+pub mod Pointing
+pub mod Fields
+pub mod Example
