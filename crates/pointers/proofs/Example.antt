@@ -23,7 +23,7 @@ use Rattle.record.specs.Judge.{ifAbsent, flagFault, operandFault, faultsFrom, f
 use Rattle.record.specs.Letters.{isLetter, oddLetter}
 use Rattle.record.specs.Reading.{rec, releaseOf, unreleasedOf, schemaFrom, openedAt, opened, large, vast, onto, continued, parse, parsed, streamLimit, poolLimit, vastOr, sizesOf, concluded, reading}
 use Rattle.layout.specs.Answer.{refusalOf}
-use Rattle.pointers.specs.Pointers.{missed, isStruct, isFamily, missedBy, fault, orNext, firstFault, pointersRead, pointers}
+use Rattle.pointers.specs.Pointers.{nameFault, isStruct, isFamily, pointeeFault, fieldFault, orNext, firstFault, pointersRead, pointers}
 
 -- writing a record: a text is where the pool has it first
 pool : Str
@@ -64,7 +64,7 @@ unfolding bytes eqs isSome orElse orOption mapOption find first any scalarIn pri
     enumSize aliasSize bitfieldSize sized scalarSize sizeAs shapeSize placeOf places plain prefix referencedAs referenced
     ifAbsent flagFault operandFault faultsFrom follows mayStand parentAfter ready judgedWith judgedAt isLetter oddLetter
     releaseOf unreleasedOf schemaFrom openedAt opened large vast onto continued parse parsed streamLimit poolLimit vastOr sizesOf concluded reading
-    refusalOf missed isStruct isFamily missedBy fault orNext firstFault pointersRead pointers stream pool t o
+    refusalOf nameFault isStruct isFamily pointeeFault fieldFault orNext firstFault pointersRead pointers stream pool t o
 says kind ty element number place =
     let a = pointers (rec (stream kind ty element) pool builtIn) in
     eqb (a .number) number && eqb (a .place) place && eqb (a .side) 0 && eqb (a .len) 0

@@ -1,4 +1,4 @@
-// What is asked of one field: a pointer to a structure names a declared structure, one to a tagged family a declared family.
+// What is asked of one field: a pointer to a structure names a declared structure, one to a tagged family a declared family (02, W-212).
 use record::cut;
 use record::index::find_declared;
 use record::kind::Kind;
@@ -12,52 +12,52 @@ ghost use mathlib.Core.Path.{_≡_};
 ghost use Rattle.record.specs.Base.{Str};
 ghost use Rattle.record.specs.Lists.{optOf};
 ghost use Rattle.record.specs.Index.{Indexed};
-ghost use Rattle.record.specs.Steps.{structsAt, familiesAt};
-ghost use Rattle.pointers.specs.Pointers.{aimOf, faultOf, isStruct, isFamily, missedBy, fault, fieldHere};
-ghost use Rattle.pointers.specs.declared.rule.Aim.the-variants.{AtStruct, AtFamily};
+ghost use Rattle.record.specs.References.{typesAt};
+ghost use Rattle.pointers.specs.Pointers.{pointeeOf, faultOf, isStruct, isFamily, pointeeFault, fieldFault, fieldHere};
+ghost use Rattle.pointers.specs.declared.rule.Pointee.the-variants.{ToStruct, ToFamily};
 
-// What a kind must name.
-pub enum Aim {
-    AtStruct,
-    AtFamily,
-    Free,
+// What a pointer of a kind must name: its pointee.
+pub enum Pointee {
+    ToStruct,
+    ToFamily,
+    Unjudged,
 }
 
-// Whether a field points where it must; else the number of the error.
+// The number of a field's error, if it has one.
 pub enum Fault {
-    Points,
-    Breaks(u32),
+    NoFault,
+    Faulty(u32),
 }
 
-// What each kind must name.
-pub fn aim_of(kind: Kind) -> Aim
-    ensures { λ r. ⌜ r ≡ aimOf kind ⌝ }
+// What a pointer of this kind must name.
+pub fn pointee_of(kind: Kind) -> Pointee
+    ensures { λ r. ⌜ r ≡ pointeeOf kind ⌝ }
 {
     match kind {
-        Kind::Scalar => Aim::Free,
-        Kind::Enum => Aim::Free,
-        Kind::TypeAlias => Aim::Free,
-        Kind::Bitfield => Aim::Free,
-        Kind::InlineArray => Aim::Free,
-        Kind::InlineArray2d => Aim::Free,
-        Kind::CstrPtr => Aim::Free,
-        Kind::StructPtr => Aim::AtStruct,
-        Kind::StructArrayPtr => Aim::AtStruct,
-        Kind::StructPtrArrayPtr => Aim::AtStruct,
-        Kind::TaggedFamPtr => Aim::AtFamily,
-        Kind::SimpleFamPtr => Aim::Free,
-        Kind::OpaquePtr => Aim::Free,
-        Kind::FnPtr => Aim::Free,
-        Kind::Padding => Aim::Free,
-        Kind::Text => Aim::Free,
-        Kind::Other => Aim::Free,
+        Kind::Scalar => Pointee::Unjudged,
+        Kind::Enum => Pointee::Unjudged,
+        Kind::TypeAlias => Pointee::Unjudged,
+        Kind::Bitfield => Pointee::Unjudged,
+        Kind::InlineArray => Pointee::Unjudged,
+        Kind::InlineArray2d => Pointee::Unjudged,
+        Kind::CstrPtr => Pointee::Unjudged,
+        Kind::StructPtr => Pointee::ToStruct,
+        Kind::StructArrayPtr => Pointee::ToStruct,
+        Kind::StructPtrArrayPtr => Pointee::ToStruct,
+        Kind::TaggedFamPtr => Pointee::ToFamily,
+        Kind::SimpleFamPtr => Pointee::Unjudged,
+        Kind::OpaquePtr => Pointee::Unjudged,
+        Kind::FnPtr => Pointee::Unjudged,
+        Kind::Padding => Pointee::Unjudged,
+        Kind::Text => Pointee::Unjudged,
+        Kind::Other => Pointee::Unjudged,
     }
 }
 
 // Whether a structure of this name is declared.
 fn is_struct(stream: &[u8], pool: &[u8], index: &[u16], name: &[u8]) -> bool
     requires { ⌜ Indexed (now stream) (now pool) (now index) ⌝ }
-    ensures { λ r. ⌜ r ≡ isStruct (structsAt (now (stream .entry)) (now (pool .entry)) 0) (now (name .entry)) ⌝ }
+    ensures { λ r. ⌜ r ≡ isStruct (typesAt (now (stream .entry)) (now (pool .entry))) (now (name .entry)) ⌝ }
 {
     let Sought::At(_, _) = find_declared(stream, pool, index, 8, name) else {
         return false;
@@ -68,7 +68,7 @@ fn is_struct(stream: &[u8], pool: &[u8], index: &[u16], name: &[u8]) -> bool
 // Whether a family of this name is declared.
 fn is_family(stream: &[u8], pool: &[u8], index: &[u16], name: &[u8]) -> bool
     requires { ⌜ Indexed (now stream) (now pool) (now index) ⌝ }
-    ensures { λ r. ⌜ r ≡ isFamily (familiesAt (now (stream .entry)) (now (pool .entry)) 0) (now (name .entry)) ⌝ }
+    ensures { λ r. ⌜ r ≡ isFamily (typesAt (now (stream .entry)) (now (pool .entry))) (now (name .entry)) ⌝ }
 {
     let Sought::At(_, _) = find_declared(stream, pool, index, 9, name) else {
         return false;
@@ -82,19 +82,19 @@ fn struct_fault(stream: &[u8], pool: &[u8], index: &[u16], named: OptText) -> Fa
     ensures { λ r.
         let s : Str = now (stream .entry) in
         let p : Str = now (pool .entry) in
-        ⌜ faultOf r ≡ missedBy (structsAt s p 0) (familiesAt s p 0) AtStruct (optOf p named) ⌝ }
+        ⌜ faultOf r ≡ pointeeFault (typesAt s p) ToStruct (optOf p named) ⌝ }
 {
     let OptText::Given(t) = named else {
-        return Fault::Breaks(59);
+        return Fault::Faulty(59);
     };
     let name = bytes_of(pool, t);
     if is_struct(stream, pool, index, name) {
-        return Fault::Points;
+        return Fault::NoFault;
     }
     if is_family(stream, pool, index, name) {
-        return Fault::Breaks(60);
+        return Fault::Faulty(60);
     }
-    Fault::Breaks(59)
+    Fault::Faulty(59)
 }
 
 // The fault of a name that must be a family's.
@@ -103,19 +103,19 @@ fn family_fault(stream: &[u8], pool: &[u8], index: &[u16], named: OptText) -> Fa
     ensures { λ r.
         let s : Str = now (stream .entry) in
         let p : Str = now (pool .entry) in
-        ⌜ faultOf r ≡ missedBy (structsAt s p 0) (familiesAt s p 0) AtFamily (optOf p named) ⌝ }
+        ⌜ faultOf r ≡ pointeeFault (typesAt s p) ToFamily (optOf p named) ⌝ }
 {
     let OptText::Given(t) = named else {
-        return Fault::Breaks(59);
+        return Fault::Faulty(59);
     };
     let name = bytes_of(pool, t);
     if is_family(stream, pool, index, name) {
-        return Fault::Points;
+        return Fault::NoFault;
     }
     if is_struct(stream, pool, index, name) {
-        return Fault::Breaks(60);
+        return Fault::Faulty(60);
     }
-    Fault::Breaks(59)
+    Fault::Faulty(59)
 }
 
 // The fault of the field whose command stands at a place. Most fields are no pointers, and of those only the kind is read.
@@ -124,12 +124,12 @@ pub(crate) fn field_fault(stream: &[u8], pool: &[u8], index: &[u16], at: usize) 
     ensures { λ r.
         let s : Str = now (stream .entry) in
         let p : Str = now (pool .entry) in
-        ⌜ faultOf r ≡ fault (structsAt s p 0) (familiesAt s p 0) (fieldHere s p at) ⌝ }
+        ⌜ faultOf r ≡ fieldFault (typesAt s p) (fieldHere s p at) ⌝ }
 {
     let field = cut::from(stream, at);
-    match aim_of(kind_of(bytes_of(pool, text_at(field, 4)))) {
-        Aim::Free => Fault::Points,
-        Aim::AtStruct => struct_fault(stream, pool, index, referenced_type(pool, field)),
-        Aim::AtFamily => family_fault(stream, pool, index, referenced_type(pool, field)),
+    match pointee_of(kind_of(bytes_of(pool, text_at(field, 4)))) {
+        Pointee::Unjudged => Fault::NoFault,
+        Pointee::ToStruct => struct_fault(stream, pool, index, referenced_type(pool, field)),
+        Pointee::ToFamily => family_fault(stream, pool, index, referenced_type(pool, field)),
     }
 }

@@ -2,62 +2,48 @@ use mathlib.Core.Path.{_≡_}
 use Prim.Native.Nat.{_-_}
 use lib.ListN.{length}
 use Rattle.record.proofs.SeekLaws.{sought-nearer}
-use Rattle.pointers.specs.Pointers.{faultIn}
+use Rattle.pointers.specs.Pointers.{faultFrom}
 use Rattle.pointers.proofs.PointerLaws.{faults-end, faults-on, faults-stop}
 use borrow.Author.Needs.{needs}
 use Rattle.pointers.proofs.check.first_fault.Statement.{statement}
 use Rattle.pointers.proofs.check.first_fault.Tie as tie
-use Rattle.pointers.proofs.check.first_fault.Reads as reads
-use Rattle.pointers.proofs.check.first_fault.Lts as lts
-use Rattle.pointers.proofs.rule.field_fault.Reads as field-fault-reads
-use Rattle.record.proofs.seek.seek.Reads as seek-reads
 
 abbrev Inv-loop : tie.InvT-loop
-Inv-loop stream pool index at₀ at = faultIn stream pool 0 ≡ faultIn stream pool at
+Inv-loop stream pool index at₀ at = faultFrom stream pool 0 ≡ faultFrom stream pool at
 
 abbrev μ-loop : tie.MeasureT-loop
 μ-loop stream pool index at₀ at = length stream - at
 
--- src/check.rt:27:5
 loop-holds : tie.Need-loop-holds Inv-loop μ-loop
 loop-holds c = search needs
 
--- src/check.rt:28:40
 seek-requires : tie.Need-seek-requires Inv-loop μ-loop
 seek-requires c κs = search needs
 
--- src/check.rt:28:24
 enum-known-place : tie.Need-enum-known-place Inv-loop μ-loop
 enum-known-place c = search needs
 
--- src/check.rt:29:13
 enum-told : tie.Need-enum-told Inv-loop μ-loop
 enum-told c = search needs
 
--- src/check.rt:29:13
 returns : tie.Need-returns Inv-loop μ-loop
 returns c = search faults-end
 
--- src/check.rt:36:40
 field-fault-requires : tie.Need-field-fault-requires Inv-loop μ-loop
 field-fault-requires c κs = search needs
 
--- src/check.rt:36:30
 enum-known-number : tie.Need-enum-known-number Inv-loop μ-loop
 enum-known-number c = search needs
 
--- src/check.rt:37:13
 returns-2 : tie.Need-returns-2 Inv-loop μ-loop
 returns-2 c = search faults-stop
 
 enum-told-2 : tie.Need-enum-told-2 Inv-loop μ-loop
 enum-told-2 c = search needs
 
--- src/check.rt:27:5
 loop-less : tie.Need-loop-less Inv-loop μ-loop
 loop-less c = search sought-nearer
 
--- src/check.rt:27:5
 loop-again : tie.Need-loop-again Inv-loop μ-loop
 loop-again c = search faults-on
 

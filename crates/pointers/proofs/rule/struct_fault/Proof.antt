@@ -2,45 +2,31 @@ use Rattle.pointers.proofs.PointerLaws.{struct-absent, struct-right, st
 use borrow.Author.Needs.{needs}
 use Rattle.pointers.proofs.rule.struct_fault.Statement.{statement}
 use Rattle.pointers.proofs.rule.struct_fault.Tie as tie
-use Rattle.pointers.proofs.rule.struct_fault.Reads as reads
-use Rattle.pointers.proofs.rule.struct_fault.Lts as lts
-use Rattle.pointers.proofs.rule.is_family.Reads as is-family-reads
-use Rattle.pointers.proofs.rule.is_struct.Reads as is-struct-reads
-use Rattle.record.proofs.text.bytes_of.Reads as bytes-of-reads
 
--- src/rule.rt:83:24
 enum-known-named : tie.Need-enum-known-named
 enum-known-named c = search needs
 
--- src/rule.rt:84:9
 enum-told : tie.Need-enum-told
 enum-told c = search needs
 
--- src/rule.rt:84:9
 returns : tie.Need-returns
 returns c = search struct-absent
 
--- src/rule.rt:86:9
 bytes-of-requires : tie.Need-bytes-of-requires
 bytes-of-requires c κs = search needs
 
--- src/rule.rt:87:8
 is-struct-requires : tie.Need-is-struct-requires
 is-struct-requires c κs = search needs
 
--- src/rule.rt:88:9
 returns-2 : tie.Need-returns-2
 returns-2 c = search struct-right
 
--- src/rule.rt:90:8
 is-family-requires : tie.Need-is-family-requires
 is-family-requires c κs = search needs
 
--- src/rule.rt:91:9
 returns-3 : tie.Need-returns-3
 returns-3 c = search struct-other
 
--- src/rule.rt:79:1
 returns-4 : tie.Need-returns-4
 returns-4 c = search struct-nothing
 
