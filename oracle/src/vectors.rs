@@ -257,9 +257,8 @@ fn pack_check(packer: &mut Packer, pair: &Pair, room: usize) {
     pack_answer(packer, &answer, room);
 }
 
-/// The file of `vectors-pointers`: `count` records, a tenth of them for 59, for
-/// 60 and for 0, and a thirtieth for each refusal. Of refusal 8 there is a long
-/// stream.
+/// The file of `vectors-pointers`: `count` records, a sixteenth of them for 0,
+/// for 59, for 60 and for each refusal. Of refusal 8 there are two.
 pub fn pointers(seed: u64, count: usize) -> Vec<u8> {
     let mut rng = Rng::new(seed);
     let mut packer = Packer::default();
@@ -270,16 +269,14 @@ pub fn pointers(seed: u64, count: usize) -> Vec<u8> {
         pack_pointers(&mut packer, &record);
     }
     let drawn = generate::pointers::record;
+    let share = count.div_ceil(16);
     for number in [0, NEITHER, OTHER] {
-        while packer.has(number, 0) < count.div_ceil(10) {
+        while packer.has(number, 0) < share {
             pack_pointers(&mut packer, &drawn(&mut rng));
         }
     }
     for number in 1..=9 {
-        let share = match number {
-            LONG => 2,
-            _ => count.div_ceil(30),
-        };
+        let share = if number == LONG { 2 } else { share };
         while packer.has(number, 0) < share {
             let record = generate::pointers::refused(number, &mut rng);
             pack_pointers(&mut packer, &record);

@@ -11,6 +11,7 @@ use oracle::values;
 use crate::clock::{least, timed};
 use crate::differ::record;
 use crate::inputs::{self, Input};
+use crate::pointers;
 use crate::table::grouped;
 
 /// A line of the table: nanoseconds a call.
@@ -166,6 +167,7 @@ pub fn run() {
     }
     println!("{}", check(&inputs::deepest(), 41));
     println!("{}", owner(&inputs::deepest()));
+    pointers::bench();
 }
 
 /// One call on one input so many times and nothing else, for a tool that counts what the code does; none where the words name
@@ -174,7 +176,7 @@ pub fn repeat(call: &str, name: &str, turns: u64) -> Option<bool> {
     let full = 32 * 1_024;
     let hard = [inputs::fronted_variants, inputs::enums_last, inputs::owned_chain, inputs::owned_fan]
         .map(|input| input(full));
-    let mut all = inputs::named().into_iter().chain(hard).chain([inputs::deepest()]);
+    let mut all = inputs::named().into_iter().chain(hard).chain([inputs::deepest(), inputs::many_pointers()]);
     let input = all.find(|input| input.name == name)?;
     let pair = input.records();
     let (now, was) = (record(&pair.current), record(&pair.released));
@@ -183,6 +185,7 @@ pub fn repeat(call: &str, name: &str, turns: u64) -> Option<bool> {
         let number = match call {
             "check" => menqachu::check(now, was, &mut out).number,
             "list" => menqachu::list(now, menqachu::Side::Current, &mut out).number,
+            "pointers" => menqachu::pointers(now).number,
             "owner" => u32::from(matches!(
                 menqachu::owner(now, input.asked.as_bytes()),
                 menqachu::Owner::Named { .. }

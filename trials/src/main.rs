@@ -3,6 +3,7 @@
 //!     trials checks SEED COUNT [LEAST]   pairs drawn, and checked; every number is to come LEAST times
 //!     trials lists SEED COUNT            records drawn, listed as current and as released
 //!     trials owners SEED COUNT           records drawn, asked for owners
+//!     trials pointers SEED COUNT         records drawn, their pointers judged
 //!     trials chains SEED COUNT           chains of offers, and what the last keeps of the first
 //!     trials memcheck SEED COUNT         the calls on blocks of exact lengths, to be run under valgrind
 //!     trials stack                       the smallest thread that suffices for the largest records
@@ -20,6 +21,7 @@ mod inputs;
 mod kept;
 mod memcheck;
 mod mutate;
+mod pointers;
 mod premises;
 mod stack;
 mod table;
@@ -28,8 +30,8 @@ mod tally;
 use std::path::Path;
 use std::process::ExitCode;
 
-const USAGE: &str = "usage: trials checks SEED COUNT [LEAST] | trials lists|owners|chains|memcheck SEED COUNT
-       trials fuzz SECONDS SEED [FOLDER] | trials stack | trials bench | trials repeat check|list|owner INPUT TURNS";
+const USAGE: &str = "usage: trials checks SEED COUNT [LEAST] | trials lists|owners|pointers|chains|memcheck SEED COUNT
+       trials fuzz SECONDS SEED [FOLDER] | trials stack | trials bench | trials repeat check|list|owner|pointers INPUT TURNS";
 
 fn main() -> ExitCode {
     let words: Vec<String> = std::env::args().skip(1).collect();
@@ -72,10 +74,11 @@ fn run(words: &[&str]) -> Option<bool> {
         }
         ("stack", 1) => Some(stack::run()),
         ("stack-of", 4) => stack::call(words[1], number(2)? as usize, number(3)? as usize),
-        (call @ ("lists" | "owners" | "memcheck"), 3) => {
+        (call @ ("lists" | "owners" | "pointers" | "memcheck"), 3) => {
             let run = match call {
                 "lists" => differ::lists,
                 "owners" => differ::owners,
+                "pointers" => pointers::run,
                 _ => memcheck::run,
             };
             let tally = run(number(1)?, number(2)?);

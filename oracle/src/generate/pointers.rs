@@ -73,9 +73,9 @@ struct Names {
 /// have names of theirs.
 pub fn content(rng: &mut Rng) -> Content {
     let names = Names {
-        structs: drawn(5, rng),
+        structs: drawn(4, rng),
         families: drawn(3, rng),
-        right: *rng.pick(&[50, 90, 98, 100, 100]),
+        right: *rng.pick(&[40, 70, 90, 100]),
     };
     let mut content = make::content("0.9.0");
     for name in &names.structs {
@@ -113,7 +113,7 @@ fn bystander(rng: &mut Rng) -> Item {
 fn structure(name: &str, names: &Names, rng: &mut Rng) -> Struct {
     Struct {
         slot: rng.chance(10).then(|| "metadata".to_string()),
-        fields: fields(5, names, rng),
+        fields: fields(4, names, rng),
         ..make::structure(name)
     }
 }
@@ -146,19 +146,19 @@ fn field(names: &Names, rng: &mut Rng) -> Field {
         element: operand(rng),
         ..make::field(&rng.word(&["p", "q", "next"]), &kind)
     };
-    if rng.chance(names.right) {
-        let fit = match kind.as_str() {
-            "tagged_fam_ptr" => &names.families,
-            _ => &names.structs,
-        };
-        let named = match kind.as_str() {
-            "struct_array_ptr" | "struct_ptr_array_ptr" => &mut field.element,
-            _ => &mut field.type_,
-        };
-        match fit.is_empty() {
-            true => field.kind = "scalar".into(),
-            false => *named = Some(rng.pick(fit).clone()),
-        }
+    let (fit, other) = match kind.as_str() {
+        "tagged_fam_ptr" => (&names.families, &names.structs),
+        _ => (&names.structs, &names.families),
+    };
+    let named = match kind.as_str() {
+        "struct_array_ptr" | "struct_ptr_array_ptr" => &mut field.element,
+        _ => &mut field.type_,
+    };
+    match rng.chance(names.right) {
+        true if fit.is_empty() => field.kind = "scalar".into(),
+        true => *named = Some(rng.pick(fit).clone()),
+        false if !other.is_empty() && rng.chance(60) => *named = Some(rng.pick(other).clone()),
+        false => {}
     }
     field.key = rng.chance(10).then(|| make::key("k", "0.8.0"));
     field

@@ -191,7 +191,7 @@ fn w212_7_kinds_by_their_whole_word() {
             .map(|r| oracle::pointers(&r.record.stream, &r.record.pool).number)
             .collect()
     };
-    // cstr_ptr, struct_ptr, struct_array_ptr, struct_ptr_array_ptr, tagged_fam_ptr, simple_fam_ptr, opaque_ptr, fn_ptr
+    // Four of the eight are judged.
     let mut judged = numbers("w212.7 a pointer's kind");
     judged.sort();
     assert_eq!(judged, [0, 0, 0, 0, 59, 59, 59, 59]);

@@ -12,6 +12,7 @@ mod json;
 mod list;
 mod output;
 mod owner;
+mod pointers;
 mod problem;
 mod rows;
 mod show;
@@ -23,7 +24,7 @@ use args::{Args, Asked, Rule};
 
 /// Accepted, or done.
 pub const DONE: u8 = 0;
-/// A verdict, or an offered record dropped.
+/// A verdict, a pointer that breaks the rule, or an offered record dropped.
 pub const STOPPED: u8 = 1;
 /// A record that is refused, or a text that is not a record's.
 pub const DAMAGED: u8 = 2;
@@ -58,11 +59,12 @@ struct Entry {
 const JSON: &[&str] = &["--json"];
 const MANY: usize = usize::MAX;
 
-static ENTRIES: [Entry; 7] = [
+static ENTRIES: [Entry; 8] = [
     Entry { rule: rule("check", help::CHECK, 2, 2, JSON), run: check::run },
     Entry { rule: rule("chain", help::CHAIN, 2, MANY, JSON), run: chain::run },
     Entry { rule: rule("list", help::LIST, 1, 1, &["--json", "--released"]), run: list::run },
     Entry { rule: rule("owner", help::OWNER, 2, 2, JSON), run: owner::run },
+    Entry { rule: rule("pointers", help::POINTERS, 1, 1, JSON), run: pointers::run },
     Entry { rule: rule("diff", help::DIFF, 2, 2, JSON), run: diff::run },
     Entry { rule: rule("assemble", help::ASSEMBLE, 1, 1, &[]), run: assemble::run },
     Entry { rule: rule("show", help::SHOW, 1, 1, &[]), run: show::run },

@@ -6,11 +6,12 @@ pub mod encode;
 pub mod layout;
 pub mod numbers;
 pub mod parts;
+pub mod pointers;
 pub mod room;
 
 use crate::Answer;
 
-/// Why a record has no layouts or no text form.
+/// Why a record has no layouts, no text form or no judged pointers.
 #[derive(Clone, Copy, Debug, PartialEq, Eq)]
 pub enum Problem {
     /// The proved call refuses the record.

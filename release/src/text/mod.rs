@@ -8,4 +8,5 @@ mod words;
 mod write;
 
 pub use read::{assemble, Fault};
+pub use tokens::written;
 pub use write::show;

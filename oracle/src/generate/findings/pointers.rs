@@ -152,70 +152,70 @@ fn orders() -> Vec<FixedRecord> {
 
 /// W-212.3: which operand names.
 fn operands() -> Vec<FixedRecord> {
-    let array = |name: &str| field("p", name);
+    let of_kind = |kind: &str| field("p", kind);
     let (s, f) = ([Item::from(structure("t"))], [Item::from(family("f"))]);
     let both = [s.clone(), f.clone()].concat();
     vec![
         one("w212.3 struct_ptr by its type", pointer("p", "t"), &s),
         one(
             "w212.3 struct_ptr with an element alone",
-            { array("struct_ptr").each("t") },
+            of_kind("struct_ptr").each("t"),
             &s,
         ),
         one(
             "w212.3 struct_ptr whose element is right",
-            { pointer("p", "gone").each("t") },
+            pointer("p", "gone").each("t"),
             &s,
         ),
         one(
             "w212.3 struct_ptr whose element is a family",
-            { pointer("p", "t").each("f") },
+            pointer("p", "t").each("f"),
             &both,
         ),
         one(
             "w212.3 struct_array_ptr by its element",
-            { array("struct_array_ptr").each("t") },
+            of_kind("struct_array_ptr").each("t"),
             &s,
         ),
         one(
             "w212.3 struct_array_ptr with a type alone",
-            { array("struct_array_ptr").of("t") },
+            of_kind("struct_array_ptr").of("t"),
             &s,
         ),
         one(
             "w212.3 struct_array_ptr whose type is a family",
-            { array("struct_array_ptr").of("f").each("t") },
+            of_kind("struct_array_ptr").of("f").each("t"),
             &both,
         ),
         one(
             "w212.3 struct_array_ptr whose element is a family",
-            { array("struct_array_ptr").of("t").each("f") },
+            of_kind("struct_array_ptr").of("t").each("f"),
             &both,
         ),
         one(
             "w212.3 struct_ptr_array_ptr by its element",
-            { array("struct_ptr_array_ptr").each("t") },
+            of_kind("struct_ptr_array_ptr").each("t"),
             &s,
         ),
         one(
             "w212.3 struct_ptr_array_ptr with a type alone",
-            { array("struct_ptr_array_ptr").of("t") },
+            of_kind("struct_ptr_array_ptr").of("t"),
             &s,
         ),
         one(
             "w212.3 struct_ptr_array_ptr whose element is a family",
-            { array("struct_ptr_array_ptr").of("t").each("f") },
+            of_kind("struct_ptr_array_ptr").of("t").each("f"),
             &both,
         ),
         one("w212.3 tagged_fam_ptr by its type", to_family("f"), &f),
         one(
             "w212.3 tagged_fam_ptr with an element alone",
-            { array("tagged_fam_ptr").each("f") },
+            of_kind("tagged_fam_ptr").each("f"),
             &f,
         ),
         one(
             "w212.3 tagged_fam_ptr whose element is right",
-            { to_family("s").each("f") },
+            to_family("s").each("f"),
             &f,
         ),
     ]
@@ -237,7 +237,7 @@ fn empties() -> Vec<FixedRecord> {
         ),
         one(
             "w212.4 struct_ptr_array_ptr without a name",
-            { field("p", "struct_ptr_array_ptr") },
+            field("p", "struct_ptr_array_ptr"),
             &[],
         ),
         one(
@@ -247,7 +247,7 @@ fn empties() -> Vec<FixedRecord> {
         ),
         one(
             "w212.4 no name beside a structure of the empty name",
-            { field("p", "struct_ptr") },
+            field("p", "struct_ptr"),
             &s,
         ),
         one("w212.4 the empty name of nothing", pointer("p", ""), &[]),
@@ -292,12 +292,12 @@ fn declarations() -> Vec<FixedRecord> {
         ),
         one(
             "w212.5 a variant where a structure must be",
-            { pointer("p", "f::v") },
+            pointer("p", "f::v"),
             &t(variants.into()),
         ),
         one(
             "w212.5 a structure named as a variant is",
-            { pointer("p", "f::v") },
+            pointer("p", "f::v"),
             &t(structure("f::v").into()),
         ),
         one(
@@ -333,7 +333,7 @@ fn declarations() -> Vec<FixedRecord> {
         one(
             "w212.5 the front of a structure's name",
             pointer("p", "til"),
-            { &t(structure("tile").into()) },
+            &t(structure("tile").into()),
         ),
         one("w212.5 a field's name", pointer("p", "p"), &[]),
         one(
