@@ -64,22 +64,32 @@ module _ (r : Rec) (c : Schema) where
         breaks = w .breaks;
         rest = w .rest;
       })
-      go (some n) b w = inr (record { before = []; after = ps; split = refl; all-point = λ x m. absurd (List·Memᴰ·not-nil m); breaks = b; rest = refl })
+      go (some n) b w = inr (record {
+        before = [];
+        after = ps;
+        split = refl;
+        all-point = λ x m. absurd (List·Memᴰ·not-nil m);
+        breaks = b;
+        rest = refl;
+      })
 
   accepted-at : (ps : List ℕ) → AllPointAt r c ps → first ps ≡ accepted
   unfolding firstFault orNext
   accepted-at [] h = refl
   accepted-at (at ∷ ps) h =
-      let none-here = points-none (typesIn c) (here at) (fieldFault (typesIn c) (here at)) (judged (typesIn c) (here at)) (h at (List·Memᴰ·head refl)) in
+      let none-here =
+      points-none (typesIn c) (here at) (fieldFault (typesIn c) (here at)) (judged (typesIn c) (here at)) (h at (List·Memᴰ·head refl))
+      in
       ap (λ (o : Option ℕ). orNext at o (first ps)) none-here ∙ accepted-at ps (λ x m. h x (List·Memᴰ·tail m))
 
--- 02: "It accepts exactly if no field breaks this". An accepted record is readable, and every field of its structures, families and variants points where it
--- must ..
+-- 02: "It accepts exactly if no field breaks this". An accepted record is readable, and every field of its structures, families and variants points
+-- where it must ..
 pub accepts : (r : Rec) → pointers r .number ≡ 0 → (c : Schema) × (reading Current r ≡ read c) × AllPoint c
 unfolding pointers pointersRead
 accepts r h = go (reading Current r) refl h
   where
-    at : (c : Schema) → reading Current r ≡ read c → first r c (fieldPlaces (r .stream)) .number ≡ 0 → Answered r c (fieldPlaces (r .stream)) (first r c (fieldPlaces (r .stream)))
+    at : (c : Schema) → reading Current r ≡ read c → first r c (fieldPlaces (r .stream)) .number ≡ 0
+        → Answered r c (fieldPlaces (r .stream)) (first r c (fieldPlaces (r .stream)))
         → (d : Schema) × (reading Current r ≡ read d) × AllPoint d
     at c e k (inl w) = (c, e, fields-point r c e (w .0))
     at c e k (inr w) = absurd (breaks-number _ _ _ (w .breaks) k)
@@ -94,7 +104,8 @@ unfolding pointers pointersRead
 accepts-back r c e a = rw e (accepted-at r c (fieldPlaces (r .stream)) (places-point r c e a))
 
 -- 02: "and otherwise gives the place of the first that does". A readable record that is not accepted has a first field that breaks the rule
-pub first-broken : (r : Rec) (c : Schema) → reading Current r ≡ read c → (pointers r .number ≡ 0 → ⊥) → FirstBroken r c (fieldPlaces (r .stream)) (pointers r)
+pub first-broken : (r : Rec) (c : Schema) → reading Current r ≡ read c → (pointers r .number ≡ 0 → ⊥)
+    → FirstBroken r c (fieldPlaces (r .stream)) (pointers r)
 unfolding pointers pointersRead
 first-broken r c e n = go (answered r c (fieldPlaces (r .stream)))
   where

@@ -1,5 +1,5 @@
--- The field commands of an accepted record are the fields of its structures, families and variants: each gives one, by the rules of place, and each of them
--- comes from one. So what holds of all these fields is what holds at the places of the commands. Assumes nothing.
+-- The field commands of an accepted record are the fields of its structures, families and variants: each gives one, by the rules of place, and each
+-- of them comes from one. So what holds of all these fields is what holds at the places of the commands. Assumes nothing.
 use mathlib.Core.Path.{_≡_, refl, sym, _∙_, ap, subst}
 use mathlib.Core.List.{List, [], _∷_, List·Memᴰ, List·Memᴰ·head, List·Memᴰ·tail, List·Memᴰ·not-nil}
 use mathlib.Core.Option.{Option, none}
@@ -60,7 +60,8 @@ module _ {A : Type 0} (s : Str) (over : ℕ → Bool) (b : ℕ) (g : ℕ → Lis
 
       go : (t : Bool) → eqb (getD s at 0) b ≡ t → (o : Bool) → (List·Memᴰ x (listed s over b g ps) → Comes s b g ps x)
           → List·Memᴰ x (cond t (g at ps ∷ listed s over b g ps) (cond o (listed s over b g ps) [])) → Comes s b g (at ∷ ps) x
-      go true e o r (List·Memᴰ·head q) = record { at = at; rest = ps; is-in = List·Memᴰ·head refl; later = λ y n. List·Memᴰ·tail n; number = e; is-made = q }
+      go true e o r (List·Memᴰ·head q) =
+          record { at = at; rest = ps; is-in = List·Memᴰ·head refl; later = λ y n. List·Memᴰ·tail n; number = e; is-made = q }
       go true e o r (List·Memᴰ·tail n) = on (r n)
       go false e true r n = on (r n)
       go false e false r n = absurd (List·Memᴰ·not-nil n)
@@ -75,7 +76,8 @@ module _ {A : Type 0} (s : Str) (over : ℕ → Bool) (b : ℕ) (g : ℕ → Lis
   unfolding listed
   kept at ps e m = rw e (List·Memᴰ·tail m)
 
-  passed-over : (at : ℕ) (ps : List ℕ) {x : A} → over (getD s at 0) ≡ true → List·Memᴰ x (listed s over b g ps) → List·Memᴰ x (listed s over b g (at ∷ ps))
+  passed-over : (at : ℕ) (ps : List ℕ) {x : A} → over (getD s at 0) ≡ true → List·Memᴰ x (listed s over b g ps)
+      → List·Memᴰ x (listed s over b g (at ∷ ps))
   unfolding listed
   passed-over at ps {x} o m = go (eqb (getD s at 0) b)
     where
@@ -84,7 +86,8 @@ module _ {A : Type 0} (s : Str) (over : ℕ → Bool) (b : ℕ) (g : ℕ → Lis
       go false = rw o m
 
 -- a command of a number is among the places of that number
-in-places : (s : Str) (b : ℕ) (ps : List ℕ) {at : ℕ} → List·Memᴰ at ps → eqb (getD s at 0) b ≡ true → List·Memᴰ at (listed s anything b (λ x rest. x) ps)
+in-places : (s : Str) (b : ℕ) (ps : List ℕ) {at : ℕ} → List·Memᴰ at ps → eqb (getD s at 0) b ≡ true
+    → List·Memᴰ at (listed s anything b (λ x rest. x) ps)
 in-places s b [] m e = absurd (List·Memᴰ·not-nil m)
 in-places s b (q ∷ ps) {at} (List·Memᴰ·head i) e =
     subst (λ (y : ℕ). List·Memᴰ y (listed s anything b (λ x rest. x) (q ∷ ps))) (sym i)
@@ -193,8 +196,9 @@ module _ (s p : Str) where
     over q o (inl m) =
         go (eqb (getD s at 0) 8) (eqb (getD s at 0) 9) (eqb (getD s at 0) 10) (eqb (getD s at 0) 11) (eqb (getD s at 0) 12) refl refl refl refl refl m
       where
-        go : (b8 b9 b10 b11 b12 : Bool) → eqb (getD s at 0) 8 ≡ b8 → eqb (getD s at 0) 9 ≡ b9 → eqb (getD s at 0) 10 ≡ b10 → eqb (getD s at 0) 11 ≡ b11
-            → eqb (getD s at 0) 12 ≡ b12 → Inside (cond b8 InStruct (cond b9 InFamily (cond b10 q (cond b11 q (cond b12 q NoParent))))) ps f → Within q (at ∷ ps) f
+        go : (b8 b9 b10 b11 b12 : Bool) → eqb (getD s at 0) 8 ≡ b8 → eqb (getD s at 0) 9 ≡ b9 → eqb (getD s at 0) 10 ≡ b10
+            → eqb (getD s at 0) 11 ≡ b11 → eqb (getD s at 0) 12 ≡ b12
+            → Inside (cond b8 InStruct (cond b9 InFamily (cond b10 q (cond b11 q (cond b12 q NoParent))))) ps f → Within q (at ∷ ps) f
         go true b9 b10 b11 b12 e8 e9 e10 e11 e12 i = inr (at-struct e8 i)
         go false true b10 b11 b12 e8 e9 e10 e11 e12 i = inr (at-family e9 i)
         go false false true b11 b12 e8 e9 e10 e11 e12 i = inl (at-variant q e10 (o e10) i)
@@ -233,13 +237,14 @@ parent-after s c b w d k e = go (eqb b 15) (eqb (c .at + w) (length s)) e
     go false u h = let z : moved c b w ≡ k = cc in ap (λ (x : Cursor). x .parent) z
 
 module _ (side : Side) (s p : Str) where
-  found : (k : ℕ) (c : Cursor) (ps : List ℕ) → parse k side s (length p) c ≡ ok ps → (at : ℕ) → List·Memᴰ at ps → eqb (getD s at 0) 11 ≡ true → Found s p (c .parent) ps at
+  found : (k : ℕ) (c : Cursor) (ps : List ℕ) → parse k side s (length p) c ≡ ok ps → (at : ℕ) → List·Memᴰ at ps → eqb (getD s at 0) 11 ≡ true
+      → Found s p (c .parent) ps at
   unfolding parse continued
   found zero c ps h at m e = absurd (let z : _≡_ {A = ℕ} 0 1 = cc in omega arith)
   found (suc k) c ps h at m e = go (λ d qs g n. found k d qs g at n e) (judgedAt side s (length p) c) refl h
     where
-      go : ((d : Cursor) (qs : List ℕ) → parse k side s (length p) d ≡ ok qs → List·Memᴰ at qs → Found s p (d .parent) qs at) → (j : Judged) → judgedAt side s (length p) c ≡ j
-          → continued (c .at) (parse k side s (length p)) j ≡ ok ps → Found s p (c .parent) ps at
+      go : ((d : Cursor) (qs : List ℕ) → parse k side s (length p) d ≡ ok qs → List·Memᴰ at qs → Found s p (d .parent) qs at) → (j : Judged)
+          → judgedAt side s (length p) c ≡ j → continued (c .at) (parse k side s (length p)) j ≡ ok ps → Found s p (c .parent) ps at
       go ih Done q g = absurd (List·Memᴰ·not-nil (subst (λ (l : List ℕ). List·Memᴰ at l) (sym (let z : [] ≡ ps = cc in z)) m))
       go ih (Refused x y) q g = absurd (let z : _≡_ {A = ℕ} 0 1 = cc in omega arith)
       go ih (Next d j) q g =
@@ -253,7 +258,8 @@ module _ (side : Side) (s p : Str) where
               → (List·Memᴰ at qs → Found s p (j .parent) qs at) → List·Memᴰ at (c .at ∷ qs) → Found s p (c .parent) (c .at ∷ qs) at
           each qs o b r (List·Memᴰ·head i) =
               let f : eqb (getD s (c .at) 0) 11 ≡ true = ap (λ (y : ℕ). eqb (getD s y 0) 11) (sym i) ∙ e in
-              subst (λ (y : ℕ). Found s p (c .parent) (c .at ∷ qs) y) (sym i) (here s p (c .parent) (c .at) qs f (stands-field c (getD s (c .at) 0) f o))
+              subst (λ (y : ℕ). Found s p (c .parent) (c .at ∷ qs) y) (sym i)
+              (here s p (c .parent) (c .at) qs f (stands-field c (getD s (c .at) 0) f o))
           each qs o b r (List·Memᴰ·tail n) =
               let v = r n in
               record {
@@ -283,7 +289,8 @@ module _ (r : Rec) (c : Schema) (e : reading Current r ≡ read c) where
       let g = accepting Current r c e in
       let f = found Current (r .stream) (r .pool) (length (r .stream) + 1) start places (g .parsed-all) (w .at) (w .is-in) (w .number) in
       subst (λ (y : ℕ). Points (typesIn c) (fieldHere (r .stream) (r .pool) y)) (sym (w .is-made))
-      (a _ (subst (λ (x : Schema). FieldIn (typesIn x) (fieldOf (r .pool) (fieldAt (drop (w .at) (r .stream))) (f .key))) (g .is-schema) (declared-by _ (f .within))))
+      (a _ (subst (λ (x : Schema). FieldIn (typesIn x) (fieldOf (r .pool) (fieldAt (drop (w .at) (r .stream))) (f .key))) (g .is-schema)
+      (declared-by _ (f .within))))
     where
       declared-by : (x : Field) → Within (r .stream) (r .pool) NoParent places x → FieldIn (typesIn (schemaOf r)) x
       declared-by x (inl i) = absurd i

@@ -161,20 +161,25 @@ module _ (s p : Str) (at : ℕ) (r : Sought) (i : SoughtFrom s Anything 11 at r)
     unfolding orNext
     faults-on k e = k ∙ step ∙ ap (λ (z : Fault). orNext q (faultOf z) (faultFrom s p j)) e
 
-    pub faults-stop : faultFrom s p 0 ≡ faultFrom s p at → (n : ℕ) → v ≡ Faulty n → Answers (faultFrom s p 0) (record { number = n; side = 0; place = q; len = 0 })
+    pub faults-stop : faultFrom s p 0 ≡ faultFrom s p at → (n : ℕ) → v ≡ Faulty n
+        → Answers (faultFrom s p 0) (record { number = n; side = 0; place = q; len = 0 })
     unfolding orNext
     faults-stop k n e =
-        let g : faultFrom s p 0 ≡ record { number = n; side = 0; place = q; len = 0; text = [] } = k ∙ step ∙ ap (λ (z : Fault). orNext q (faultOf z) (faultFrom s p j)) e in
+        let g : faultFrom s p 0 ≡ record { number = n; side = 0; place = q; len = 0; text = [] } =
+        k ∙ step ∙ ap (λ (z : Fault). orNext q (faultOf z) (faultFrom s p j)) e
+        in
         rw g (record { number = refl; side = refl; place = refl; len = refl; no-text = refl })
 
 -- the index is the record's once it is filled
-pub filled : (s p : Str) (room x : List ℕ) → length s ≤ 32768 → IndexRoom s room → (length s ≤ 32768 → IndexRoom s room → Indexed s p x) → Indexed s p x
+pub filled : (s p : Str) (room x : List ℕ) → length s ≤ 32768 → IndexRoom s room → (length s ≤ 32768 → IndexRoom s room → Indexed s p x)
+    → Indexed s p x
 filled s p room x h i f = f h i
 
 -- the call ----------------------------------------------------------------------------------------------------------------
 
 module _ (s p rows : Str) (o : Outcome) (e : rows ≡ builtInRows) (h : Read Current (rec s p (scalarsOf rows)) o) (a : D.Answer) where
-  pub pointers-refused : (x : Refusal) (at : ℕ) → o ≡ Refused x at → ((out : Str) → Answered out out (refusalOf Current x at) a) → Answers (pointers (rec s p builtIn)) a
+  pub pointers-refused : (x : Refusal) (at : ℕ) → o ≡ Refused x at → ((out : Str) → Answered out out (refusalOf Current x at) a)
+      → Answers (pointers (rec s p builtIn)) a
   unfolding pointers pointersRead refusalOf
   pointers-refused x at k f =
       let g = f [] in

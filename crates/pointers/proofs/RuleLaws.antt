@@ -109,8 +109,10 @@ module _ (t : Types) (f : Field) where
   )
 
   to-struct : (o : Option Str) → StructPointer f o → (x : Option ℕ) → Named (NamesStruct t o) (NamesFamily t o) x → Judged t f x
-  to-struct o s none w =
-      (λ q z. subst (NamesStruct t) (struct-operand o s ∙ sym (struct-operand q z)) w, λ q m. absurd (apart (struct-pointee o s) (ap pointeeOf (m .0))))
+  to-struct o s none w = (
+    λ q z. subst (NamesStruct t) (struct-operand o s ∙ sym (struct-operand q z)) w,
+    λ q m. absurd (apart (struct-pointee o s) (ap pointeeOf (m .0))),
+  )
   to-struct o s (some n) (inl (a, b, e)) = no-struct o s a b e
   to-struct o s (some n) (inr (a, b, e)) = only-family o s a b e
 

@@ -1,4 +1,4 @@
--- The check of a current record's pointers: 02, W-212, "Pointers that point somewhere". What it says of a record without a walk is Rule. Assumes nothing.
+-- The check of a current record's pointers: 02, W-212, "Pointers that point somewhere". Rule says it without a walk. Assumes nothing.
 use mathlib.Core.Path.{_≡_}
 use mathlib.Core.List.{List, [], _∷_}
 use mathlib.Core.Option.{Option, none, some}
@@ -26,8 +26,8 @@ use Rattle.pointers.specs.declared.rule.Pointee.the-variants.{ToStruct, 
 use Rattle.pointers.specs.declared.rule.Fault.{Fault}
 use Rattle.pointers.specs.declared.rule.Fault.the-variants.{NoFault, Faulty}
 
--- 02: "a struct_ptr, struct_array_ptr or struct_ptr_array_ptr must name a declared structure, a tagged_fam_ptr a declared family; simple_fam_ptr and the
--- rest are not judged"
+-- what a pointer of a kind must name. 02: "a struct_ptr, struct_array_ptr or struct_ptr_array_ptr must name a declared structure, a tagged_fam_ptr
+-- a declared family; simple_fam_ptr and the rest are not judged"
 abbrev pub pointeeOf : Kind → Pointee
 pointeeOf K.StructPtr = ToStruct
 pointeeOf K.StructArrayPtr = ToStruct
@@ -53,8 +53,8 @@ isStruct t n = isSome (structIn n (t .structs))
 unfoldable pub isFamily : Types → Str → Bool
 isFamily t n = isSome (familyIn n (t .families))
 
--- by whether a name is declared as what it must be, and as the other of the two. 02: "59 names neither a structure nor a family, 60 names only the other
--- of the two"
+-- by whether a name is declared as what it must be, and as the other of the two. 02: "59 names neither a structure nor a family, 60 names only the
+-- other of the two"
 unfoldable pub nameFault : Bool → Bool → Option ℕ
 nameFault true other = none
 nameFault false true = some 60

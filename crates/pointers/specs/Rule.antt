@@ -1,5 +1,5 @@
--- 02's rule of pointers as a statement on a record's schema: which fields there are, which of them break the rule and how, and which is the first. Assumes
--- nothing.
+-- 02's rule of pointers as a statement on a record's schema: which fields there are, which of them break the rule and how, and which is the first.
+-- Assumes nothing.
 use mathlib.Core.Path.{_≡_}
 use mathlib.Core.List.{List, [], _∷_, _++_, List·Memᴰ}
 use mathlib.Core.Option.{Option, some}
@@ -20,8 +20,8 @@ pub data FieldIn (t : Types) (f : Field) : Type 0 where
   of-family : (m : Family) → List·Memᴰ m (t .families) → List·Memᴰ f (m .common) → FieldIn t f
   of-variant : (m : Family) → List·Memᴰ m (t .families) → (v : Variant) → List·Memᴰ v (m .variants) → List·Memᴰ f (v .fields) → FieldIn t f
 
--- a field that must name a structure, with the operand by which it names one: its type, or the element of an array. 02: "By referenced_type, a struct_ptr,
--- struct_array_ptr or struct_ptr_array_ptr"
+-- a field that must name a structure, with the operand by which it names one: its type, or the element of an array. 02: "By referenced_type, a
+-- struct_ptr, struct_array_ptr or struct_ptr_array_ptr"
 abbrev pub StructPointer : Field → Option Str → Type 0
 StructPointer f o =
     ((kindOf (f .kind) ≡ StructPtr) × (o ≡ f .typ))
@@ -43,7 +43,7 @@ pub record NamesFamily (t : Types) (o : Option Str) : Type 0 where
   pub declared : List·Memᴰ family (t .families)
   pub named : o ≡ some (family .name)
 
--- 02: a field that does not break the rule. Other kinds are not judged
+-- a field that does not break the rule. 02: "simple_fam_ptr and the rest are not judged"
 abbrev pub Points : Types → Field → Type 0
 Points t f = ((o : Option Str) → StructPointer f o → NamesStruct t o) × ((o : Option Str) → FamilyPointer f o → NamesFamily t o)
 
@@ -58,7 +58,7 @@ pub data Breaks (t : Types) (f : Field) (n : ℕ) : Type 0 where
 abbrev pub AllPoint : Schema → Type 0
 AllPoint c = (f : Field) → FieldIn (typesIn c) f → Points (typesIn c) f
 
--- of the fields at some places, too
+-- the fields whose commands stand at some places do not break it
 abbrev pub AllPointAt : Rec → Schema → List ℕ → Type 0
 AllPointAt r c ps = (at : ℕ) → List·Memᴰ at ps → Points (typesIn c) (fieldHere (r .stream) (r .pool) at)
 

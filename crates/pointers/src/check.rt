@@ -72,7 +72,8 @@ fn check_short(stream: &[u8], pool: &[u8]) -> Answer
     check_lent(stream, pool, &mut index)
 }
 
-// Whether the pointers of a current record name what they must: 0, the record's refusal, or 59 or 60 with the place of the first field that breaks this.
+// Whether the pointers of a current record name what they must: 0, the record's refusal, or 59 or 60 with the place of the first field that breaks
+// this.
 pub fn check_pointers(stream: &[u8], pool: &[u8]) -> Answer
     ensures { λ r. ⌜ Answers (pointers (rec (now (stream .entry)) (now (pool .entry)) builtIn)) r ⌝ }
 {

@@ -30,7 +30,7 @@ pub enum Fault {
 }
 
 // What a pointer of this kind must name.
-pub fn pointee_of(kind: Kind) -> Pointee
+fn pointee_of(kind: Kind) -> Pointee
     ensures { λ r. ⌜ r ≡ pointeeOf kind ⌝ }
 {
     match kind {

@@ -87,6 +87,18 @@ fn w212_2_the_first_by_place() {
 }
 
 #[test]
+fn w212_2_the_last_field_of_a_long_stream() {
+    for (label, answer) in [
+        ("w212.2 a stream of 2029 bytes", (59, after(60 * FIELD))),
+        ("w212.2 a stream of 2062 bytes", (59, after(61 * FIELD))),
+        ("w212.2 the last of 992 fields", (59, after(991 * FIELD))),
+        ("w212.2 992 fields that are right", (0, 0)),
+    ] {
+        assert_eq!(pointers(label), answer, "{label}");
+    }
+}
+
+#[test]
 fn w212_3_the_operand_that_names() {
     let (s, f, both) = (after(STRUCT), after(FAMILY), after(STRUCT + FAMILY));
     for (label, answer) in [

@@ -1,6 +1,6 @@
 //! Fixed records for the check of pointers: the findings on W-212.
 
-use crate::generate::encode::{Encoded, encode_spread};
+use crate::generate::encode::{Encoded, encode_spread, encode_tight};
 use crate::generate::make::{
     alias, array, bit_field, content, enumeration, family, field, integer, key, pointer, scalar,
     structure, version,
@@ -18,6 +18,7 @@ pub struct FixedRecord {
 pub fn records() -> Vec<FixedRecord> {
     let mut records = refusals();
     records.extend(orders());
+    records.extend(longs());
     records.extend(operands());
     records.extend(empties());
     records.extend(declarations());
@@ -147,6 +148,22 @@ fn orders() -> Vec<FixedRecord> {
         of("w212.2 a family that a later one replaces", {
             plain().with(family("f").common(gone())).with(family("f"))
         }),
+    ]
+}
+
+/// W-212.2 again, in streams of 2,048 bytes and more, as far as the limit.
+fn longs() -> Vec<FixedRecord> {
+    let many = |label, count: usize, last: Field| {
+        let mut s = structure("s");
+        s.fields = vec![pointer("p", "s"); count - 1];
+        let record = encode_tight(&plain().with(s.field(last)));
+        FixedRecord { label, record }
+    };
+    vec![
+        many("w212.2 a stream of 2029 bytes", 61, gone()),
+        many("w212.2 a stream of 2062 bytes", 62, gone()),
+        many("w212.2 the last of 992 fields", 992, gone()),
+        many("w212.2 992 fields that are right", 992, pointer("p", "s")),
     ]
 }
 
