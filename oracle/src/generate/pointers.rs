@@ -3,7 +3,7 @@
 //! their name replaces too.
 
 use super::encode::{Encoded, encode};
-use super::words::{POINTERS, PRIMITIVES, STRANGE_KINDS};
+use super::words::{PLAIN_KINDS, POINTERS, PRIMITIVES, STRANGE_KINDS};
 use super::{damage, make};
 use crate::model::{Content, Family, Field, Item, Side, Struct, Variant};
 use crate::rng::Rng;
@@ -15,18 +15,6 @@ const JUDGED: [&str; 4] = [
     "struct_array_ptr",
     "struct_ptr_array_ptr",
     "tagged_fam_ptr",
-];
-
-/// The kinds that are no pointers.
-const PLAIN: [&str; 8] = [
-    "scalar",
-    "enum",
-    "type_alias",
-    "bitfield",
-    "inline_array",
-    "inline_array2d",
-    "padding",
-    "string",
 ];
 
 /// Words near the judged kinds.
@@ -168,7 +156,7 @@ fn kind(rng: &mut Rng) -> String {
     match rng.below(100) {
         0..=69 => rng.word(&JUDGED),
         70..=81 => rng.word(&POINTERS),
-        82..=91 => rng.word(&PLAIN),
+        82..=91 => rng.word(&PLAIN_KINDS),
         92..=96 => rng.word(&NEAR_KINDS),
         _ => rng.word(&STRANGE_KINDS),
     }

@@ -5,7 +5,7 @@ use crate::generate::make::{
     alias, array, bit_field, content, enumeration, family, field, integer, key, pointer, scalar,
     structure, version,
 };
-use crate::generate::words::POINTERS;
+use crate::generate::words::{PLAIN_KINDS, POINTERS};
 use crate::model::{Content, Field, Item};
 
 /// A record to be asked whether its pointers name what they must.
@@ -392,16 +392,6 @@ fn both() -> Vec<FixedRecord> {
 /// nobody declares, as type and as element.
 fn kinds() -> Vec<FixedRecord> {
     let lost = |kind: &str| field("p", kind).of("gone").each("gone");
-    let plain_kinds = [
-        "scalar",
-        "enum",
-        "type_alias",
-        "bitfield",
-        "inline_array",
-        "inline_array2d",
-        "padding",
-        "string",
-    ];
     let strange = [
         "struct_ptr ",
         " struct_ptr",
@@ -418,7 +408,7 @@ fn kinds() -> Vec<FixedRecord> {
     let each = |label| move |kind: &&str| one(label, lost(kind), &[]);
     let mut records: Vec<FixedRecord> = Vec::new();
     records.extend(POINTERS.iter().map(each("w212.7 a pointer's kind")));
-    records.extend(plain_kinds.iter().map(each("w212.7 another kind")));
+    records.extend(PLAIN_KINDS.iter().map(each("w212.7 another kind")));
     records.extend(strange.iter().map(each("w212.7 a word that is no kind")));
     records
 }
