@@ -17,22 +17,26 @@ use Rattle.layout.specs.Answer.{Answer, refusalOf}
 use Rattle.pointers.specs.Pointers.{fieldFault, fieldHere, fieldPlaces, accepted, orNext, firstFault, pointersRead, pointers}
 use Rattle.pointers.specs.Rule.{Points, AllPoint, AllPointAt, FirstBroken}
 use Rattle.pointers.proofs.RuleLaws.{Judged, judged, points-none, breaks-number}
-use Rattle.pointers.proofs.Fields.{fields-point, places-point}
+use Rattle.pointers.proofs.Fields.{of-fields, at-places}
 
-refusal-above : (n : Refusal) → 1 ≤ refusalNumber n
-refusal-above R.Cut = lit≤ tt
-refusal-above R.Unknown = lit≤ tt
-refusal-above R.Misplaced = lit≤ tt
-refusal-above R.Outside = lit≤ tt
-refusal-above R.Missing = lit≤ tt
-refusal-above R.Flag = lit≤ tt
-refusal-above R.Letter = lit≤ tt
-refusal-above R.Long = lit≤ tt
-refusal-above R.Vast = lit≤ tt
+refusal-within : (n : Refusal) → (1 ≤ refusalNumber n) × (refusalNumber n ≤ 9)
+refusal-within R.Cut = (lit≤ tt, lit≤ tt)
+refusal-within R.Unknown = (lit≤ tt, lit≤ tt)
+refusal-within R.Misplaced = (lit≤ tt, lit≤ tt)
+refusal-within R.Outside = (lit≤ tt, lit≤ tt)
+refusal-within R.Missing = (lit≤ tt, lit≤ tt)
+refusal-within R.Flag = (lit≤ tt, lit≤ tt)
+refusal-within R.Letter = (lit≤ tt, lit≤ tt)
+refusal-within R.Long = (lit≤ tt, lit≤ tt)
+refusal-within R.Vast = (lit≤ tt, lit≤ tt)
 
 refusal-not-zero : (n : Refusal) (at : ℕ) → refusalOf Current n at .number ≡ 0 → ⊥
 unfolding refusalOf
-refusal-not-zero n at e = let k = refusal-above n in omega arith
+refusal-not-zero n at e = let k = refusal-within n .0 in omega arith
+
+refusal-not-above : (n : Refusal) (at : ℕ) → 10 ≤ refusalOf Current n at .number → ⊥
+unfolding refusalOf
+refusal-not-above n at e = let k = refusal-within n .1 in omega arith
 
 module _ (r : Rec) (c : Schema) where
   abbrev first : List ℕ → Answer
@@ -91,7 +95,7 @@ accepts r h = go (reading Current r) refl h
     at : (c : Schema) → reading Current r ≡ read c → first r c (fieldPlaces (r .stream)) .number ≡ 0
         → Answered r c (fieldPlaces (r .stream)) (first r c (fieldPlaces (r .stream)))
         → (d : Schema) × (reading Current r ≡ read d) × AllPoint d
-    at c e k (inl w) = (c, e, fields-point r c e (w .0))
+    at c e k (inl w) = (c, e, of-fields r c e (Points (typesIn c)) (λ d x y h. h) (w .0))
     at c e k (inr w) = absurd (breaks-number _ _ _ (w .breaks) k)
 
     go : (x : Reading) → reading Current r ≡ x → pointersRead r x .number ≡ 0 → (d : Schema) × (reading Current r ≡ read d) × AllPoint d
@@ -101,7 +105,7 @@ accepts r h = go (reading Current r) refl h
 -- .. and every such record is accepted
 pub accepts-back : (r : Rec) (c : Schema) → reading Current r ≡ read c → AllPoint c → pointers r ≡ accepted
 unfolding pointers pointersRead
-accepts-back r c e a = rw e (accepted-at r c (fieldPlaces (r .stream)) (places-point r c e a))
+accepts-back r c e a = rw e (accepted-at r c (fieldPlaces (r .stream)) (at-places r c e (Points (typesIn c)) (λ d x y h. h) a))
 
 -- 02: "and otherwise gives the place of the first that does". A readable record that is not accepted has a first field that breaks the rule
 pub first-broken : (r : Rec) (c : Schema) → reading Current r ≡ read c → (pointers r .number ≡ 0 → ⊥)
@@ -120,3 +124,12 @@ first-broken r c e n = go (answered r c (fieldPlaces (r .stream)))
 pub refused-first : (r : Rec) (x : Refusal) (at : ℕ) → reading Current r ≡ refuse x at → pointers r ≡ refusalOf Current x at
 unfolding pointers pointersRead
 refused-first r x at e = rw e
+
+-- a number above the refusals, so 59 or 60, is given of a readable record alone
+pub broken-readable : (r : Rec) → 10 ≤ pointers r .number → (c : Schema) × (reading Current r ≡ read c)
+unfolding pointers pointersRead
+broken-readable r h = go (reading Current r) refl h
+  where
+    go : (x : Reading) → reading Current r ≡ x → 10 ≤ pointersRead r x .number → (c : Schema) × (reading Current r ≡ read c)
+    go (refuse x at) e k = absurd (refusal-not-above x at k)
+    go (read c) e k = (c, e)

@@ -1,8 +1,10 @@
--- Whole answers of the check of pointers on bytes, computed. Assumes nothing.
+-- Whole answers of the check of pointers on bytes, computed, and the theorems applied to two of them. Assumes nothing.
 use mathlib.Core.Path.{_≡_, refl}
 use mathlib.Core.List.{List, [], _∷_, _++_}
-use mathlib.Core.Bool.{Bool, _&&_, cond}
-use Prim.Native.Nat.{ℕ, suc}
+use mathlib.Core.Bool.{Bool, true, _&&_, cond}
+use Prim.Native.Nat.{ℕ, suc, _≤_}
+use native.Mathlib.Omega.{arith}
+use borrow.Author.Tests.{eqb-true}
 use Prim.Native.String.{String}
 use lib.Dec.{eqb}
 use lib.ListN.{length, take}
@@ -21,24 +23,29 @@ use Rattle.record.specs.Shapes.{enumSize, aliasSize, bitfieldSize, sized, scala
 use Rattle.record.specs.Owner.{referencedAs, referenced}
 use Rattle.record.specs.Judge.{ifAbsent, flagFault, operandFault, faultsFrom, follows, mayStand, parentAfter, ready, judgedWith, judgedAt}
 use Rattle.record.specs.Letters.{isLetter, oddLetter}
-use Rattle.record.specs.Reading.{rec, releaseOf, unreleasedOf, schemaFrom, openedAt, opened, large, vast, onto, continued, parse, parsed, streamLimit, poolLimit, vastOr, sizesOf, concluded, reading}
+use Rattle.record.specs.Reading.{Rec, read, rec, releaseOf, unreleasedOf, schemaFrom, openedAt, opened, large, vast, onto, continued, parse, parsed, streamLimit, poolLimit, vastOr, sizesOf, concluded, reading}
+use Rattle.record.specs.Schema.{Schema}
+use Rattle.record.specs.declared.refusal.Side.the-variants.{Current}
+use Rattle.record.proofs.Basics.{both}
 use Rattle.layout.specs.Answer.{refusalOf}
-use Rattle.pointers.specs.Pointers.{nameFault, isStruct, isFamily, pointeeFault, fieldFault, orNext, firstFault, pointersRead, pointers}
+use Rattle.pointers.specs.Rule.{AllPoint, FirstBroken}
+use Rattle.pointers.proofs.Acceptance.{accepts, first-broken, broken-readable}
+use Rattle.pointers.specs.Pointers.{fieldPlaces, nameFault, isStruct, isFamily, pointeeFault, fieldFault, orNext, firstFault, pointersRead, pointers}
 
 -- writing a record: a text is where the pool has it first
-pool : Str
+pub pool : Str
 pool = bytes "0.10.0 struct_ptr_array_ptr struct_array_ptr tagged_fam_ptr simple_fam_ptr head next tile gone fam tag len u8 e"
 
 placeIn : Str → Str → ℕ
 placeIn w [] = 0
 placeIn w (b ∷ p) = cond (eqs (take (length w) (b ∷ p)) w) 0 (suc (placeIn w p))
 
-t : String → Str
+pub t : String → Str
 unfolding pool placeIn
 t w = placeIn (bytes w) pool ∷ 0 ∷ length (bytes w) ∷ []
 
 -- an absent text, and no number
-o : Str
+pub o : Str
 o = 255 ∷ 255 ∷ 0 ∷ []
 
 no : Str
@@ -57,8 +64,8 @@ stream kind ty element =
 
 -- number and place
 unfoldable pub says : String → Str → Str → ℕ → ℕ → Bool
-unfolding bytes eqs isSome orElse orOption mapOption find first any scalarIn primSize builtIn u16At u32At u64At textOf textAt optText optTextAt flagAt optNumberAt
-    operands wide widths widthWith widthOf commandOf stepAt commandsFrom commandsAt
+unfolding bytes eqs isSome orElse orOption mapOption find first any scalarIn primSize builtIn u16At u32At u64At textOf textAt optText optTextAt
+    flagAt optNumberAt operands wide widths widthWith widthOf commandOf stepAt commandsFrom commandsAt
     listed heads constants aliases values enums members bitfields keys fields structs variants families unstored versions
     aliasIn enumIn bitfieldIn structIn familyIn placesOf words kindOf Kind.meaning Kind.ofLength
     enumSize aliasSize bitfieldSize sized scalarSize sizeAs shapeSize placeOf places plain prefix referencedAs referenced
@@ -67,7 +74,7 @@ unfolding bytes eqs isSome orElse orOption mapOption find first any scalarIn pri
     refusalOf nameFault isStruct isFamily pointeeFault fieldFault orNext firstFault pointersRead pointers stream pool t o
 says kind ty element number place =
     let a = pointers (rec (stream kind ty element) pool builtIn) in
-    eqb (a .number) number && eqb (a .place) place && eqb (a .side) 0 && eqb (a .len) 0
+    eqb (a .number) number && (eqb (a .place) place && eqb (a .side) 0 && eqb (a .len) 0)
 
 -- the numbers of the cases that fail
 unfoldable pub failing : ℕ → List Bool → List ℕ
@@ -100,3 +107,28 @@ cases =
 pub examples : failing 1 cases ≡ []
 unfolding failing cases says
 examples = refl
+
+-- the theorems on two of these records ----------------------------------------------------------------------------------------------------
+
+abbrev pub record-of : String → Str → Rec
+record-of kind ty = rec (stream kind ty o) pool builtIn
+
+number-said : (kind : String) (ty : Str) (n p : ℕ) → says kind ty o n p ≡ true → pointers (record-of kind ty) .number ≡ n
+unfolding says
+number-said kind ty n p h =
+    let a = pointers (record-of kind ty) in
+    eqb-true (a .number) n (both (eqb (a .number) n) (eqb (a .place) p && eqb (a .side) 0 && eqb (a .len) 0) h .0)
+
+-- the structure is declared after the pointer
+pub one-accepted : (c : Schema) × (reading Current (record-of "struct_ptr" (t "tile")) ≡ read c) × AllPoint c
+unfolding says
+one-accepted = accepts _ (number-said "struct_ptr" (t "tile") 0 0 refl)
+
+-- the name is a family's alone
+pub one-broken : (c : Schema) × (reading Current (record-of "struct_ptr" (t "fam")) ≡ read c)
+    × FirstBroken (record-of "struct_ptr" (t "fam")) c (fieldPlaces (stream "struct_ptr" (t "fam") o)) (pointers (record-of "struct_ptr" (t "fam")))
+unfolding says
+one-broken =
+    let n = number-said "struct_ptr" (t "fam") 60 15 refl in
+    let w = broken-readable (record-of "struct_ptr" (t "fam")) (omega (arith, n)) in
+    (w .0, w .1, first-broken _ (w .0) (w .1) (λ z. omega (arith, n, z)))

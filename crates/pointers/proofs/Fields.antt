@@ -18,6 +18,7 @@ use Rattle.record.specs.Lists.{structOf, familyOf, variantOf, fieldOf, listed, 
 use Rattle.record.specs.Judge.{isOpen, inFamily, mayStand, parentAfter, moved, ready, judgedAt}
 use Rattle.record.specs.Owner.{Types, typesIn}
 use Rattle.record.specs.Reading.{Rec, read, reading, schemaFrom, schemaOf, ok, continued, parse, parsed}
+use Rattle.record.specs.declared.command as D
 use Rattle.record.specs.declared.command.Command.{Command}
 use Rattle.record.specs.declared.command.Cursor.{Cursor}
 use Rattle.record.specs.declared.command.Parent.{Parent}
@@ -29,7 +30,7 @@ use Rattle.record.specs.declared.refusal.Side.{Side}
 use Rattle.record.specs.declared.refusal.Side.the-variants.{Current}
 use Rattle.record.proofs.Accepted.{passed, onto-ok, accepting}
 use Rattle.pointers.specs.Pointers.{fieldHere, fieldPlaces}
-use Rattle.pointers.specs.Rule.{FieldIn, of-struct, of-family, of-variant, Points, AllPoint, AllPointAt}
+use Rattle.pointers.specs.Rule.{FieldIn, of-struct, of-family, of-variant}
 
 -- the elements of a list and the commands of its number -----------------------------------------------------------------------------------
 
@@ -268,29 +269,35 @@ module _ (side : Side) (s p : Str) where
                     (subst (λ (x : Parent). Within s p x qs (fieldOf p (fieldAt (drop at s)) (v .key))) (sym b) (v .within));
               }
 
--- the rule by fields and by places; it does not look at a field's plugin key ---------------------------------------------------------------
+-- what holds of all fields, by the schema and by places ------------------------------------------------------------------------------------
 
-module _ (r : Rec) (c : Schema) (e : reading Current r ≡ read c) where
+-- of a statement that does not look at a field's plugin key
+module _ (r : Rec) (c : Schema) (e : reading Current r ≡ read c) (P : Field → Type 0)
+    (keyless : (d : D.Field.Field) (x y : Option Key) → P (fieldOf (r .pool) d x) → P (fieldOf (r .pool) d y)) where
   abbrev places : List ℕ
   places = commandsAt (r .stream) 0
 
-  -- where all commands point, every field of the types does
-  pub fields-point : AllPointAt r c (fieldPlaces (r .stream)) → AllPoint c
+  -- what holds at the places of all field commands holds of every field of the types
+  pub of-fields : ((at : ℕ) → List·Memᴰ at (fieldPlaces (r .stream)) → P (fieldHere (r .stream) (r .pool) at))
+      → (f : Field) → FieldIn (typesIn c) f → P f
   unfolding placesOf schemaOf schemaFrom
-  fields-point a f m =
+  of-fields a f m =
       let w = all-stand (r .stream) (r .pool) places (subst (λ (x : Schema). FieldIn (typesIn x) f) (sym (accepting Current r c e .is-schema)) m) in
-      subst (Points (typesIn c)) (sym (w .is-field)) (a (w .at) (in-places (r .stream) 11 places (w .is-in) (w .number)))
+      let there = a (w .at) (in-places (r .stream) 11 places (w .is-in) (w .number)) in
+      subst P (sym (w .is-field)) (keyless (fieldAt (drop (w .at) (r .stream))) none (w .key) there)
 
   -- and the other way round
-  pub places-point : AllPoint c → AllPointAt r c (fieldPlaces (r .stream))
+  pub at-places : ((f : Field) → FieldIn (typesIn c) f → P f)
+      → (at : ℕ) → List·Memᴰ at (fieldPlaces (r .stream)) → P (fieldHere (r .stream) (r .pool) at)
   unfolding placesOf parsed schemaOf schemaFrom
-  places-point a at m =
+  at-places a at m =
       let w = comes (r .stream) anything 11 (λ x rest. x) places m in
       let g = accepting Current r c e in
       let f = found Current (r .stream) (r .pool) (length (r .stream) + 1) start places (g .parsed-all) (w .at) (w .is-in) (w .number) in
-      subst (λ (y : ℕ). Points (typesIn c) (fieldHere (r .stream) (r .pool) y)) (sym (w .is-made))
+      subst (λ (y : ℕ). P (fieldHere (r .stream) (r .pool) y)) (sym (w .is-made))
+      (keyless (fieldAt (drop (w .at) (r .stream))) (f .key) none
       (a _ (subst (λ (x : Schema). FieldIn (typesIn x) (fieldOf (r .pool) (fieldAt (drop (w .at) (r .stream))) (f .key))) (g .is-schema)
-      (declared-by _ (f .within))))
+      (declared-by _ (f .within)))))
     where
       declared-by : (x : Field) → Within (r .stream) (r .pool) NoParent places x → FieldIn (typesIn (schemaOf r)) x
       declared-by x (inl i) = absurd i

@@ -183,7 +183,8 @@ module _ (s p rows : Str) (o : Outcome) (e : rows ≡ builtInRows) (h : Read Cur
   unfolding pointers pointersRead refusalOf
   pointers-refused x at k f =
       let g = f [] in
-      rw (reading-refused Current s p rows o e h x at k) (record { number = g .number; side = g .side; place = g .place; len = g .len; no-text = refl })
+      rw (reading-refused Current s p rows o e h x at k)
+      (record { number = g .number; side = g .side; place = g .place; len = g .len; no-text = refl })
 
   pub pointers-read : o ≡ Readable → Answers (faultFrom s p 0) a → Answers (pointers (rec s p builtIn)) a
   unfolding pointers pointersRead faultFrom schemaOf schemaFrom structsAt familiesAt
