@@ -71,6 +71,8 @@ fn beginnings(rng: &mut Rng) -> Vec<Pair> {
     for fixed in records::records() {
         pairs.extend(Side::BOTH.map(|side| Pair::beside(fixed.record.clone(), side)));
     }
+    let pointers = findings::pointers::records().into_iter();
+    pairs.extend(pointers.map(|fixed| Pair::beside(fixed.record, Side::Current)));
     for number in FIRST_VERDICT..=LAST_VERDICT {
         pairs.extend((0..3).map(|_| aimed(Aim::Verdict(number), rng)));
     }

@@ -122,7 +122,7 @@ number-said kind ty n p h =
 -- the structure is declared after the pointer
 pub one-accepted : (c : Schema) × (reading Current (record-of "struct_ptr" (t "tile")) ≡ read c) × AllPoint c
 unfolding says
-one-accepted = accepts _ (number-said "struct_ptr" (t "tile") 0 0 refl)
+one-accepted = accepts (record-of "struct_ptr" (t "tile")) (number-said "struct_ptr" (t "tile") 0 0 refl)
 
 -- the name is a family's alone
 pub one-broken : (c : Schema) × (reading Current (record-of "struct_ptr" (t "fam")) ≡ read c)
