@@ -27,13 +27,13 @@ fn accepted() {
 fn broken() {
     let folder = Folder::new("pointers_broken");
     for (field, line) in [
-        ("a struct_ptr type=frame", "60 names the other: frame::fast.a: struct_ptr names frame, which is a family"),
-        ("a struct_array_ptr type=tile element=frame", "60 names the other: frame::fast.a: struct_array_ptr names frame, which is a family"),
-        ("a tagged_fam_ptr type=tile", "60 names the other: frame::fast.a: tagged_fam_ptr names tile, which is a structure"),
-        ("a struct_ptr type=gone", "59 names nothing: frame::fast.a: struct_ptr names gone, which is neither a structure nor a family"),
-        ("a tagged_fam_ptr type=frame::fast", "59 names nothing: frame::fast.a: tagged_fam_ptr names frame::fast, which is neither a structure nor a family"),
-        ("a struct_ptr_array_ptr type=tile", "59 names nothing: frame::fast.a: struct_ptr_array_ptr has no name"),
-        ("a struct_ptr type=\"\"", "59 names nothing: frame::fast.a: struct_ptr names \"\", which is neither a structure nor a family"),
+        ("a struct_ptr type=frame", "60 names the other: place 69 of the stream, frame::fast.a: struct_ptr names frame, which is a family"),
+        ("a struct_array_ptr type=tile element=frame", "60 names the other: place 69 of the stream, frame::fast.a: struct_array_ptr names frame, which is a family"),
+        ("a tagged_fam_ptr type=tile", "60 names the other: place 69 of the stream, frame::fast.a: tagged_fam_ptr names tile, which is a structure"),
+        ("a struct_ptr type=gone", "59 names neither: place 69 of the stream, frame::fast.a: struct_ptr names gone, which is neither a structure nor a family"),
+        ("a tagged_fam_ptr type=frame::fast", "59 names neither: place 69 of the stream, frame::fast.a: tagged_fam_ptr names frame::fast, which is neither a structure nor a family"),
+        ("a struct_ptr_array_ptr type=tile", "59 names neither: place 69 of the stream, frame::fast.a: struct_ptr_array_ptr has no name"),
+        ("a struct_ptr type=\"\"", "59 names neither: place 69 of the stream, frame::fast.a: struct_ptr names \"\", which is neither a structure nor a family"),
     ] {
         let given = record(&folder, &format!("field {field}"));
         assert_eq!(run(&["pointers", &given]).said(1), format!("{line}\n"));
@@ -47,7 +47,7 @@ fn the_first_is_told() {
     // The head has 5 bytes, a structure 10, a field 33, a family 17, a variant 4.
     let place = 5 + 10 + 33 + 17 + 4 + 33;
     let json = format!(
-        "{{\"refusal\":null,\"broken\":{{\"number\":59,\"word\":\"names nothing\",\"place\":{place},\"type\":\"frame::fast\",\
+        "{{\"refusal\":null,\"broken\":{{\"number\":59,\"word\":\"names neither\",\"place\":{place},\"type\":\"frame::fast\",\
          \"field\":\"b\",\"kind\":\"tagged_fam_ptr\",\"name\":null}}}}\n"
     );
     assert_eq!(run(&["pointers", &given, "--json"]).said(1), json);

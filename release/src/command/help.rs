@@ -31,8 +31,8 @@ where it is given more than once, the records follow each other there. Words aft
 
 Exit status:
   0  accepted, or done
-  1  a verdict (check), an offered record was dropped (chain), or a pointer names what
-     it must not (pointers)
+  1  a verdict (check), an offered record was dropped (chain), or a pointer does not
+     name what it must (pointers)
   2  a damaged record, or a text that cannot be assembled
   3  a usage error, or a file that cannot be read or written
 ";
@@ -103,7 +103,7 @@ usage: release pointers RECORD [--json]
 Checks the pointers of a record about to ship: a struct_ptr, struct_array_ptr or
 struct_ptr_array_ptr names a declared structure, a tagged_fam_ptr a declared family.
 Other kinds are not judged. Prints `accepted`, or for the first field that breaks
-this the number, its word, the type, the field, its kind and what it names:
+this the number, its word, the place, the type, the field, its kind and its name:
 
   59  neither a structure nor a family, or there is no name
   60  only the other of the two

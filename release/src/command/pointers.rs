@@ -35,7 +35,8 @@ fn line(broken: &Broken) -> String {
         None => "has no name".to_string(),
         Some(name) => format!("names {}, which is {}", written(name), found(broken)),
     };
-    format!("{number} {}: {field}: {kind} {named}", word(number).unwrap_or_default())
+    let place = format!("place {} of the stream", broken.place);
+    format!("{number} {}: {place}, {field}: {kind} {named}", word(number).unwrap_or_default())
 }
 
 /// What the name is instead of what it must be.

@@ -59,7 +59,7 @@ const WORDS: [(u32, &str); 49] = [
     (44, "unlisted"),
     (45, "leapt"),
     (46, "fell"),
-    (59, "names nothing"),
+    (59, "names neither"),
     (60, "names the other"),
 ];
 

@@ -5,7 +5,7 @@ use super::decode;
 use super::Problem;
 use crate::{pointers, Record};
 
-/// The first pointer that names what it must not.
+/// A pointer that does not name what it must.
 #[derive(Clone, Debug, PartialEq, Eq)]
 pub struct Broken {
     pub number: u32,
@@ -18,7 +18,7 @@ pub struct Broken {
     pub name: Option<Vec<u8>>,
 }
 
-/// The first pointer of a current record that names what it must not, or none.
+/// The first pointer of a current record that does not name what it must, or none.
 pub fn broken(record: Record) -> Result<Option<Broken>, Problem> {
     let answer = pointers(record);
     match answer.number {
