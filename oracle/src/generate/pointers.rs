@@ -8,8 +8,7 @@ use super::{damage, make};
 use crate::model::{Content, Family, Field, Item, Side, Struct, Variant};
 use crate::rng::Rng;
 
-/// The kinds that are judged, with the operand that names: the type, or the
-/// element.
+/// The kinds that are judged.
 const JUDGED: [&str; 4] = [
     "struct_ptr",
     "struct_array_ptr",
