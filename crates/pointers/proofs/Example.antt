@@ -2,7 +2,7 @@
 use mathlib.Core.Path.{_≡_, refl}
 use mathlib.Core.List.{List, [], _∷_, _++_}
 use mathlib.Core.Bool.{Bool, true, _&&_, cond}
-use Prim.Native.Nat.{ℕ, suc, _≤_}
+use Prim.Native.Nat.{ℕ, suc}
 use native.Mathlib.Omega.{arith}
 use borrow.Author.Tests.{eqb-true}
 use Prim.Native.String.{String}
@@ -62,7 +62,7 @@ stream kind ty element =
     ++ 9 ∷ t "fam" ++ t "tag" ++ t "e" ++ t "len" ++ t "u8" ++ 1 ∷ []
     ++ 15 ∷ []
 
--- number and place
+-- the answer has this number and this place, and its side and its length are 0
 unfoldable pub says : String → Str → Str → ℕ → ℕ → Bool
 unfolding bytes eqs isSome orElse orOption mapOption find first any scalarIn primSize builtIn u16At u32At u64At textOf textAt optText optTextAt
     flagAt optNumberAt operands wide widths widthWith widthOf commandOf stepAt commandsFrom commandsAt

@@ -47,9 +47,11 @@ pointeeOf K.Padding = Unjudged
 pointeeOf K.Text = Unjudged
 pointeeOf K.Other = Unjudged
 
+-- 02: "a declared structure", wherever in the record it stands
 unfoldable pub isStruct : Types → Str → Bool
 isStruct t n = isSome (structIn n (t .structs))
 
+-- 02: "a declared family"
 unfoldable pub isFamily : Types → Str → Bool
 isFamily t n = isSome (familyIn n (t .families))
 
