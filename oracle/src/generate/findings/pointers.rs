@@ -151,7 +151,8 @@ fn orders() -> Vec<FixedRecord> {
     ]
 }
 
-/// W-212.2 again, in streams of 2,048 bytes and more, as far as the limit.
+/// W-212.2 again, in streams a little under and over 2,048 bytes, and in the
+/// longest.
 fn longs() -> Vec<FixedRecord> {
     let many = |label, count: usize, last: Field| {
         let mut s = structure("s");
