@@ -16,7 +16,7 @@ use Rattle.record.specs.declared.refusal.Side.the-variants.{Current}
 use Rattle.layout.specs.Answer.{Answer, refusalOf}
 use Rattle.pointers.specs.Pointers.{fieldFault, fieldHere, fieldPlaces, accepted, orNext, firstFault, pointersRead, pointers}
 use Rattle.pointers.specs.Rule.{Points, AllPoint, AllPointAt, FirstBroken}
-use Rattle.pointers.proofs.RuleLaws.{Judged, judged, points-none, breaks-number}
+use Rattle.pointers.proofs.RuleLaws.{FaultMeans, fault-means, points-none, breaks-number}
 use Rattle.pointers.proofs.Fields.{of-fields, at-places}
 
 refusal-within : (n : Refusal) → (1 ≤ refusalNumber n) × (refusalNumber n ≤ 9)
@@ -46,19 +46,19 @@ module _ (r : Rec) (c : Schema) where
   here at = fieldHere (r .stream) (r .pool) at
 
   -- all point where they must, and the check accepts; or the first that does not
-  abbrev Answered : List ℕ → Answer → Type 0
-  Answered ps a = (AllPointAt r c ps × (a ≡ accepted)) ⊎ FirstBroken r c ps a
+  abbrev AllOrFirst : List ℕ → Answer → Type 0
+  AllOrFirst ps a = (AllPointAt r c ps × (a ≡ accepted)) ⊎ FirstBroken r c ps a
 
-  answered : (ps : List ℕ) → Answered ps (first ps)
+  all-or-first : (ps : List ℕ) → AllOrFirst ps (first ps)
   unfolding firstFault orNext
-  answered [] = inl (λ at m. absurd (List·Memᴰ·not-nil m), refl)
-  answered (at ∷ ps) = go (fieldFault (typesIn c) (here at)) (judged (typesIn c) (here at)) (answered ps)
+  all-or-first [] = inl (λ at m. absurd (List·Memᴰ·not-nil m), refl)
+  all-or-first (at ∷ ps) = go (fieldFault (typesIn c) (here at)) (fault-means (typesIn c) (here at)) (all-or-first ps)
     where
       more : Points (typesIn c) (here at) → (qs : List ℕ) → AllPointAt r c qs → AllPointAt r c (at ∷ qs)
       more p qs a x (List·Memᴰ·head e) = subst (λ (y : ℕ). Points (typesIn c) (here y)) (sym e) p
       more p qs a x (List·Memᴰ·tail m) = a x m
 
-      go : (o : Option ℕ) → Judged (typesIn c) (here at) o → Answered ps (first ps) → Answered (at ∷ ps) (orNext at o (first ps))
+      go : (o : Option ℕ) → FaultMeans (typesIn c) (here at) o → AllOrFirst ps (first ps) → AllOrFirst (at ∷ ps) (orNext at o (first ps))
       go none p (inl w) = inl (more p ps (w .0), w .1)
       go none p (inr w) = inr (record {
         before = at ∷ w .before;
@@ -82,7 +82,7 @@ module _ (r : Rec) (c : Schema) where
   accepted-at [] h = refl
   accepted-at (at ∷ ps) h =
       let none-here =
-      points-none (typesIn c) (here at) (fieldFault (typesIn c) (here at)) (judged (typesIn c) (here at)) (h at (List·Memᴰ·head refl))
+      points-none (typesIn c) (here at) (fieldFault (typesIn c) (here at)) (fault-means (typesIn c) (here at)) (h at (List·Memᴰ·head refl))
       in
       ap (λ (o : Option ℕ). orNext at o (first ps)) none-here ∙ accepted-at ps (λ x m. h x (List·Memᴰ·tail m))
 
@@ -93,14 +93,14 @@ unfolding pointers pointersRead
 accepts r h = go (reading Current r) refl h
   where
     at : (c : Schema) → reading Current r ≡ read c → first r c (fieldPlaces (r .stream)) .number ≡ 0
-        → Answered r c (fieldPlaces (r .stream)) (first r c (fieldPlaces (r .stream)))
+        → AllOrFirst r c (fieldPlaces (r .stream)) (first r c (fieldPlaces (r .stream)))
         → (d : Schema) × (reading Current r ≡ read d) × AllPoint d
     at c e k (inl w) = (c, e, of-fields r c e (Points (typesIn c)) (λ d x y h. h) (w .0))
     at c e k (inr w) = absurd (breaks-number _ _ _ (w .breaks) k)
 
     go : (x : Reading) → reading Current r ≡ x → pointersRead r x .number ≡ 0 → (d : Schema) × (reading Current r ≡ read d) × AllPoint d
     go (refuse x p) e k = absurd (refusal-not-zero x p k)
-    go (read c) e k = at c e k (answered r c (fieldPlaces (r .stream)))
+    go (read c) e k = at c e k (all-or-first r c (fieldPlaces (r .stream)))
 
 -- .. and every such record is accepted
 pub accepts-back : (r : Rec) (c : Schema) → reading Current r ≡ read c → AllPoint c → pointers r ≡ accepted
@@ -111,12 +111,12 @@ accepts-back r c e a = rw e (accepted-at r c (fieldPlaces (r .stream)) (at-place
 pub first-broken : (r : Rec) (c : Schema) → reading Current r ≡ read c → (pointers r .number ≡ 0 → ⊥)
     → FirstBroken r c (fieldPlaces (r .stream)) (pointers r)
 unfolding pointers pointersRead
-first-broken r c e n = go (answered r c (fieldPlaces (r .stream)))
+first-broken r c e n = go (all-or-first r c (fieldPlaces (r .stream)))
   where
     is : pointers r ≡ first r c (fieldPlaces (r .stream))
     is = rw e
 
-    go : Answered r c (fieldPlaces (r .stream)) (first r c (fieldPlaces (r .stream))) → FirstBroken r c (fieldPlaces (r .stream)) (pointers r)
+    go : AllOrFirst r c (fieldPlaces (r .stream)) (first r c (fieldPlaces (r .stream))) → FirstBroken r c (fieldPlaces (r .stream)) (pointers r)
     go (inl w) = absurd (n (ap (λ (a : Answer). a .number) (is ∙ w .1)))
     go (inr w) = subst (FirstBroken r c (fieldPlaces (r .stream))) (sym is) w
 

@@ -1,4 +1,4 @@
--- The field commands of an accepted record are the fields of its structures, families and variants: each gives one, by the rules of place, and each
+-- The field commands of a readable record are the fields of its structures, families and variants: each gives one, by the rules of place, and each
 -- of them comes from one. So what holds of all these fields is what holds at the places of the commands. Assumes nothing.
 use mathlib.Core.Path.{_≡_, refl, sym, _∙_, ap, subst}
 use mathlib.Core.List.{List, [], _∷_, List·Memᴰ, List·Memᴰ·head, List·Memᴰ·tail, List·Memᴰ·not-nil}
@@ -140,7 +140,7 @@ module _ (s p : Str) where
       let x = comes s aField 10 aVariant-of (w .rest) (subst (λ (u : Family). List·Memᴰ v (u .variants)) (w .is-made) i) in
       field-stands ps (x .rest) (λ q l. w .later q (x .later q l)) (subst (λ (u : Variant). List·Memᴰ f (u .fields)) (x .is-made) n)
 
--- every field command of an accepted record gives a field of a type ------------------------------------------------------------------------
+-- every field command of a readable record gives a field of a type -------------------------------------------------------------------------
 
 module _ (s p : Str) where
   -- a field of the type that is open before some commands

@@ -78,10 +78,10 @@ module _ (t : Types) where
 
 -- a field ---------------------------------------------------------------------------------------------------------------------------------
 
--- what an error says of a field
-abbrev pub Judged : Types → Field → Option ℕ → Type 0
-Judged t f none = Points t f
-Judged t f (some n) = Breaks t f n
+-- what an error, or none, means of a field
+abbrev pub FaultMeans : Types → Field → Option ℕ → Type 0
+FaultMeans t f none = Points t f
+FaultMeans t f (some n) = Breaks t f n
 
 module _ (t : Types) (f : Field) where
   abbrev must : Pointee
@@ -107,7 +107,7 @@ module _ (t : Types) (f : Field) where
     λ o m. absurd (let a : must ≡ ToFamily = ap pointeeOf (m .0) in let z : _≡_ {A = ℕ} 0 1 = cc in omega arith),
   )
 
-  to-struct : (o : Option Str) → StructPointer f o → (x : Option ℕ) → Named (NamesStruct t o) (NamesFamily t o) x → Judged t f x
+  to-struct : (o : Option Str) → StructPointer f o → (x : Option ℕ) → Named (NamesStruct t o) (NamesFamily t o) x → FaultMeans t f x
   to-struct o s none w = (
     λ q z. subst (NamesStruct t) (struct-operand o s ∙ sym (struct-operand q z)) w,
     λ q m. absurd (apart (struct-pointee o s) (ap pointeeOf (m .0))),
@@ -115,34 +115,34 @@ module _ (t : Types) (f : Field) where
   to-struct o s (some n) (inl (a, b, e)) = no-struct o s a b e
   to-struct o s (some n) (inr (a, b, e)) = only-family o s a b e
 
-  to-family : (o : Option Str) → FamilyPointer f o → (x : Option ℕ) → Named (NamesFamily t o) (NamesStruct t o) x → Judged t f x
+  to-family : (o : Option Str) → FamilyPointer f o → (x : Option ℕ) → Named (NamesFamily t o) (NamesStruct t o) x → FaultMeans t f x
   to-family o m none w = (λ q s. absurd (apart (struct-pointee q s) (ap pointeeOf (m .0))), λ q n. subst (NamesFamily t) (m .1 ∙ sym (n .1)) w)
   to-family o m (some n) (inl (a, b, e)) = no-family o m a b e
   to-family o m (some n) (inr (a, b, e)) = only-struct o m a b e
 
-  judged-as : (k : Kind) → kindOf (f .kind) ≡ k → Judged t f (pointeeFault t (pointeeOf k) (referencedAs k f))
+  fault-means-as : (k : Kind) → kindOf (f .kind) ≡ k → FaultMeans t f (pointeeFault t (pointeeOf k) (referencedAs k f))
   unfolding referencedAs pointeeFault
-  judged-as K.StructPtr e = to-struct (f .typ) (inl (e, refl)) (pointeeFault t ToStruct (f .typ)) (struct-judged t (f .typ))
-  judged-as K.StructArrayPtr e = to-struct (f .element) (inr (inl (e, refl))) (pointeeFault t ToStruct (f .element)) (struct-judged t (f .element))
-  judged-as K.StructPtrArrayPtr e = to-struct (f .element) (inr (inr (e, refl))) (pointeeFault t ToStruct (f .element)) (struct-judged t (f .element))
-  judged-as K.TaggedFamPtr e = to-family (f .typ) (e, refl) (pointeeFault t ToFamily (f .typ)) (family-judged t (f .typ))
-  judged-as K.SimpleFamPtr e = free (ap pointeeOf e)
-  judged-as K.Scalar e = free (ap pointeeOf e)
-  judged-as K.Enum e = free (ap pointeeOf e)
-  judged-as K.TypeAlias e = free (ap pointeeOf e)
-  judged-as K.Bitfield e = free (ap pointeeOf e)
-  judged-as K.InlineArray e = free (ap pointeeOf e)
-  judged-as K.InlineArray2d e = free (ap pointeeOf e)
-  judged-as K.CstrPtr e = free (ap pointeeOf e)
-  judged-as K.OpaquePtr e = free (ap pointeeOf e)
-  judged-as K.FnPtr e = free (ap pointeeOf e)
-  judged-as K.Padding e = free (ap pointeeOf e)
-  judged-as K.Text e = free (ap pointeeOf e)
-  judged-as K.Other e = free (ap pointeeOf e)
+  fault-means-as K.StructPtr e = to-struct (f .typ) (inl (e, refl)) (pointeeFault t ToStruct (f .typ)) (struct-judged t (f .typ))
+  fault-means-as K.StructArrayPtr e = to-struct (f .element) (inr (inl (e, refl))) (pointeeFault t ToStruct (f .element)) (struct-judged t (f .element))
+  fault-means-as K.StructPtrArrayPtr e = to-struct (f .element) (inr (inr (e, refl))) (pointeeFault t ToStruct (f .element)) (struct-judged t (f .element))
+  fault-means-as K.TaggedFamPtr e = to-family (f .typ) (e, refl) (pointeeFault t ToFamily (f .typ)) (family-judged t (f .typ))
+  fault-means-as K.SimpleFamPtr e = free (ap pointeeOf e)
+  fault-means-as K.Scalar e = free (ap pointeeOf e)
+  fault-means-as K.Enum e = free (ap pointeeOf e)
+  fault-means-as K.TypeAlias e = free (ap pointeeOf e)
+  fault-means-as K.Bitfield e = free (ap pointeeOf e)
+  fault-means-as K.InlineArray e = free (ap pointeeOf e)
+  fault-means-as K.InlineArray2d e = free (ap pointeeOf e)
+  fault-means-as K.CstrPtr e = free (ap pointeeOf e)
+  fault-means-as K.OpaquePtr e = free (ap pointeeOf e)
+  fault-means-as K.FnPtr e = free (ap pointeeOf e)
+  fault-means-as K.Padding e = free (ap pointeeOf e)
+  fault-means-as K.Text e = free (ap pointeeOf e)
+  fault-means-as K.Other e = free (ap pointeeOf e)
 
-  pub judged : Judged t f (fieldFault t f)
+  pub fault-means : FaultMeans t f (fieldFault t f)
   unfolding fieldFault referenced
-  judged = judged-as (kindOf (f .kind)) refl
+  fault-means = fault-means-as (kindOf (f .kind)) refl
 
   breaks-points : (n : ℕ) → Breaks t f n → Points t f → ⊥
   breaks-points n (no-struct o s a b e) p = a (p .0 o s)
@@ -151,7 +151,7 @@ module _ (t : Types) (f : Field) where
   breaks-points n (only-struct o m a b e) p = a (p .1 o m)
 
   -- a field that points where it must has no error
-  pub points-none : (x : Option ℕ) → Judged t f x → Points t f → x ≡ none
+  pub points-none : (x : Option ℕ) → FaultMeans t f x → Points t f → x ≡ none
   points-none none j p = refl
   points-none (some n) j p = absurd (breaks-points n j p)
 
