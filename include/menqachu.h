@@ -9,7 +9,8 @@
 #include <stdint.h>
 
 /* Number 0: accepted, or the list is written. 1 to 9: a record is refused, with its side (0 current, 1 released) and the place.
-   10: no room, with the length needed. 11 to 46: a verdict, with its message of that length. */
+   10: no room, with the length needed. 11 to 46: a verdict, with its message of that length. 59, 60: a pointer that names neither a structure
+   nor a family, or only the other of the two, with the place of its field. */
 typedef struct {
     uint32_t number;
     uint32_t side;
@@ -38,5 +39,8 @@ menqachu_answer menqachu_list(bool released, const uint8_t *stream, size_t strea
 /* The owner of a name in a current record. */
 menqachu_owner_answer menqachu_owner(const uint8_t *stream, size_t stream_len, const uint8_t *pool, size_t pool_len,
                                      const uint8_t *name, size_t name_len);
+
+/* Whether the pointers of a current record name what they must: 0, 1 to 9, 59 or 60. */
+menqachu_answer menqachu_pointers(const uint8_t *stream, size_t stream_len, const uint8_t *pool, size_t pool_len);
 
 #endif

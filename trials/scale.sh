@@ -45,6 +45,7 @@ MENQACHU_ARCHIVE=$searching CARGO_TARGET_DIR=$searching/cargo nice -n 15 cargo b
 step "checks, seed 101, $(of 500000) pairs" "$trials" checks 101 "$(of 500000)" "$(of 500)"
 step "lists, seed 102, $(of 100000) records" "$trials" lists 102 "$(of 100000)"
 step "owners, seed 103, $(of 100000) records" "$trials" owners 103 "$(of 100000)"
+step "pointers, seed 108, $(of 100000) records" "$trials" pointers 108 "$(of 100000)"
 step "chains, seed 104, $(of 8000) chains" "$trials" chains 104 "$(of 8000)"
 step "memcheck, seed 105, $(of 3000) pairs" valgrind -q --error-exitcode=1 "$trials" memcheck 105 "$(of 3000)"
 step "sections, seed 107, $(of 20000) pairs and a control of $(of 1000)" "$trials" sections 107 "$(of 20000)"

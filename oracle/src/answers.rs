@@ -1,4 +1,4 @@
-//! The answers of the three calls, from the Rust's own functions.
+//! The answers of the calls of document 01, from the Rust's own functions.
 
 use crate::json;
 use crate::layout::{Layout, compare};
@@ -81,7 +81,7 @@ pub fn owner(stream: &[u8], pool: &[u8], name: &[u8]) -> Owner {
 }
 
 impl Answer {
-    fn refused(refusal: Refusal, side: Side) -> Self {
+    pub(crate) fn refused(refusal: Refusal, side: Side) -> Self {
         Answer {
             number: refusal.number,
             side: side.number(),
@@ -112,7 +112,7 @@ impl Answer {
     }
 }
 
-fn as_u32(n: usize) -> u32 {
+pub(crate) fn as_u32(n: usize) -> u32 {
     n.try_into().expect("places and lengths have 32 bits")
 }
 

@@ -1,6 +1,6 @@
 //! The comparison part of metadata-gen, built unchanged, as the judge of its
-//! port: answers of the check, the list and the owner call, and the records to
-//! ask them of.
+//! port: answers of the check, the list, the owner call and the check of
+//! pointers, and the records to ask them of.
 
 include!(concat!(env!("OUT_DIR"), "/metadata_gen.rs"));
 
@@ -14,6 +14,7 @@ pub mod keys_gen;
 pub mod model;
 pub mod operands;
 pub mod parts;
+pub mod pointers;
 pub mod reader;
 pub mod rng;
 pub mod samples;
@@ -26,3 +27,4 @@ pub mod visit;
 
 pub use answers::{Answer, Owner, check, list, owner};
 pub use model::Side;
+pub use pointers::pointers;

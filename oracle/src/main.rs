@@ -13,12 +13,14 @@ oracle vectors-record --seed S --count N [--longs K] OUT
 oracle vectors-owner --seed S --count N OUT
 oracle vectors-list --seed S --count N OUT
 oracle vectors-check --seed S --count N OUT
+oracle vectors-pointers --seed S --count N OUT
 oracle samples --seed S --per-number K
 oracle samples-list --seed S --per-number K
 oracle samples-owner --seed S --per-number K
 oracle answer-check ROOM < FOUR_PARTS
 oracle answer-list SIDE ROOM < TWO_PARTS
 oracle answer-owner NAME < TWO_PARTS
+oracle answer-pointers < TWO_PARTS
 ";
 
 fn main() -> ExitCode {
@@ -46,12 +48,14 @@ fn run(args: &Args) -> Option<String> {
         "vectors-owner" => args.write(&vectors::owners(args.seed()?, args.count()?)),
         "vectors-list" => args.write(&vectors::lists(args.seed()?, args.count()?)),
         "vectors-check" => args.write(&vectors::checks(args.seed()?, args.count()?)),
+        "vectors-pointers" => args.write(&vectors::pointers(args.seed()?, args.count()?)),
         "samples" => lines(samples::pairs(args.seed()?, args.per_number()?)),
         "samples-list" => lines(samples::lists(args.seed()?, args.per_number()?)),
         "samples-owner" => lines(samples::owners(args.seed()?, args.per_number()?)),
         "answer-check" => answer_check(args),
         "answer-list" => answer_list(args),
         "answer-owner" => answer_owner(args),
+        "answer-pointers" => Some(answer_pointers()),
         _ => None,
     }
 }
@@ -86,6 +90,12 @@ fn answer_owner(args: &Args) -> Option<String> {
     let answer = answers::owner(&stream, &pool, name.as_bytes());
     let (kind, a, b) = answer.numbers();
     Some(format!("{kind} {a} {b}\n"))
+}
+
+fn answer_pointers() -> String {
+    let mut parts = input();
+    let [stream, pool] = [parts.part(), parts.part()];
+    shown(&oracle::pointers(&stream, &pool))
 }
 
 /// An answer's four numbers on a line, and its text after that.

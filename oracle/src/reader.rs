@@ -33,6 +33,8 @@ pub struct Record {
     pub opened: Vec<usize>,
     /// The name of each 08, in stream order.
     pub struct_names: Vec<Stretch>,
+    /// The place of each 0B, in stream order.
+    pub fields: Vec<usize>,
 }
 
 /// Read a record, whole.
@@ -93,6 +95,7 @@ impl<'a> Reader<'a> {
                 content: Content::default(),
                 opened: Vec::new(),
                 struct_names: Vec::new(),
+                fields: Vec::new(),
             },
         }
     }
@@ -160,6 +163,9 @@ impl<'a> Reader<'a> {
         }
         if command == commands::STRUCT {
             self.record.struct_names.push(operands.stretch());
+        }
+        if command == commands::FIELD {
+            self.record.fields.push(at);
         }
         self.record.content.take(command, &mut operands);
     }

@@ -1,22 +1,10 @@
 //! Smaller contents that show the same.
 
-use crate::generate::words::{POINTERS, PRIMITIVES, SLOTS};
+use crate::generate::words::{PLAIN_KINDS, POINTERS, PRIMITIVES, SLOTS};
 use crate::model::Content;
 
 /// Contents that are shrunk together: a pair, or one.
 pub type Contents = Vec<Content>;
-
-/// The kinds that are no pointers.
-const KINDS: [&str; 8] = [
-    "scalar",
-    "enum",
-    "type_alias",
-    "bitfield",
-    "inline_array",
-    "inline_array2d",
-    "padding",
-    "string",
-];
 
 /// Shrink contents as far as `same` stays true of them, by the first smaller
 /// ones found each time.
@@ -86,7 +74,7 @@ fn optionals_cleared(contents: &Contents, at: usize) -> Vec<Contents> {
 /// The contents with a longer text replaced by a letter that none of them has,
 /// unless the text is a word with a meaning.
 fn renamed(contents: &Contents, text: &str) -> Option<Contents> {
-    let word = [&KINDS[..], &POINTERS, &PRIMITIVES, &SLOTS].concat();
+    let word = [&PLAIN_KINDS[..], &POINTERS, &PRIMITIVES, &SLOTS].concat();
     if text.len() < 2 || word.contains(&text) {
         return None;
     }

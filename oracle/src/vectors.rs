@@ -9,6 +9,7 @@ use crate::generate::findings::{self, lists, owners, records};
 use crate::generate::questions::{self, Question};
 use crate::generate::{self, Aim, Pair};
 use crate::model::Side;
+use crate::pointers::{self, NEITHER, OTHER};
 use crate::reader::{LONG, POOL_LIMIT, read};
 use crate::rng::Rng;
 use crate::verdicts::{FIRST_VERDICT, LAST_VERDICT};
@@ -254,4 +255,44 @@ fn pack_check(packer: &mut Packer, pair: &Pair, room: usize) {
     packer.record(&pair.current);
     packer.record(&pair.released);
     pack_answer(packer, &answer, room);
+}
+
+/// The file of `vectors-pointers`: `count` records, a sixteenth of them for 0,
+/// for 59, for 60 and for each refusal. Of refusal 8 there are two.
+pub fn pointers(seed: u64, count: usize) -> Vec<u8> {
+    let mut rng = Rng::new(seed);
+    let mut packer = Packer::default();
+    for fixed in findings::pointers::records() {
+        pack_pointers(&mut packer, &fixed.record);
+    }
+    for record in short_records() {
+        pack_pointers(&mut packer, &record);
+    }
+    let drawn = generate::pointers::record;
+    let share = count.div_ceil(16);
+    for number in [0, NEITHER, OTHER] {
+        while packer.has(number, 0) < share {
+            pack_pointers(&mut packer, &drawn(&mut rng));
+        }
+    }
+    for number in 1..=9 {
+        let share = if number == LONG { 2 } else { share };
+        while packer.has(number, 0) < share {
+            let record = generate::pointers::refused(number, &mut rng);
+            pack_pointers(&mut packer, &record);
+        }
+    }
+    while packer.cases < count {
+        pack_pointers(&mut packer, &drawn(&mut rng));
+    }
+    packer.bytes
+}
+
+/// The record, the number and the place: the side and the length are 0.
+fn pack_pointers(packer: &mut Packer, record: &Encoded) {
+    let answer = pointers::pointers(&record.stream, &record.pool);
+    packer.count(answer.number, answer.side);
+    packer.record(record);
+    packer.byte(answer.number as u8);
+    packer.word(answer.place);
 }

@@ -19,7 +19,8 @@ pub enum Side {
     Released,
 }
 
-/// What a call answers: a number of document 01, the side and the place of a refusal, and the length of the text.
+/// What a call answers: a number of document 01 or 02, the side and the place of a refusal, or the place of a broken pointer, and the length
+/// of the text.
 #[repr(C)]
 #[derive(Clone, Copy, Debug, Default, PartialEq, Eq)]
 pub struct Answer {
@@ -76,6 +77,7 @@ unsafe extern "C" {
         name: *const u8,
         name_len: usize,
     ) -> OwnerAnswer;
+    fn menqachu_pointers(stream: *const u8, stream_len: usize, pool: *const u8, pool_len: usize) -> Answer;
 }
 
 /// Checks a current record against a released one; a verdict's message stands at the front of `out`.
@@ -128,4 +130,12 @@ pub fn owner(record: Record, name: &[u8]) -> Owner {
         return Owner::Nobody;
     }
     Owner::Named { start: answer.start as usize, len: answer.len as usize }
+}
+
+/// Whether the pointers of a current record name what they must: 0, the record's refusal, or 59 or 60 with the place of the first field that
+/// breaks this.
+pub fn pointers(record: Record) -> Answer {
+    let (stream, pool) = (record.stream, record.pool);
+    // SAFETY: each pointer comes with the length of its slice, and nothing is written to.
+    unsafe { menqachu_pointers(stream.as_ptr(), stream.len(), pool.as_ptr(), pool.len()) }
 }

@@ -9,7 +9,7 @@ use std::thread;
 
 use common::top;
 use common::vectors::{pairs, Vectors};
-use menqachu::{check, list, owner, Owner, Side};
+use menqachu::{check, list, owner, pointers, Answer, Owner, Side};
 
 const STACK: usize = 512 * 1024;
 const MARK: u8 = 0xa5;
@@ -77,6 +77,23 @@ fn owner_answers_as_the_oracle() {
             count += 1;
         }
         assert!(count >= 300);
+    });
+}
+
+#[test]
+fn pointers_answers_as_the_oracle() {
+    let mut file = Vectors::open("crates/vectors_pointers/data/pointers");
+    on_small_stack(move || {
+        let mut counts = [0; 61];
+        while !file.done() {
+            let record = file.record();
+            let (number, place) = (file.byte(), file.number());
+            let expected = Answer { number: number.into(), side: 0, place, len: 0 };
+            assert_eq!(pointers(record.record()), expected);
+            counts[usize::from(number)] += 1;
+        }
+        assert!(counts[0] >= 40 && counts[59] >= 40 && counts[60] >= 40, "{counts:?}");
+        assert!((1..=9).all(|number| counts[number] >= 2), "{counts:?}");
     });
 }
 

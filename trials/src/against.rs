@@ -5,7 +5,7 @@ use std::hint::black_box;
 use crate::bench::{Call, Case, cases, refused_at_its_end, room, room_for};
 use crate::clock::{least, timed};
 use crate::differ::record;
-use crate::inputs;
+use crate::inputs::{self, Input};
 use crate::other::{Calls, OURS};
 use crate::table::grouped;
 
@@ -43,14 +43,19 @@ fn measured(case: &Case, others: &Calls) -> [f64; 2] {
     least([&mut || timed(|| answer(&OURS, &mut out)), &mut || timed(|| answer(others, &mut there))])
 }
 
-/// One call on one input so many times and nothing else, for a tool that counts what the code does; none where the words name
-/// no call or no input.
-pub fn repeat(calls: &Calls, call: &str, name: &str, turns: u64) -> Option<()> {
+/// The measured input of this name, of those that are not made in growing sizes.
+pub fn named(name: &str) -> Option<Input> {
     let full = 32 * 1_024;
     let hard = [inputs::fronted_variants, inputs::enums_last, inputs::owned_chain, inputs::owned_fan]
         .map(|input| input(full));
-    let mut all = inputs::named().into_iter().chain(hard).chain([inputs::deepest()]);
-    let input = all.find(|input| input.name == name)?;
+    let mut all = inputs::named().into_iter().chain(hard).chain([inputs::deepest(), inputs::many_pointers()]);
+    all.find(|input| input.name == name)
+}
+
+/// One call on one input so many times and nothing else, for a tool that counts what the code does; none where the words name
+/// no call or no input.
+pub fn repeat(calls: &Calls, call: &str, name: &str, turns: u64) -> Option<()> {
+    let input = named(name)?;
     let pair = input.records();
     let mut out = room_for(record(&pair.current));
     for _ in 0..turns {

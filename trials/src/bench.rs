@@ -11,6 +11,7 @@ use oracle::values;
 use crate::clock::{least, timed};
 use crate::differ::record;
 use crate::inputs::{self, Input};
+use crate::pointers;
 use crate::table::grouped;
 
 /// A line of the table: nanoseconds a call.
@@ -231,4 +232,5 @@ pub fn run() {
         before = row.ours;
         println!("{row}");
     }
+    pointers::bench();
 }

@@ -18,6 +18,7 @@ use crate::coverage::Reached;
 use crate::differ;
 use crate::inputs;
 use crate::mutate::mutated;
+use crate::pointers;
 use crate::table::grouped;
 use crate::tally::Tally;
 
@@ -70,6 +71,8 @@ fn beginnings(rng: &mut Rng) -> Vec<Pair> {
     for fixed in records::records() {
         pairs.extend(Side::BOTH.map(|side| Pair::beside(fixed.record.clone(), side)));
     }
+    let pointers = findings::pointers::records().into_iter();
+    pairs.extend(pointers.map(|fixed| Pair::beside(fixed.record, Side::Current)));
     for number in FIRST_VERDICT..=LAST_VERDICT {
         pairs.extend((0..3).map(|_| aimed(Aim::Verdict(number), rng)));
     }
@@ -101,7 +104,7 @@ impl Fuzz {
     }
 
     /// Hold the answers of all calls to the oracle's; what sorts they are of.
-    fn ask(&mut self, pair: &Pair, rng: &mut Rng) -> [Class; 4] {
+    fn ask(&mut self, pair: &Pair, rng: &mut Rng) -> [Class; 5] {
         let meant = pair.check(ROOM);
         let needed = meant.length as usize;
         let room = *rng.pick(&[ROOM, needed, needed.saturating_sub(1), rng.clone().below(300)]);
@@ -115,12 +118,13 @@ impl Fuzz {
         differ::list(&mut self.tally, record, side, &listed, room);
         let name = differ::names(&pair.current, b"a".to_vec(), rng).pop().expect("there is a name");
         let owner = differ::owner(&mut self.tally, &pair.current, &name);
-        classes(&meant, &listed, owner)
+        let pointed = pointers::ask(&mut self.tally, &pair.current);
+        classes(&meant, &listed, owner, &pointed)
     }
 }
 
-/// The sorts of the answers to a check, a list and a question for an owner.
-fn classes(check: &Answer, list: &Answer, owner: Owner) -> [Class; 4] {
+/// The sorts of the answers to a check, a list, a question for an owner and a check of pointers.
+fn classes(check: &Answer, list: &Answer, owner: Owner, pointers: &Answer) -> [Class; 5] {
     let size = |n: u32| n.checked_ilog2().map_or(0, |log| log + 1);
     let (answer, number, _) = owner.numbers();
     let number = if answer == 2 { number } else { 0 };
@@ -129,6 +133,7 @@ fn classes(check: &Answer, list: &Answer, owner: Owner) -> [Class; 4] {
         [1, check.number, check.side, size(check.length)],
         [2, list.number, list.side, size(list.length)],
         [3, answer.into(), number, 0],
+        [4, pointers.number, 0, size(pointers.place)],
     ]
 }
 

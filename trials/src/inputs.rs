@@ -329,3 +329,17 @@ pub fn deepest() -> Input {
         pool: Vec::new(),
     }
 }
+
+/// Nine hundred pointers in 250 structures, which fill a stream of 32 KiB but for some 500 bytes: each points at one of them.
+pub fn many_pointers() -> Input {
+    let name = |i: usize| format!("scan_{i:03}");
+    let mut input = Input::begun("900 pointers in 250 structures", &name(0)).asking(&name(249));
+    for i in 0..250 {
+        let mut s = if i == 0 { root(&name(0), "metadata", "GEN") } else { structure(&name(i)) };
+        let fields = if i < 150 { 4 } else { 3 };
+        s.fields =
+            (0..fields).map(|j| pointer(&format!("p{j}"), &name((7 * i + 61 * j + 1) % 250))).collect();
+        input.current.items.push(s.into());
+    }
+    input
+}

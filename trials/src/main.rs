@@ -3,6 +3,7 @@
 //!     trials checks SEED COUNT [LEAST]   pairs drawn, and checked; every number is to come LEAST times
 //!     trials lists SEED COUNT            records drawn, listed as current and as released
 //!     trials owners SEED COUNT           records drawn, asked for owners
+//!     trials pointers SEED COUNT         records drawn, their pointers judged
 //!     trials chains SEED COUNT           chains of offers, and what the last keeps of the first
 //!     trials sections SEED COUNT         pairs in another order of their sections, accepted as before
 //!     trials memcheck SEED COUNT         the calls on blocks of exact lengths, to be run under valgrind
@@ -25,6 +26,7 @@ mod kept;
 mod memcheck;
 mod mutate;
 mod other;
+mod pointers;
 mod premises;
 mod sections;
 mod stack;
@@ -35,9 +37,9 @@ use std::path::Path;
 use std::process::ExitCode;
 
 const USAGE: &str =
-    "usage: trials checks SEED COUNT [LEAST] | trials lists|owners|chains|sections|memcheck SEED COUNT
+    "usage: trials checks SEED COUNT [LEAST] | trials lists|owners|pointers|chains|sections|memcheck SEED COUNT
        trials fuzz SECONDS SEED [FOLDER] | trials stack | trials bench [--against FOLDER]
-       trials repeat check|list|owner INPUT TURNS [--against FOLDER]";
+       trials repeat check|list|owner|pointers INPUT TURNS | trials repeat check|list|owner INPUT TURNS --against FOLDER";
 
 fn main() -> ExitCode {
     let words: Vec<String> = std::env::args().skip(1).collect();
@@ -81,10 +83,11 @@ fn run(words: &[&str]) -> Option<bool> {
         }
         ("stack", 1) => Some(stack::run()),
         ("stack-of", 4) => stack::call(words[1], number(2)? as usize, number(3)? as usize),
-        (call @ ("lists" | "owners" | "memcheck"), 3) => {
+        (call @ ("lists" | "owners" | "pointers" | "memcheck"), 3) => {
             let run = match call {
                 "lists" => differ::lists,
                 "owners" => differ::owners,
+                "pointers" => pointers::run,
                 _ => memcheck::run,
             };
             let tally = run(number(1)?, number(2)?);
@@ -103,6 +106,7 @@ fn measure(words: &[&str]) -> Option<bool> {
             Some(others) => against::run(&others),
             None => return Some(false),
         },
+        ["repeat", "pointers", input, turns] => pointers::repeat(input, turns.parse().ok()?)?,
         ["repeat", call, input, turns] => against::repeat(&other::OURS, call, input, turns.parse().ok()?)?,
         ["repeat", call, input, turns, "--against", folder] => match other::others(folder) {
             Some(others) => against::repeat(&others, call, input, turns.parse().ok()?)?,

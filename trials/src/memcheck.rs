@@ -1,4 +1,4 @@
-//! The three calls on heap blocks of exact lengths, for valgrind's memcheck to watch. A slice that is lent is a block of its
+//! The calls on heap blocks of exact lengths, for valgrind's memcheck to watch. A slice that is lent is a block of its
 //! own, so a byte read or written past its end is one outside of any block.
 
 use oracle::Side;
@@ -10,6 +10,7 @@ use oracle::rng::Rng;
 
 use crate::differ;
 use crate::inputs;
+use crate::pointers;
 use crate::tally::Tally;
 
 /// So many drawn pairs, and the records that are measured.
@@ -44,6 +45,8 @@ fn calls(tally: &mut Tally, pair: &Pair, rng: &mut Rng) {
     let asked = question(rng);
     differ::owner(tally, &pair.current, &asked.name);
     differ::owner(tally, &asked.record, &asked.name);
+    pointers::ask(tally, &pair.current);
+    pointers::ask(tally, &asked.record);
 }
 
 /// The calls are lent clones, and a clone has no room beyond its bytes.

@@ -19,7 +19,7 @@ const STEP: usize = 4;
 
 type Call = fn(&Input);
 
-const CALLS: [(&str, Call); 3] = [("check", check), ("list", list), ("owner", owner)];
+const CALLS: [(&str, Call); 4] = [("check", check), ("list", list), ("owner", owner), ("pointers", pointers)];
 
 /// The largest records, and the deepest walk.
 fn largest() -> Vec<Input> {
@@ -103,4 +103,10 @@ fn owner(input: &Input) {
     let pair = input.records();
     let owner = menqachu::owner(record(&pair.current), input.asked.as_bytes());
     assert!(matches!(owner, Owner::Named { .. }), "the name has an owner");
+}
+
+fn pointers(input: &Input) {
+    let pair = input.records();
+    let answer = menqachu::pointers(record(&pair.current));
+    assert!(matches!(answer.number, 0 | 59), "the record can be read");
 }

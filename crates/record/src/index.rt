@@ -204,13 +204,7 @@ pub(crate) fn first_named(
 }
 
 // The place of the first command of a number and a name, and the place after it.
-pub(crate) fn find_declared(
-    stream: &[u8],
-    pool: &[u8],
-    index: &[u16],
-    number: u8,
-    name: &[u8],
-) -> Sought
+pub fn find_declared(stream: &[u8], pool: &[u8], index: &[u16], number: u8, name: &[u8]) -> Sought
     ensures { λ r. ⌜ Declared (now (stream .entry)) (now (pool .entry)) (now (index .entry)) number (now (name .entry)) r ⌝ }
 {
     let found = first_named(stream, pool, index, number, name);

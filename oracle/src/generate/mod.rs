@@ -9,6 +9,7 @@ pub mod findings;
 pub mod heavy;
 pub mod make;
 pub mod offers;
+pub mod pointers;
 pub mod questions;
 pub mod sections;
 pub mod shuffle;

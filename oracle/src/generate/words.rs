@@ -12,6 +12,18 @@ pub const REFERENCES: [&str; 5] = [
     "struct_ptr_array_ptr",
 ];
 
+/// The kinds that are no pointers.
+pub const PLAIN_KINDS: [&str; 8] = [
+    "scalar",
+    "enum",
+    "type_alias",
+    "bitfield",
+    "inline_array",
+    "inline_array2d",
+    "padding",
+    "string",
+];
+
 /// Words near the sixteen kinds, and far from them.
 pub const STRANGE_KINDS: [&str; 12] = [
     "",

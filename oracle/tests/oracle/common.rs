@@ -91,3 +91,15 @@ pub fn owner_names(label: &str) -> Vec<Option<String>> {
     let owners = owners(label).into_iter();
     owners.map(|owner| owner.map(|(_, text)| text)).collect()
 }
+
+/// The number and place that the check of pointers gives a fixed record.
+pub fn pointers(label: &str) -> (u32, u32) {
+    let records = findings::pointers::records();
+    let found = records.into_iter().find(|r| r.label == label);
+    let record = found
+        .unwrap_or_else(|| panic!("{label} is no label"))
+        .record;
+    let answer = oracle::pointers(&record.stream, &record.pool);
+    assert_eq!((answer.side, answer.length), (0, 0), "{label}");
+    (answer.number, answer.place)
+}

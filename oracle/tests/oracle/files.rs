@@ -138,6 +138,25 @@ fn the_file_of_checks_holds_every_number_on_each_side() {
     assert!(full >= 40, "{full}");
 }
 
+#[test]
+fn the_file_of_pointers_holds_every_number() {
+    let mut file = File::new(vectors::pointers(1, 700));
+    let mut counts: BTreeMap<u32, usize> = BTreeMap::new();
+    while file.more() {
+        let (stream, pool) = (file.part(), file.part());
+        let (number, place) = (file.byte(), file.word());
+        let again = oracle::pointers(&stream, &pool);
+        assert_eq!((number, place), (again.number, again.place));
+        assert_eq!((again.side, again.length), (0, 0));
+        *counts.entry(number).or_default() += 1;
+    }
+    assert!(file.bytes.len() < 500_000);
+    for number in [0, 1, 2, 3, 4, 5, 6, 7, 9, 59, 60] {
+        assert!(counts[&number] >= 40, "{number}: {counts:?}");
+    }
+    assert!(counts[&LONG] >= 2);
+}
+
 /// The bytes of a hexadecimal text.
 fn unhex(text: &Json) -> Vec<u8> {
     let digits = text.as_str().expect("a text").as_bytes().chunks(2);

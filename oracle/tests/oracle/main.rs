@@ -1,11 +1,12 @@
 //! Tests of the oracle. Those of a numbered finding begin with its letter and
-//! number.
+//! number, or with the request of document 02 and its number.
 
 mod common;
 mod files;
 mod generator;
 mod lists;
 mod passes;
+mod pointers;
 mod reader;
 mod values;
 mod verdicts;

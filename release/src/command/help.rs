@@ -6,7 +6,7 @@ pub fn usage(help: &str) -> &str {
 }
 
 pub const COMMANDS: &str = "\
-the commands are check, chain, list, owner, diff, reordered, assemble and show
+the commands are check, chain, list, owner, pointers, diff, reordered, assemble and show
 `release --help` says what each does";
 
 pub const WHOLE: &str = "\
@@ -18,6 +18,7 @@ Checks the record of a scan-record schema against the record of the last release
   release chain FIRST OFFERED.. [--json]     each offered record after the last accepted
   release list RECORD [--released] [--json]  where every field lies
   release owner RECORD NAME [--json]         which versioned structure a name belongs to
+  release pointers RECORD [--json]           whether every pointer names what it must
   release diff CURRENT RELEASED [--json]     both layouts side by side
   release reordered ONE OTHER [--json]       whether only the order of sections differs
   release assemble TEXT > RECORD             a record from its text form
@@ -31,8 +32,9 @@ where it is given more than once, the records follow each other there. Words aft
 
 Exit status:
   0  accepted, or done
-  1  a verdict (check), an offered record dropped (chain), or records of which it is
-     not proved that they are accepted alike (reordered)
+  1  a verdict (check), an offered record dropped (chain), a pointer that does not name
+     what it must (pointers), or records of which it is not proved that they are
+     accepted alike (reordered)
   2  a damaged record, or a text that cannot be assembled
   3  a usage error, or a file that cannot be read or written
 ";
@@ -95,6 +97,25 @@ it; or `none`. The record is read as a current one.
   --json  an object with the keys refusal and owner, which is null for none
 
 Exit status: 0 answered, 2 a damaged record, 3 a usage or file error.
+";
+
+pub const POINTERS: &str = "\
+usage: release pointers RECORD [--json]
+
+Checks the pointers of a record about to ship: a struct_ptr, struct_array_ptr or
+struct_ptr_array_ptr names a declared structure, a tagged_fam_ptr a declared family.
+Other kinds are not judged. Prints `accepted`, or for the first field that breaks
+this the number, its word, the place, the type, the field, its kind and its name:
+
+  59  neither a structure nor a family, or there is no name
+  60  only the other of the two
+
+  --json  an object with the keys refusal and broken, which is null where every
+          pointer is right, and else has number, word, place, type, field, kind and
+          name, which is null where there is none
+
+Exit status: 0 accepted, 1 a pointer breaks the rule, 2 a damaged record, 3 a usage
+or file error.
 ";
 
 pub const DIFF: &str = "\

@@ -12,6 +12,7 @@ mod json;
 mod list;
 mod output;
 mod owner;
+mod pointers;
 mod problem;
 mod reordered;
 mod rows;
@@ -24,7 +25,7 @@ use args::{Args, Asked, Rule};
 
 /// Accepted, or done.
 pub const DONE: u8 = 0;
-/// A verdict, an offered record dropped, or records that are not reordered.
+/// A verdict, an offered record dropped, a pointer that breaks the rule, or records that are not reordered.
 pub const STOPPED: u8 = 1;
 /// A record that is refused, or a text that is not a record's.
 pub const DAMAGED: u8 = 2;
@@ -59,11 +60,12 @@ struct Entry {
 const JSON: &[&str] = &["--json"];
 const MANY: usize = usize::MAX;
 
-static ENTRIES: [Entry; 8] = [
+static ENTRIES: [Entry; 9] = [
     Entry { rule: rule("check", help::CHECK, 2, 2, JSON), run: check::run },
     Entry { rule: rule("chain", help::CHAIN, 2, MANY, JSON), run: chain::run },
     Entry { rule: rule("list", help::LIST, 1, 1, &["--json", "--released"]), run: list::run },
     Entry { rule: rule("owner", help::OWNER, 2, 2, JSON), run: owner::run },
+    Entry { rule: rule("pointers", help::POINTERS, 1, 1, JSON), run: pointers::run },
     Entry { rule: rule("diff", help::DIFF, 2, 2, JSON), run: diff::run },
     Entry { rule: rule("reordered", help::REORDERED, 2, 2, JSON), run: reordered::run },
     Entry { rule: rule("assemble", help::ASSEMBLE, 1, 1, &[]), run: assemble::run },

@@ -7,6 +7,7 @@ pub mod encode;
 pub mod layout;
 pub mod numbers;
 pub mod parts;
+pub mod pointers;
 pub mod reorder;
 pub mod room;
 pub mod sections;
@@ -14,7 +15,7 @@ pub mod twice;
 
 use crate::Answer;
 
-/// Why a record has no layouts, no sections or no text form.
+/// Why a record has no layouts, no sections, no text form or no judged pointers.
 #[derive(Clone, Copy, Debug, PartialEq, Eq)]
 pub enum Problem {
     /// The proved call refuses the record.

@@ -1,12 +1,14 @@
 //! Fixed cases: the edges of document 01, and a case or more for each numbered
 //! finding that an input can show. Labels begin with the finding's letter and
-//! number, or with `edge`.
+//! number, with the request of document 02 and the finding's number, or with
+//! `edge`.
 
 mod chains;
 mod early;
 mod late;
 pub mod lists;
 pub mod owners;
+pub mod pointers;
 pub mod records;
 
 use super::Pair;
