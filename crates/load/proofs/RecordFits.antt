@@ -1,0 +1,143 @@
+-- A record of a pair: its commands fit, and are read as the plan's schema. Assumes nothing.
+use mathlib.Core.Path.{_≡_, refl, sym, _∙_, ap, ap₂, subst}
+use mathlib.Core.List.{List, [], _∷_, _++_, List·Memᴰ, List·Memᴰ·head, List·Memᴰ·tail}
+use mathlib.Core.Option.{Option, none, some}
+use mathlib.Core.Bool.{Bool, true, false, cond, _||_, _&&_, not}
+use Prim.Native.Nat.{ℕ, zero, suc, _+_, _*_, _/_, _%_, _<_, _≤_}
+use native.Mathlib.Omega.{arith}
+use lib.Dec.{eqb, ltb}
+use lib.ListN.{length, getD}
+use borrow.Author.Tests.{ne-eqb}
+use Rattle.record.specs.Base.{Str, bytes, first, orElse}
+use Rattle.record.specs.Stretch.{textOf}
+use Rattle.record.specs.Le.{u16At, u32At, u64At}
+use Rattle.record.specs.Operands.{textAt, optText, optTextAt, flagAt, optNumberAt}
+use Rattle.record.specs.Commands.{operands, wide, widths}
+use Rattle.record.specs.Judge.{missingIn, ifAbsent, textFault, flagFault, operandFault, faultsFrom, follows, mayStand, parentAfter}
+use Rattle.record.specs.declared.text.Text.{Text}
+use Rattle.record.specs.declared.command.Parent.{Parent}
+use Rattle.record.specs.declared.command.Parent.the-variants.{NoParent}
+use Rattle.record.specs.declared.refusal.Side.{Side}
+use Rattle.record.specs.declared.judge.Fault.the-variants.{Fine, Outside}
+use Rattle.load.specs.Pool as W
+use Rattle.load.specs.Rows.{t3, w4, v8, n5, StructRow, structBytes}
+use Rattle.load.specs.Draws
+use Rattle.load.specs.Draws.{Setting}
+use Rattle.load.specs.Generator.{headBytes, integerBytes, vendorBytes, versionBytes, sharedCommands, structCommands, allRows, recordWith, spareCommand, streamOf}
+use Rattle.load.specs.Written.{opcode, Fits, Chain}
+use Rattle.load.proofs.RowLaws.{InPool, MayPool, text-fine, StructFits, structs-chain}
+
+-- the commands fit -----------------------------------------------------------------------------------------------------------------------------------------
+
+module _ (side : Side) where
+  shared-chain : (cs : List Str) → Chain side 971 13 NoParent cs → Chain side 971 2 NoParent (sharedCommands ++ cs)
+  unfolding sharedCommands opcode operands wide widths bytes mayStand follows parentAfter faultsFrom operandFault ifAbsent flagFault optTextAt optText textAt flagAt u16At
+  shared-chain cs k = (
+    record { row = bytes "TT"; has-row = refl; whole = refl; stands = λ at. refl; fine = λ x. refl; going = λ e. omega arith },
+    (
+      record { row = bytes "TT"; has-row = refl; whole = refl; stands = λ at. refl; fine = λ x. refl; going = λ e. omega arith },
+      (
+        record { row = bytes "TWFO"; has-row = refl; whole = refl; stands = λ at. refl; fine = λ x. refl; going = λ e. omega arith },
+        (
+          record { row = bytes "TVO"; has-row = refl; whole = refl; stands = λ at. refl; fine = λ x. refl; going = λ e. omega arith },
+          (
+            record { row = bytes "TVO"; has-row = refl; whole = refl; stands = λ at. refl; fine = λ x. refl; going = λ e. omega arith },
+            (
+              record { row = bytes "TVO"; has-row = refl; whole = refl; stands = λ at. refl; fine = λ x. refl; going = λ e. omega arith },
+              (
+                record { row = bytes "TWFO"; has-row = refl; whole = refl; stands = λ at. refl; fine = λ x. refl; going = λ e. omega arith },
+                (
+                  record { row = bytes "TVO"; has-row = refl; whole = refl; stands = λ at. refl; fine = λ x. refl; going = λ e. omega arith },
+                  (
+                    record { row = bytes "TVO"; has-row = refl; whole = refl; stands = λ at. refl; fine = λ x. refl; going = λ e. omega arith },
+                    (
+                      record { row = bytes "TVO"; has-row = refl; whole = refl; stands = λ at. refl; fine = λ x. refl; going = λ e. omega arith },
+                      (
+                        record { row = bytes "TW!"; has-row = refl; whole = refl; stands = λ at. refl; fine = λ x. refl; going = λ e. omega arith },
+                        (
+                          record { row = bytes "TWNO"; has-row = refl; whole = refl; stands = λ at. refl; fine = λ x. refl; going = λ e. omega arith },
+                          (
+                            record { row = bytes "TWNO"; has-row = refl; whole = refl; stands = λ at. refl; fine = λ x. refl; going = λ e. omega arith },
+                            (
+                              record { row = bytes "TTTTOF"; has-row = refl; whole = refl; stands = λ at. refl; fine = λ x. refl; going = λ e. omega arith },
+                              (
+                                record { row = bytes "TTOONNNN"; has-row = refl; whole = refl; stands = λ at. refl; fine = λ x. refl; going = λ e. omega arith },
+                                (
+                                  record { row = bytes "T"; has-row = refl; whole = refl; stands = λ at. refl; fine = λ x. refl; going = λ e. omega arith },
+                                  (
+                                    record { row = bytes "TTOONNNN"; has-row = refl; whole = refl; stands = λ at. refl; fine = λ x. refl; going = λ e. omega arith },
+                                    (
+                                      record { row = bytes "TTOONNNN"; has-row = refl; whole = refl; stands = λ at. refl; fine = λ x. refl; going = λ e. omega arith },
+                                      (
+                                        record { row = bytes "T"; has-row = refl; whole = refl; stands = λ at. refl; fine = λ x. refl; going = λ e. omega arith },
+                                        (
+                                          record { row = bytes "TTOONNNN"; has-row = refl; whole = refl; stands = λ at. refl; fine = λ x. refl; going = λ e. omega arith },
+                                          (
+                                            record { row = bytes "TTTTOF"; has-row = refl; whole = refl; stands = λ at. refl; fine = λ x. refl; going = λ e. omega arith },
+                                            (
+                                              record { row = bytes "TTOONNNN"; has-row = refl; whole = refl; stands = λ at. refl; fine = λ x. refl; going = λ e. omega arith },
+                                              (
+                                                record { row = bytes "T"; has-row = refl; whole = refl; stands = λ at. refl; fine = λ x. refl; going = λ e. omega arith },
+                                                (
+                                                  record { row = bytes "TTOONNNN"; has-row = refl; whole = refl; stands = λ at. refl; fine = λ x. refl; going = λ e. omega arith },
+                                                  (
+                                                    record { row = bytes "T!"; has-row = refl; whole = refl; stands = λ at. refl; fine = λ x. refl; going = λ e. omega arith },
+                                                    (
+                                                      record { row = bytes "T!"; has-row = refl; whole = refl; stands = λ at. refl; fine = λ x. refl; going = λ e. omega arith },
+                                                      k,
+                                                    ),
+                                                  ),
+                                                ),
+                                              ),
+                                            ),
+                                          ),
+                                        ),
+                                      ),
+                                    ),
+                                  ),
+                                ),
+                              ),
+                            ),
+                          ),
+                        ),
+                      ),
+                    ),
+                  ),
+                ),
+              ),
+            ),
+          ),
+        ),
+      ),
+    ),
+  )
+
+  head-fits : (t : Text) → InPool t → Fits side 971 0 NoParent (headBytes t)
+  unfolding headBytes opcode operands wide widths bytes mayStand faultsFrom operandFault ifAbsent flagFault optTextAt textAt u16At
+  head-fits t h = record { row = bytes "!F"; has-row = refl; whole = refl; stands = λ at. refl; fine = λ x. rw (text-fine t h (missingIn side)); going = λ e. omega arith }
+
+  version-fits : (t : Text) (n : ℕ) → InPool t → Fits side 971 13 NoParent (versionBytes t n)
+  unfolding versionBytes opcode operands wide widths bytes mayStand faultsFrom operandFault ifAbsent optTextAt textAt u16At
+  version-fits t n h = record { row = bytes "TW"; has-row = refl; whole = refl; stands = λ at. refl; fine = λ x. rw (text-fine t h Outside); going = λ e. omega arith }
+
+  module _ (g : Setting) (release : Text) (n : ℕ) (ss : List StructRow) (a : InPool release) (b : InPool (Draws.structName g (g .root))) (h : (s : StructRow) → List·Memᴰ s ss → StructFits s) where
+    abbrev pub tail : List Str
+    tail = integerBytes W.t·PLUGIN-API 4 1 W.absent ∷ vendorBytes ∷ (sharedCommands ++ (versionBytes (Draws.structName g (g .root)) n ∷ structCommands ss []))
+
+    tail-chain : Chain side 971 2 NoParent tail
+    unfolding integerBytes vendorBytes versionBytes opcode operands wide widths bytes mayStand parentAfter faultsFrom operandFault ifAbsent flagFault optTextAt optText textAt flagAt u16At
+    tail-chain = (
+      record { row = bytes "TFV?FO"; has-row = refl; whole = refl; stands = λ at. refl; fine = λ x. refl; going = λ e. omega arith },
+      (
+        record { row = bytes "TFV?FO"; has-row = refl; whole = refl; stands = λ at. refl; fine = λ x. refl; going = λ e. omega arith },
+        shared-chain (versionBytes (Draws.structName g (g .root)) n ∷ structCommands ss []) (version-fits (Draws.structName g (g .root)) n b, structs-chain side ss h 14 NoParent (λ e. omega arith)),
+      ),
+    )
+
+    pub chain-without : Chain side 971 0 NoParent (headBytes release ∷ integerBytes W.t·GENERATION n 0 W.absent ∷ tail)
+    unfolding headBytes integerBytes opcode operands wide widths bytes mayStand parentAfter faultsFrom operandFault ifAbsent flagFault optTextAt optText textAt flagAt u16At
+    chain-without = (head-fits release a, (record { row = bytes "TFV?FO"; has-row = refl; whole = refl; stands = λ at. refl; fine = λ x. refl; going = λ e. omega arith }, tail-chain))
+
+    pub chain-with : (v : ℕ) → Chain side 971 0 NoParent (headBytes release ∷ integerBytes W.t·GENERATION n 0 W.absent ∷ integerBytes W.t·TILE-LIMIT v 1 W.t·0·8·0 ∷ tail)
+    unfolding headBytes integerBytes opcode operands wide widths bytes mayStand parentAfter faultsFrom operandFault ifAbsent flagFault optTextAt optText textAt flagAt u16At
+    chain-with v = (head-fits release a, (record { row = bytes "TFV?FO"; has-row = refl; whole = refl; stands = λ at. refl; fine = λ x. refl; going = λ e. omega arith }, (record { row = bytes "TFV?FO"; has-row = refl; whole = refl; stands = λ at. refl; fine = λ x. refl; going = λ e. omega arith }, tail-chain)))

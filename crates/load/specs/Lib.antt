@@ -1,0 +1,12 @@
+pub mod Plan
+pub mod Wanted
+pub mod Sound
+pub mod Pool
+pub mod Rows
+pub mod Draws
+pub mod Generator
+pub mod Range
+pub mod Written
+pub mod Load
+pub mod Bytes
+pub mod Meanings
