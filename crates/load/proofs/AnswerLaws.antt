@@ -12,19 +12,18 @@ use Rattle.record.specs.Write.{Puts}
 use Rattle.record.proofs.WriterLaws.{puts-then, puts-as, puts-near, puts-exact, puts-front}
 use Rattle.layout.specs.Answer.{textOr, Answered}
 use Rattle.layout.specs.declared.answer.Answer as A
-use Rattle.load.specs.Plan as P
 use Rattle.load.specs.Pool.{pool}
-use Rattle.load.specs.Rows.{w4}
-use Rattle.load.specs.Draws.{Setting, settingOf}
+use Rattle.load.specs.Commands.{w4}
+use Rattle.load.specs.Draws.{settingOf}
 use Rattle.load.specs.Range.{InRange}
 use Rattle.load.specs.Generator.{releasedCommands, currentCommands, streamOf}
 use Rattle.load.specs.Load.{part, nowStream, wasStream, pairOf, outcomeAt, unfit, loadAs, load}
 use Rattle.load.specs.Bytes.{partsOf}
-use Rattle.load.specs.Meanings.{outcomeMeant}
-use Rattle.load.specs.declared.outcomes.Outcome.{Outcome}
-use Rattle.load.specs.declared.outcomes.Outcome.the-variants as O
 use Rattle.load.proofs.RoundTrip.{pool-long}
 use Rattle.load.proofs.Pairs.{released-short, current-short}
+use Rattle.load.specs.declared.outcomes.Outcome.{Outcome}
+use Rattle.load.specs.declared.outcomes.Outcome.the-variants as O
+use Rattle.load.specs.declared.settings.Setting.{Setting}
 
 -- lengths are measured
 measured : (out xs after : Str) (r : ℕ) → length xs ≤ 32768 → Puts out 0 xs after r → (r ≡ length xs) × (r ≤ 32768)
@@ -34,7 +33,7 @@ module _ (g : Setting) (i : InRange g) (out after : Str) (r : ℕ) where
   pub released-measured : Puts out 0 (streamOf (releasedCommands g)) after r → (r ≡ length (streamOf (releasedCommands g))) × (r ≤ 32768)
   released-measured p = measured out (streamOf (releasedCommands g)) after r (released-short g i) p
 
-  pub current-measured : (o : P.Outcome) → Puts out 0 (streamOf (currentCommands g o)) after r → (r ≡ length (streamOf (currentCommands g o))) × (r ≤ 32768)
+  pub current-measured : (o : Outcome) → Puts out 0 (streamOf (currentCommands g o)) after r → (r ≡ length (streamOf (currentCommands g o))) × (r ≤ 32768)
   current-measured o p = measured out (streamOf (currentCommands g o)) after r (current-short g i o) p
 
 module _ (n a b c d : ℕ) (p : a ≡ n % 256) (q : b ≡ n / 256 % 256) (r : c ≡ n / 65536 % 256) (s : d ≡ n / 16777216) where
@@ -61,11 +60,11 @@ parts-length : (s : Str) → length (partsOf s) ≡ length s + 979
 unfolding partsOf
 parts-length s = let d = pool-long in let a = part-length s in let b = part-length pool in let c = length-append (part s) (part pool) in omega arith
 
-pair-parts : (seed : ℕ) (o : P.Outcome) → partsOf (streamOf (currentCommands (settingOf seed) o)) ++ partsOf (streamOf (releasedCommands (settingOf seed))) ≡ pairOf seed o
+pair-parts : (seed : ℕ) (o : Outcome) → partsOf (streamOf (currentCommands (settingOf seed) o)) ++ partsOf (streamOf (releasedCommands (settingOf seed))) ≡ pairOf seed o
 unfolding partsOf pairOf nowStream wasStream
 pair-parts seed o = append-assoc (part (streamOf (currentCommands (settingOf seed) o))) (part pool) (part (streamOf (releasedCommands (settingOf seed))) ++ part pool)
 
-module _ (g : Setting) (seed : ℕ) (o : P.Outcome) (k : g ≡ settingOf seed) (n m : ℕ) (qn : n ≡ length (streamOf (currentCommands g o))) (qm : m ≡ length (streamOf (releasedCommands g))) where
+module _ (g : Setting) (seed : ℕ) (o : Outcome) (k : g ≡ settingOf seed) (n m : ℕ) (qn : n ≡ length (streamOf (currentCommands g o))) (qm : m ≡ length (streamOf (releasedCommands g))) where
   pair-is : partsOf (streamOf (currentCommands g o)) ++ partsOf (streamOf (releasedCommands g)) ≡ pairOf seed o
   pair-is = ap (λ (x : Setting). partsOf (streamOf (currentCommands x o)) ++ partsOf (streamOf (releasedCommands x))) k ∙ pair-parts seed o
 
@@ -93,28 +92,28 @@ module _ (g : Setting) (seed : ℕ) (o : P.Outcome) (k : g ≡ settingOf seed) (
 
 -- the call
 module _ (out after : Str) (n seed : ℕ) (h : seed ≤ 2147483647) (r : A.Answer) where
-  pub load-0 : n ≡ 0 → Answered out after (textOr (length out) 0 (pairOf seed (outcomeMeant O.Accepted))) r → Answered out after (load (length out) n seed) r
-  unfolding load loadAs outcomeAt outcomeMeant
+  pub load-0 : n ≡ 0 → Answered out after (textOr (length out) 0 (pairOf seed O.Accepted)) r → Answered out after (load (length out) n seed) r
+  unfolding load loadAs outcomeAt
   load-0 e a = rw (le-leb seed 2147483647 h, e) a
 
-  pub load-20 : n ≡ 20 → Answered out after (textOr (length out) 0 (pairOf seed (outcomeMeant O.ConstantGone))) r → Answered out after (load (length out) n seed) r
-  unfolding load loadAs outcomeAt outcomeMeant
+  pub load-20 : n ≡ 20 → Answered out after (textOr (length out) 0 (pairOf seed O.ConstantGone)) r → Answered out after (load (length out) n seed) r
+  unfolding load loadAs outcomeAt
   load-20 e a = rw (le-leb seed 2147483647 h, e) a
 
-  pub load-34 : n ≡ 34 → Answered out after (textOr (length out) 0 (pairOf seed (outcomeMeant O.FieldGone))) r → Answered out after (load (length out) n seed) r
-  unfolding load loadAs outcomeAt outcomeMeant
+  pub load-34 : n ≡ 34 → Answered out after (textOr (length out) 0 (pairOf seed O.FieldGone)) r → Answered out after (load (length out) n seed) r
+  unfolding load loadAs outcomeAt
   load-34 e a = rw (le-leb seed 2147483647 h, e) a
 
-  pub load-35 : n ≡ 35 → Answered out after (textOr (length out) 0 (pairOf seed (outcomeMeant O.FieldMoved))) r → Answered out after (load (length out) n seed) r
-  unfolding load loadAs outcomeAt outcomeMeant
+  pub load-35 : n ≡ 35 → Answered out after (textOr (length out) 0 (pairOf seed O.FieldMoved)) r → Answered out after (load (length out) n seed) r
+  unfolding load loadAs outcomeAt
   load-35 e a = rw (le-leb seed 2147483647 h, e) a
 
-  pub load-36 : n ≡ 36 → Answered out after (textOr (length out) 0 (pairOf seed (outcomeMeant O.FieldResized))) r → Answered out after (load (length out) n seed) r
-  unfolding load loadAs outcomeAt outcomeMeant
+  pub load-36 : n ≡ 36 → Answered out after (textOr (length out) 0 (pairOf seed O.FieldResized)) r → Answered out after (load (length out) n seed) r
+  unfolding load loadAs outcomeAt
   load-36 e a = rw (le-leb seed 2147483647 h, e) a
 
-  pub load-43 : n ≡ 43 → Answered out after (textOr (length out) 0 (pairOf seed (outcomeMeant O.Unraised))) r → Answered out after (load (length out) n seed) r
-  unfolding load loadAs outcomeAt outcomeMeant
+  pub load-43 : n ≡ 43 → Answered out after (textOr (length out) 0 (pairOf seed O.Unraised)) r → Answered out after (load (length out) n seed) r
+  unfolding load loadAs outcomeAt
   load-43 e a = rw (le-leb seed 2147483647 h, e) a
 
 pub load-unknown : (out : Str) (n seed : ℕ) → seed ≤ 2147483647 → (n ≡ 0 → ⊥) → (n ≡ 20 → ⊥) → (n ≡ 34 → ⊥) → (n ≡ 35 → ⊥) → (n ≡ 36 → ⊥) → (n ≡ 43 → ⊥)

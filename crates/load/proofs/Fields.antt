@@ -20,7 +20,7 @@ use Rattle.definition.specs.Fields.{placeIn, checkKept, checkPlace, checkPlaces
 use Rattle.definition.specs.Chain.{NoDup}
 use Rattle.load.specs.Plan.{Plan, whole, released, root}
 use Rattle.load.specs.Wanted.{endOf}
-use Rattle.load.specs.Sound.{Sound, Apart, fieldNames}
+use Rattle.load.specs.Feasible.{Feasible, Apart, fieldNames}
 use Rattle.load.proofs.Each.{each-one, each-all, each-front, find-left, find-right, find-nowhere, find-keyed}
 use Rattle.load.proofs.Layouts.{laid, layouts, eqs-swap, place-names, root-found, other-found, self-found, root-member, layout-cases}
 
@@ -43,7 +43,7 @@ unfolding checkPlaces placeIn
 kept-self owner l d = each-all (checkPlace owner l) l (λ f m. kept owner l f (find-keyed (λ (x : Place). x .name) l d m))
 
 -- the pass is the root's
-module _ (p : Plan) (g : Sound p) (is was : List Field) where
+module _ (p : Plan) (g : Feasible p) (is was : List Field) where
   of-type : (t : TypeLayout) → List·Memᴰ t (layouts p was)
       → (checkType (layouts p is) t ≡ pass) ⊎ (checkType (layouts p is) t ≡ checkPlaces (p .name) (laid p is .fields) (laid p was .fields))
   unfolding checkType onFound laid root layStruct
@@ -102,15 +102,15 @@ names-away s q at [] h x m = absurd (List·Memᴰ·not-nil m)
 names-away s q at (f ∷ l) h x (List·Memᴰ·head e) = ap (λ (y : Place). q (y .name)) e ∙ h f (List·Memᴰ·head refl)
 names-away s q at (f ∷ l) h x (List·Memᴰ·tail m) = names-away s q (at + shapeSize s f) l (λ y i. h y (List·Memᴰ·tail i)) x m
 
--- what becomes of the marked field ---------------------------------------------------------------------------------------------------------------
+-- what becomes of the target field ---------------------------------------------------------------------------------------------------------------
 
-module _ (p : Plan) (g : Sound p) where
-  -- where the marked field begins
+module _ (p : Plan) (g : Feasible p) where
+  -- where the target field begins
   unfoldable pub seam : ℕ
   seam = endOf (released p) 0 (p .front)
 
-  unfoldable pub markedPlace : Place
-  markedPlace = placeOf (released p) seam (p .marked)
+  unfoldable pub targetPlace : Place
+  targetPlace = placeOf (released p) seam (p .target)
 
   rest : ℕ → List Field → List Place
   rest at k = places (released p) at k
@@ -120,66 +120,66 @@ module _ (p : Plan) (g : Sound p) where
 
   front-once : NoDup (map (λ (x : Place). x .name) front)
   unfolding front whole
-  front-once = subst NoDup (sym (place-names (released p) 0 (p .front))) (once-left (λ (f : Field). f .name) (p .front) (p .marked ∷ p .back) (g .once))
+  front-once = subst NoDup (sym (place-names (released p) 0 (p .front))) (once-left (λ (f : Field). f .name) (p .front) (p .target ∷ p .back) (g .once))
 
   -- none in front of it, and none behind it, has its name
-  front-away : (x : Place) → List·Memᴰ x front → eqs (x .name) (p .marked .name) ≡ false
+  front-away : (x : Place) → List·Memᴰ x front → eqs (x .name) (p .target .name) ≡ false
   unfolding front whole
-  front-away = names-away (released p) (λ (n : Str). eqs n (p .marked .name)) 0 (p .front) (once-before (λ (f : Field). f .name) (p .front) (p .marked) (p .back) (g .once))
+  front-away = names-away (released p) (λ (n : Str). eqs n (p .target .name)) 0 (p .front) (once-before (λ (f : Field). f .name) (p .front) (p .target) (p .back) (g .once))
 
-  back-away : (at : ℕ) (x : Place) → List·Memᴰ x (rest at (p .back)) → eqs (x .name) (p .marked .name) ≡ false
+  back-away : (at : ℕ) (x : Place) → List·Memᴰ x (rest at (p .back)) → eqs (x .name) (p .target .name) ≡ false
   unfolding rest whole
-  back-away at = names-away (released p) (λ (n : Str). eqs n (p .marked .name)) at (p .back) (once-after (λ (f : Field). f .name) (p .front) (p .marked) (p .back) (g .once))
+  back-away at = names-away (released p) (λ (n : Str). eqs n (p .target .name)) at (p .back) (once-after (λ (f : Field). f .name) (p .front) (p .target) (p .back) (g .once))
 
   -- the released root's places
-  whole-places : places (released p) 0 (whole p) ≡ front ++ (markedPlace ∷ rest (seam + shapeSize (released p) (p .marked)) (p .back))
-  unfolding whole front rest markedPlace seam places
-  whole-places = places-append (released p) 0 (p .front) (p .marked ∷ p .back)
+  whole-places : places (released p) 0 (whole p) ≡ front ++ (targetPlace ∷ rest (seam + shapeSize (released p) (p .target)) (p .back))
+  unfolding whole front rest targetPlace seam places
+  whole-places = places-append (released p) 0 (p .front) (p .target ∷ p .back)
 
-  -- where the current root begins with the same front, all is decided at the marked field
-  at-marked : (k : List Place) → checkPlaces (p .name) (front ++ k) (places (released p) 0 (whole p))
-      ≡ (checkPlace (p .name) (front ++ k) markedPlace then checkPlaces (p .name) (front ++ k) (rest (seam + shapeSize (released p) (p .marked)) (p .back)))
+  -- where the current root begins with the same front, all is decided at the target field
+  at-target : (k : List Place) → checkPlaces (p .name) (front ++ k) (places (released p) 0 (whole p))
+      ≡ (checkPlace (p .name) (front ++ k) targetPlace then checkPlaces (p .name) (front ++ k) (rest (seam + shapeSize (released p) (p .target)) (p .back)))
   unfolding checkPlaces each
-  at-marked k =
+  at-target k =
       ap (each (checkPlace (p .name) (front ++ k))) whole-places
-      ∙ each-front (checkPlace (p .name) (front ++ k)) front (markedPlace ∷ rest (seam + shapeSize (released p) (p .marked)) (p .back)) (λ f m. kept-front (p .name) front k front-once f m)
+      ∙ each-front (checkPlace (p .name) (front ++ k)) front (targetPlace ∷ rest (seam + shapeSize (released p) (p .target)) (p .back)) (λ f m. kept-front (p .name) front k front-once f m)
 
   -- and by what is found of its name
-  marked-found : (k : List Place) → checkPlace (p .name) (front ++ k) markedPlace
-      ≡ onFound (placeIn (p .marked .name) k) (fieldGone (p .name) (p .marked .name)) (checkKept (p .name) markedPlace)
-  unfolding checkPlace markedPlace placeOf ensure placeIn
-  marked-found k = rw (g .marked-real, find-right (λ (f : Place). eqs (f .name) (p .marked .name)) front k front-away)
+  target-found : (k : List Place) → checkPlace (p .name) (front ++ k) targetPlace
+      ≡ onFound (placeIn (p .target .name) k) (fieldGone (p .name) (p .target .name)) (checkKept (p .name) targetPlace)
+  unfolding checkPlace targetPlace placeOf ensure placeIn
+  target-found k = rw (g .target-real, find-right (λ (f : Place). eqs (f .name) (p .target .name)) front k front-away)
 
-  pub gone : checkPlaces (p .name) (places (released p) 0 (p .front ++ p .back)) (places (released p) 0 (whole p)) ≡ fieldGone (p .name) (p .marked .name)
+  pub gone : checkPlaces (p .name) (places (released p) 0 (p .front ++ p .back)) (places (released p) 0 (whole p)) ≡ fieldGone (p .name) (p .target .name)
   unfolding _then_ onFound placeIn fieldGone front rest
   gone =
       ap (λ (x : List Place). checkPlaces (p .name) x (places (released p) 0 (whole p))) (places-append (released p) 0 (p .front) (p .back))
-      ∙ at-marked (rest seam′ (p .back))
-      ∙ rw (marked-found (rest seam′ (p .back)), find-nowhere (λ (f : Place). eqs (f .name) (p .marked .name)) (rest seam′ (p .back)) (back-away seam′))
+      ∙ at-target (rest seam′ (p .back))
+      ∙ rw (target-found (rest seam′ (p .back)), find-nowhere (λ (f : Place). eqs (f .name) (p .target .name)) (rest seam′ (p .back)) (back-away seam′))
     where
       seam′ : ℕ
       seam′ = endOf (released p) 0 (p .front)
 
-  -- pushed on by the wedge
+  -- pushed on by the inserted
   pushedPlace : Place
-  pushedPlace = placeOf (released p) (seam + shapeSize (released p) (p .wedge)) (p .marked)
+  pushedPlace = placeOf (released p) (seam + shapeSize (released p) (p .inserted)) (p .target)
 
-  pub pushed : checkPlaces (p .name) (places (released p) 0 (p .front ++ (p .wedge ∷ p .marked ∷ p .back))) (places (released p) 0 (whole p))
-      ≡ moved (p .name) (p .marked .name) seam (seam + shapeSize (released p) (p .wedge))
-  unfolding _then_ onFound placeIn checkKept ensure moved front rest seam markedPlace places placeOf find
+  pub pushed : checkPlaces (p .name) (places (released p) 0 (p .front ++ (p .inserted ∷ p .target ∷ p .back))) (places (released p) 0 (whole p))
+      ≡ moved (p .name) (p .target .name) seam (seam + shapeSize (released p) (p .inserted))
+  unfolding _then_ onFound placeIn checkKept ensure moved front rest seam targetPlace places placeOf find
   pushed =
-      let n : seam + shapeSize (released p) (p .wedge) ≡ seam → ⊥ = λ e. (let z = g .wedge-sized in omega arith) in
-      ap (λ (x : List Place). checkPlaces (p .name) x (places (released p) 0 (whole p))) (places-append (released p) 0 (p .front) (p .wedge ∷ p .marked ∷ p .back))
-      ∙ at-marked (rest seam (p .wedge ∷ p .marked ∷ p .back))
-      ∙ rw (marked-found (rest seam (p .wedge ∷ p .marked ∷ p .back)), g .wedge-named, eqs-refl (p .marked .name), ne-eqb (seam + shapeSize (released p) (p .wedge)) seam n)
+      let n : seam + shapeSize (released p) (p .inserted) ≡ seam → ⊥ = λ e. (let z = g .inserted-sized in omega arith) in
+      ap (λ (x : List Place). checkPlaces (p .name) x (places (released p) 0 (whole p))) (places-append (released p) 0 (p .front) (p .inserted ∷ p .target ∷ p .back))
+      ∙ at-target (rest seam (p .inserted ∷ p .target ∷ p .back))
+      ∙ rw (target-found (rest seam (p .inserted ∷ p .target ∷ p .back)), g .inserted-named, eqs-refl (p .target .name), ne-eqb (seam + shapeSize (released p) (p .inserted)) seam n)
 
-  pub widened : checkPlaces (p .name) (places (released p) 0 (p .front ++ (p .wider ∷ p .back))) (places (released p) 0 (whole p))
-      ≡ resized (p .name) (p .marked .name) (shapeSize (released p) (p .marked)) (shapeSize (released p) (p .wider))
-  unfolding _then_ onFound placeIn checkKept ensure resized front rest seam markedPlace places placeOf find
+  pub widened : checkPlaces (p .name) (places (released p) 0 (p .front ++ (p .retyped ∷ p .back))) (places (released p) 0 (whole p))
+      ≡ resized (p .name) (p .target .name) (shapeSize (released p) (p .target)) (shapeSize (released p) (p .retyped))
+  unfolding _then_ onFound placeIn checkKept ensure resized front rest seam targetPlace places placeOf find
   widened =
-      ap (λ (x : List Place). checkPlaces (p .name) x (places (released p) 0 (whole p))) (places-append (released p) 0 (p .front) (p .wider ∷ p .back))
-      ∙ at-marked (rest seam (p .wider ∷ p .back))
-      ∙ rw (marked-found (rest seam (p .wider ∷ p .back)), ap (λ (n : Str). eqs n (p .marked .name)) (g .wider-named) ∙ eqs-refl (p .marked .name), eq-eqb seam seam refl, ne-eqb (shapeSize (released p) (p .wider)) (shapeSize (released p) (p .marked)) (g .wider-sized))
+      ap (λ (x : List Place). checkPlaces (p .name) x (places (released p) 0 (whole p))) (places-append (released p) 0 (p .front) (p .retyped ∷ p .back))
+      ∙ at-target (rest seam (p .retyped ∷ p .back))
+      ∙ rw (target-found (rest seam (p .retyped ∷ p .back)), ap (λ (n : Str). eqs n (p .target .name)) (g .retyped-named) ∙ eqs-refl (p .target .name), eq-eqb seam seam refl, ne-eqb (shapeSize (released p) (p .retyped)) (shapeSize (released p) (p .target)) (g .retyped-sized))
 
   pub grown : checkPlaces (p .name) (places (released p) 0 (whole p ++ (p .added ∷ []))) (places (released p) 0 (whole p)) ≡ pass
   unfolding checkPlaces

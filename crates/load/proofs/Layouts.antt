@@ -18,7 +18,7 @@ use Rattle.layout.proofs.Order.{sorted-last}
 use Rattle.record.proofs.Basics.{find-some, eqs→eq, eqs-refl}
 use Rattle.definition.specs.Chain.{NoDup}
 use Rattle.load.specs.Plan.{Plan, schemaWith, released, structsWith, root}
-use Rattle.load.specs.Sound.{Sound, Other, Apart, fieldNames}
+use Rattle.load.specs.Feasible.{Feasible, Other, Apart, fieldNames}
 use Rattle.load.proofs.Each.{last-this, last-other, sorted-self}
 
 -- sizes are those of the released record, in every record of the plan -----------------------------------------------------------------------
@@ -114,7 +114,7 @@ unfolding places placeOf
 place-names s at [] = refl
 place-names s at (f ∷ fs) = ap (λ (x : List Str). f .name ∷ x) (place-names s (at + shapeSize s f) fs)
 
-module _ (p : Plan) (g : Sound p) where
+module _ (p : Plan) (g : Feasible p) where
   lay-other : (t : Struct) → Other (p .name) t → Apart (p .name) (layStruct (released p) t)
   unfolding layStruct
   lay-other t o = record { named = o .named; once = subst NoDup (sym (place-names (released p) 0 (t .fields))) (o .once) }

@@ -9,11 +9,11 @@ pub mod Generated
 pub mod Parsing
 pub mod Listing
 pub mod RoundTrip
-pub mod RowLaws
-pub mod RowReading
+pub mod CommandLaws
+pub mod CommandReading
 pub mod RecordFits
 pub mod RecordMeans
-pub mod RowRange
+pub mod CommandRange
 pub mod RecordRange
 pub mod Pairs
 pub mod Shown

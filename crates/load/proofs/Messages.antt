@@ -13,15 +13,17 @@ use Rattle.record.specs.Fill.{joined}
 use Rattle.record.specs.declared.text.Text.{Text}
 use Rattle.definition.specs.Verdicts.{Verdict, messageOf, constantGone, fieldGone, moved, resized, unraised}
 use Rattle.definition.specs.Answer.{check}
-use Rattle.load.specs.Plan as P
-use Rattle.load.specs.Plan.{Outcome, outcomeNumber}
+use Rattle.load.specs.Plan.{outcomeNumber}
 use Rattle.load.specs.Wanted.{wanted}
 use Rattle.load.specs.Pool as W
-use Rattle.load.specs.Rows.{fieldMeant}
+use Rattle.load.specs.Commands.{fieldMeant}
 use Rattle.load.specs.Draws
-use Rattle.load.specs.Draws.{Setting, settingOf}
+use Rattle.load.specs.Draws.{settingOf}
 use Rattle.load.specs.Generator.{planOf, spareAt}
-use Rattle.load.proofs.Pairs.{now-record, was-record, load-fits}
+use Rattle.load.proofs.Pairs.{now-record, was-record, pair-number}
+use Rattle.load.specs.declared.outcomes.Outcome.{Outcome}
+use Rattle.load.specs.declared.outcomes.Outcome.the-variants as O
+use Rattle.load.specs.declared.settings.Setting.{Setting}
 
 summed : List Str → ℕ
 summed [] = 0
@@ -73,11 +75,11 @@ text-short t = let a = length-take (t .len) (drop (t .start) W.pool) in omega ar
 module _ (g : Setting) where
   name-short : length (planOf g .name) ≤ 16
   unfolding planOf Draws.structName W.structText
-  name-short = let a = text-short (W.structText (g .tails) (g .root)) in let b : (g .tails + g .root) % 14 < 14 = mod-lt (g .tails + g .root) (lit< tt) in omega arith
+  name-short = let a = text-short (W.structText (g .lengths) (g .root)) in let b : (g .lengths + g .root) % 14 < 14 = mod-lt (g .lengths + g .root) (lit< tt) in omega arith
 
-  marked-short : length (planOf g .marked .name) ≤ 16
-  unfolding planOf fieldMeant Draws.markedRow Draws.fieldName W.fieldText
-  marked-short = let a = text-short (W.fieldText (g .tails) (g .mark)) in let b : (g .tails + g .mark) % 14 < 14 = mod-lt (g .tails + g .mark) (lit< tt) in omega arith
+  target-short : length (planOf g .target .name) ≤ 16
+  unfolding planOf fieldMeant Draws.targetField Draws.fieldName W.fieldText
+  target-short = let a = text-short (W.fieldText (g .lengths) (g .target)) in let b : (g .lengths + g .target) % 14 < 14 = mod-lt (g .lengths + g .target) (lit< tt) in omega arith
 
   spare-short : length (planOf g .spare .name) ≤ 16
   unfolding planOf spareAt bytes
@@ -89,13 +91,13 @@ module _ (g : Setting) where
 
   pub message-short : (o : Outcome) → length (messageOf (wanted o (planOf g))) ≤ 1024
   unfolding wanted messageOf
-  message-short P.accepted = lit≤ tt
-  message-short P.constant-gone = constantGone-short (planOf g .spare .name) spare-short
-  message-short P.field-gone = fieldGone-short (planOf g .name) (planOf g .marked .name) name-short marked-short
-  message-short P.field-moved = moved-short (planOf g .name) (planOf g .marked .name) name-short marked-short _ _
-  message-short P.field-resized = resized-short (planOf g .name) (planOf g .marked .name) name-short marked-short _ _
-  message-short P.unraised = unraised-short (planOf g .name) (planOf g .constant) name-short constant-short _ _
+  message-short O.Accepted = lit≤ tt
+  message-short O.ConstantGone = constantGone-short (planOf g .spare .name) spare-short
+  message-short O.FieldGone = fieldGone-short (planOf g .name) (planOf g .target .name) name-short target-short
+  message-short O.FieldMoved = moved-short (planOf g .name) (planOf g .target .name) name-short target-short _ _
+  message-short O.FieldResized = resized-short (planOf g .name) (planOf g .target .name) name-short target-short _ _
+  message-short O.Unraised = unraised-short (planOf g .name) (planOf g .constant) name-short constant-short _ _
 
 -- THE LOAD IS MET, for every seed and outcome and every buffer of 1,024 bytes and more
-pub load-met : (seed : ℕ) (o : Outcome) (room : ℕ) → 1024 ≤ room → check room (now-record seed o) (was-record seed) .number ≡ outcomeNumber o
-load-met seed o room h = load-fits seed o room (let a = message-short (settingOf seed) o in omega arith)
+pub pair-outcome : (seed : ℕ) (o : Outcome) (room : ℕ) → 1024 ≤ room → check room (now-record seed o) (was-record seed) .number ≡ outcomeNumber o
+pair-outcome seed o room h = pair-number seed o room (let a = message-short (settingOf seed) o in omega arith)

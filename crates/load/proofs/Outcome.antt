@@ -1,4 +1,4 @@
--- THE OUTCOME: a sound plan's pair gets the wanted number. 02, W-213: the wanted outcome is met. Assumes nothing.
+-- THE OUTCOME: a feasible plan's pair gets the wanted number. 02, W-213: the wanted outcome is met. Assumes nothing.
 use mathlib.Core.Path.{_≡_, refl, sym, _∙_, ap, subst}
 use mathlib.Core.List.{List, [], _∷_, _++_, List·Memᴰ, List·Memᴰ·head, List·Memᴰ·tail, List·Memᴰ·not-nil, List·Memᴰ·append-cases}
 use mathlib.Core.Option.{Option, none, some}
@@ -26,13 +26,14 @@ use Rattle.definition.specs.Standalone.{checkStandalone}
 use Rattle.definition.specs.Coverage.{firstUnder}
 use Rattle.definition.specs.Generations.{isListed, checkStill, checkRise, checkGenerations}
 use Rattle.definition.specs.Compare.{passList, firstOf, compare}
-use Rattle.load.specs.Plan as P
-use Rattle.load.specs.Plan.{Plan, Outcome, outcomeNumber, whole, edited, root, structsWith, generationAt, generationNow, constantsWith, constantsWithout, constantsNow, entryAt, schemaWith, released, current}
-use Rattle.load.specs.Wanted.{seamOf, wanted}
-use Rattle.load.specs.Sound.{Sound, Other, Keyless}
+use Rattle.load.specs.Plan.{Plan, outcomeNumber, whole, edited, root, structsWith, generationAt, generationNow, constantsWith, constantsWithout, constantsNow, entryAt, schemaWith, released, current}
+use Rattle.load.specs.Wanted.{targetOffset, wanted}
+use Rattle.load.specs.Feasible.{Feasible, Other, Keyless}
 use Rattle.load.proofs.Layouts.{laid, layouts, types-are}
 use Rattle.load.proofs.Fields.{seam, fields-of-root, gone, pushed, widened, grown, grown-differs}
 use Rattle.load.proofs.Roots.{typesWith, is-generation, standalone-pass, root-touched, risen}
+use Rattle.load.specs.declared.outcomes.Outcome.{Outcome}
+use Rattle.load.specs.declared.outcomes.Outcome.the-variants as O
 
 -- no field has a plugin key ------------------------------------------------------------------------------------------------------------------------
 
@@ -46,7 +47,7 @@ unfolding pluginKeys
 no-plugin-keys [] l h = refl
 no-plugin-keys (t ∷ ts) l h = no-keys (t .fields) (pluginKeys ts l) (h t (List·Memᴰ·head refl)) ∙ no-plugin-keys ts l (λ x m. h x (List·Memᴰ·tail m))
 
-module _ (p : Plan) (g : Sound p) where
+module _ (p : Plan) (g : Feasible p) where
   keys-are : (fs : List Field) → Keyless fs → pluginKeys (structsWith p fs) (p .unstored) ≡ p .unstored
   unfolding structsWith root
   keys-are fs k = no-plugin-keys (structsWith p fs) (p .unstored) (λ t m. go t (List·Memᴰ·append-cases (p .before) m))
@@ -73,16 +74,16 @@ module _ (p : Plan) (g : Sound p) where
 
   whole-keyless : Keyless (whole p)
   unfolding whole
-  whole-keyless = joined-keyless (p .front) (p .marked ∷ p .back) (g .front-keyless) (front-of (p .marked) (p .back) (g .marked-keyless) (g .back-keyless))
+  whole-keyless = joined-keyless (p .front) (p .target ∷ p .back) (g .front-keyless) (front-of (p .target) (p .back) (g .target-keyless) (g .back-keyless))
 
   edited-keyless : (o : Outcome) → Keyless (edited o p)
   unfolding edited
-  edited-keyless P.accepted = joined-keyless (whole p) (p .added ∷ []) whole-keyless (front-of (p .added) [] (g .added-keyless) nothing-keyless)
-  edited-keyless P.constant-gone = whole-keyless
-  edited-keyless P.field-gone = joined-keyless (p .front) (p .back) (g .front-keyless) (g .back-keyless)
-  edited-keyless P.field-moved = joined-keyless (p .front) (p .wedge ∷ p .marked ∷ p .back) (g .front-keyless) (front-of (p .wedge) (p .marked ∷ p .back) (g .wedge-keyless) (front-of (p .marked) (p .back) (g .marked-keyless) (g .back-keyless)))
-  edited-keyless P.field-resized = joined-keyless (p .front) (p .wider ∷ p .back) (g .front-keyless) (front-of (p .wider) (p .back) (g .wider-keyless) (g .back-keyless))
-  edited-keyless P.unraised = joined-keyless (whole p) (p .added ∷ []) whole-keyless (front-of (p .added) [] (g .added-keyless) nothing-keyless)
+  edited-keyless O.Accepted = joined-keyless (whole p) (p .added ∷ []) whole-keyless (front-of (p .added) [] (g .added-keyless) nothing-keyless)
+  edited-keyless O.ConstantGone = whole-keyless
+  edited-keyless O.FieldGone = joined-keyless (p .front) (p .back) (g .front-keyless) (g .back-keyless)
+  edited-keyless O.FieldMoved = joined-keyless (p .front) (p .inserted ∷ p .target ∷ p .back) (g .front-keyless) (front-of (p .inserted) (p .target ∷ p .back) (g .inserted-keyless) (front-of (p .target) (p .back) (g .target-keyless) (g .back-keyless)))
+  edited-keyless O.FieldResized = joined-keyless (p .front) (p .retyped ∷ p .back) (g .front-keyless) (front-of (p .retyped) (p .back) (g .retyped-keyless) (g .back-keyless))
+  edited-keyless O.Unraised = joined-keyless (whole p) (p .added ∷ []) whole-keyless (front-of (p .added) [] (g .added-keyless) nothing-keyless)
 
   -- the ten passes, over given layouts and plugin keys -------------------------------------------------------------------------------------------
 
@@ -129,42 +130,42 @@ module _ (p : Plan) (g : Sound p) where
 
   -- 02: accepted, or one named verdict among 20, 34, 35, 36 and 43
   pub outcome-is : (o : Outcome) → compare (current o p) (released p) ≡ wanted o p
-  unfolding wanted seamOf seam constantGone current constantsNow generationNow edited _then_ laid root layStruct fieldGone moved resized unraised
+  unfolding wanted targetOffset seam constantGone current constantsNow generationNow edited _then_ laid root layStruct fieldGone moved resized unraised
       checkRise checkStill onFound isListed any entryAt ensure constantsWith constantsWithout given released
-  outcome-is P.accepted =
-      from-fields (p .generation + 1) (edited P.accepted p) (entryAt p (p .generation + 1) ∷ []) (g .small) (edited-keyless P.accepted)
+  outcome-is O.Accepted =
+      from-fields (p .generation + 1) (edited O.Accepted p) (entryAt p (p .generation + 1) ∷ []) (g .small) (edited-keyless O.Accepted)
       ∙ rw (
         grown p g,
-        risen p g (edited P.accepted p) (whole p) (p .now) (p .was) (entryAt p (p .generation + 1) ∷ []) (p .spare ∷ p .constants) (p .spare ∷ p .constants) (p .generation) (p .generation + 1) small (g .small),
+        risen p g (edited O.Accepted p) (whole p) (p .now) (p .was) (entryAt p (p .generation + 1) ∷ []) (p .spare ∷ p .constants) (p .spare ∷ p .constants) (p .generation) (p .generation + 1) small (g .small),
         le-ltb (p .generation + 1) (p .generation) (omega arith),
         ne-eqb (p .generation + 1) (p .generation) (λ e. omega arith),
         eq-eqb (p .generation + 1) (p .generation + 1) refl,
         eqs-refl (p .name),
       )
-  outcome-is P.constant-gone =
+  outcome-is O.ConstantGone =
       compare-is (p .now) (p .was) (constantsWithout p (p .generation)) (constantsWith p (p .generation)) (whole p) (whole p) (entryAt p (p .generation) ∷ []) (entryAt p (p .generation) ∷ []) whole-keyless whole-keyless
       ∙ rw (g .order, g .dated-without (p .generation) (p .generation), g .spare-gone (structsWith p (whole p)) (p .generation))
-  outcome-is P.field-gone =
-      from-fields (p .generation) (edited P.field-gone p) (entryAt p (p .generation) ∷ []) small (edited-keyless P.field-gone) ∙ rw (gone p g)
-  outcome-is P.field-moved =
-      from-fields (p .generation) (edited P.field-moved p) (entryAt p (p .generation) ∷ []) small (edited-keyless P.field-moved) ∙ rw (pushed p g)
-  outcome-is P.field-resized =
-      from-fields (p .generation) (edited P.field-resized p) (entryAt p (p .generation) ∷ []) small (edited-keyless P.field-resized) ∙ rw (widened p g)
-  outcome-is P.unraised =
-      from-fields (p .generation) (edited P.unraised p) (entryAt p (p .generation) ∷ []) small (edited-keyless P.unraised)
+  outcome-is O.FieldGone =
+      from-fields (p .generation) (edited O.FieldGone p) (entryAt p (p .generation) ∷ []) small (edited-keyless O.FieldGone) ∙ rw (gone p g)
+  outcome-is O.FieldMoved =
+      from-fields (p .generation) (edited O.FieldMoved p) (entryAt p (p .generation) ∷ []) small (edited-keyless O.FieldMoved) ∙ rw (pushed p g)
+  outcome-is O.FieldResized =
+      from-fields (p .generation) (edited O.FieldResized p) (entryAt p (p .generation) ∷ []) small (edited-keyless O.FieldResized) ∙ rw (widened p g)
+  outcome-is O.Unraised =
+      from-fields (p .generation) (edited O.Unraised p) (entryAt p (p .generation) ∷ []) small (edited-keyless O.Unraised)
       ∙ rw (
         grown p g,
-        risen p g (edited P.unraised p) (whole p) (p .now) (p .was) (entryAt p (p .generation) ∷ []) (p .spare ∷ p .constants) (p .spare ∷ p .constants) (p .generation) (p .generation) small small,
+        risen p g (edited O.Unraised p) (whole p) (p .now) (p .was) (entryAt p (p .generation) ∷ []) (p .spare ∷ p .constants) (p .spare ∷ p .constants) (p .generation) (p .generation) small small,
         le-ltb (p .generation) (p .generation) (omega arith),
         eq-eqb (p .generation) (p .generation) refl,
-        root-touched p g (edited P.unraised p) (whole p) (grown-differs p g),
+        root-touched p g (edited O.Unraised p) (whole p) (grown-differs p g),
       )
 
 pub wanted-number : (p : Plan) (o : Outcome) → verdictNumber (wanted o p) ≡ outcomeNumber o
 unfolding wanted outcomeNumber verdictNumber wordNumber constantGone fieldGone moved resized unraised
-wanted-number p P.accepted = refl
-wanted-number p P.constant-gone = refl
-wanted-number p P.field-gone = refl
-wanted-number p P.field-moved = refl
-wanted-number p P.field-resized = refl
-wanted-number p P.unraised = refl
+wanted-number p O.Accepted = refl
+wanted-number p O.ConstantGone = refl
+wanted-number p O.FieldGone = refl
+wanted-number p O.FieldMoved = refl
+wanted-number p O.FieldResized = refl
+wanted-number p O.Unraised = refl

@@ -25,54 +25,57 @@ use Rattle.layout.specs.Answer.{Answer, textOr}
 use Rattle.definition.specs.Verdicts.{Verdict, pass, stop, verdictNumber, messageOf}
 use Rattle.definition.specs.Compare.{compare}
 use Rattle.definition.specs.Answer.{verdictOf, answered, check}
-use Rattle.load.specs.Plan as P
-use Rattle.load.specs.Plan.{Plan, Outcome, outcomeNumber, whole, edited, root, structsWith, generationAt, generationNow, constantsWith, constantsWithout, constantsNow, entryAt, schemaWith, released, current}
-use Rattle.load.specs.Wanted.{seamOf, wanted}
+use Rattle.load.specs.Plan.{Plan, outcomeNumber, whole, edited, root, structsWith, generationAt, generationNow, constantsWith, constantsWithout, constantsNow, entryAt, schemaWith, released, current}
+use Rattle.load.specs.Wanted.{targetOffset, wanted}
 use Rattle.load.specs.Pool as W
-use Rattle.load.specs.Rows.{FieldRow, fieldBytes, StructRow, structBytes, meantText, fieldMeant, fieldsMeant, structMeant, structsMeant}
+use Rattle.load.specs.Commands.{fieldBytes, StructCommand, structBytes, meantText, fieldMeant, fieldsMeant, structMeant, structsMeant}
 use Rattle.load.specs.Draws
-use Rattle.load.specs.Draws.{Setting, settingOf}
+use Rattle.load.specs.Draws.{settingOf}
 use Rattle.load.specs.Range.{InRange}
-use Rattle.load.specs.Generator.{planOf, spareAt, otherConstants, aliasList, enumList, bitfieldList, familyList, unstoredList, headBytes, integerBytes, vendorBytes, versionBytes, sharedCommands, fieldCommands, structCommands, rootRow, allRows, recordWith, spareCommand, wholeRows, editedRows, spareNow, numberNow, releasedCommands, currentCommands, streamOf}
+use Rattle.load.specs.Generator.{planOf, spareAt, otherConstants, aliasList, enumList, bitfieldList, familyList, unstoredList, headBytes, integerBytes, vendorBytes, versionBytes, sharedCommands, fieldCommands, structCommands, rootStruct, allStructs, recordWith, spareCommand, wholeFields, editedFields, spareNow, releasedCommands, currentCommands, streamOf}
 use Rattle.load.specs.Written.{listedIn, keysIn, fieldsIn, schemaIn, openedIn}
 use Rattle.load.proofs.Layouts.{size-same}
 use Rattle.load.proofs.Shared.{generationConst}
-use Rattle.load.proofs.Generated.{sound, in-range, met}
+use Rattle.load.proofs.Generated.{feasible, in-range, met}
 use Rattle.load.proofs.Outcome.{wanted-number}
 use Rattle.load.proofs.Listing.{slim}
 use Rattle.load.proofs.RoundTrip.{reads}
-use Rattle.load.proofs.RowLaws.{InPool, given, StructFits}
-use Rattle.load.proofs.RowReading.{fields-back}
-use Rattle.load.proofs.RowRange.{was-in, now-in, slot-in, struct-in}
-use Rattle.load.proofs.RecordFits.{chain-with, chain-without}
+use Rattle.load.proofs.CommandLaws.{InPool, given, StructFits}
+use Rattle.load.proofs.CommandReading.{fields-back}
+use Rattle.load.proofs.CommandRange.{was-in, now-in, slot-in, struct-in}
+use Rattle.load.proofs.RecordFits.{fit-with, fit-without}
 use Rattle.load.proofs.RecordMeans.{target, means-with, means-without}
-use Rattle.load.proofs.RecordRange.{RowGood, AllGood, StructGood, whole-good, edited-good, whole-count, edited-few, all-good, all-count}
+use Rattle.load.proofs.RecordRange.{FieldGood, AllGood, StructGood, whole-good, edited-good, whole-count, edited-few, all-good, all-count}
+use Rattle.load.specs.declared.outcomes.Outcome.{Outcome}
+use Rattle.load.specs.declared.outcomes.Outcome.the-variants as O
+use Rattle.load.specs.declared.settings.Setting.{Setting}
+use Rattle.load.specs.declared.commands.FieldCommand.{FieldCommand}
 
 -- rows mean what the plan has ------------------------------------------------------------------------------------------------------------------------------------
 
-fields-append : (l k : List FieldRow) → fieldsMeant (l ++ k) ≡ fieldsMeant l ++ fieldsMeant k
+fields-append : (l k : List FieldCommand) → fieldsMeant (l ++ k) ≡ fieldsMeant l ++ fieldsMeant k
 unfolding fieldsMeant
 fields-append [] k = refl
 fields-append (f ∷ l) k = ap (λ (x : List Field). fieldMeant f ∷ x) (fields-append l k)
 
-structs-append : (l k : List StructRow) → structsMeant (l ++ k) ≡ structsMeant l ++ structsMeant k
+structs-append : (l k : List StructCommand) → structsMeant (l ++ k) ≡ structsMeant l ++ structsMeant k
 unfolding structsMeant
 structs-append [] k = refl
 structs-append (f ∷ l) k = ap (λ (x : List Struct). structMeant f ∷ x) (structs-append l k)
 
 module _ (g : Setting) where
-  pub whole-plan : fieldsMeant (wholeRows g) ≡ whole (planOf g)
-  unfolding wholeRows whole planOf fieldsMeant
-  whole-plan = fields-append (Draws.frontRows g) (Draws.markedRow g ∷ Draws.backRows g)
+  pub whole-plan : fieldsMeant (wholeFields g) ≡ whole (planOf g)
+  unfolding wholeFields whole planOf fieldsMeant
+  whole-plan = fields-append (Draws.frontFields g) (Draws.targetField g ∷ Draws.backFields g)
 
-  edited-plan : (o : Outcome) → fieldsMeant (editedRows g o) ≡ edited o (planOf g)
-  unfolding editedRows edited planOf fieldsMeant
-  edited-plan P.accepted = fields-append (wholeRows g) (Draws.addedRow g ∷ []) ∙ ap (λ (x : List Field). x ++ (fieldMeant (Draws.addedRow g) ∷ [])) whole-plan
-  edited-plan P.constant-gone = whole-plan
-  edited-plan P.field-gone = fields-append (Draws.frontRows g) (Draws.backRows g)
-  edited-plan P.field-moved = fields-append (Draws.frontRows g) (Draws.wedgeRow g ∷ Draws.markedRow g ∷ Draws.backRows g)
-  edited-plan P.field-resized = fields-append (Draws.frontRows g) (Draws.widerRow g ∷ Draws.backRows g)
-  edited-plan P.unraised = fields-append (wholeRows g) (Draws.addedRow g ∷ []) ∙ ap (λ (x : List Field). x ++ (fieldMeant (Draws.addedRow g) ∷ [])) whole-plan
+  edited-plan : (o : Outcome) → fieldsMeant (editedFields g o) ≡ edited o (planOf g)
+  unfolding editedFields edited planOf fieldsMeant
+  edited-plan O.Accepted = fields-append (wholeFields g) (Draws.addedField g ∷ []) ∙ ap (λ (x : List Field). x ++ (fieldMeant (Draws.addedField g) ∷ [])) whole-plan
+  edited-plan O.ConstantGone = whole-plan
+  edited-plan O.FieldGone = fields-append (Draws.frontFields g) (Draws.backFields g)
+  edited-plan O.FieldMoved = fields-append (Draws.frontFields g) (Draws.insertedField g ∷ Draws.targetField g ∷ Draws.backFields g)
+  edited-plan O.FieldResized = fields-append (Draws.frontFields g) (Draws.retypedField g ∷ Draws.backFields g)
+  edited-plan O.Unraised = fields-append (wholeFields g) (Draws.addedField g ∷ []) ∙ ap (λ (x : List Field). x ++ (fieldMeant (Draws.addedField g) ∷ [])) whole-plan
 
   root-slot : meantText (Draws.slotText (g .slot)) ≡ some (textOf W.pool (Draws.slotText (g .slot)))
   unfolding meantText
@@ -82,14 +85,14 @@ module _ (g : Setting) where
   unfolding meantText optText textOf W.pool W.structNames W.fieldNames W.kindTexts W.wordTexts bytes
   root-constant = refl
 
-  structs-plan : (fs : List FieldRow) → structsMeant (allRows g fs) ≡ structsWith (planOf g) (fieldsMeant fs)
-  unfolding allRows structsWith planOf root rootRow structsMeant structMeant
+  structs-plan : (fs : List FieldCommand) → structsMeant (allStructs g fs) ≡ structsWith (planOf g) (fieldsMeant fs)
+  unfolding allStructs structsWith planOf root rootStruct structsMeant structMeant
   structs-plan fs =
-      structs-append (Draws.beforeRows g) (rootRow g fs ∷ Draws.afterRows g)
-      ∙ (λ i. structsMeant (Draws.beforeRows g) ++ (record { name = textOf W.pool (Draws.structName g (g .root)); slot = root-slot i; version = root-constant i; fields = fieldsMeant fs } ∷ structsMeant (Draws.afterRows g)))
+      structs-append (Draws.beforeStructs g) (rootStruct g fs ∷ Draws.afterStructs g)
+      ∙ (λ i. structsMeant (Draws.beforeStructs g) ++ (record { name = textOf W.pool (Draws.structName g (g .root)); slot = root-slot i; version = root-constant i; fields = fieldsMeant fs } ∷ structsMeant (Draws.afterStructs g)))
 
-  target-plan : (release : Text) (n : ℕ) (cs : List Const) (fs : List FieldRow)
-      → target (Draws.structName g (g .root)) n (allRows g fs) release cs ≡ schemaWith (planOf g) (textOf W.pool release) cs (fieldsMeant fs) (entryAt (planOf g) n ∷ [])
+  target-plan : (release : Text) (n : ℕ) (cs : List Const) (fs : List FieldCommand)
+      → target (Draws.structName g (g .root)) n (allStructs g fs) release cs ≡ schemaWith (planOf g) (textOf W.pool release) cs (fieldsMeant fs) (entryAt (planOf g) n ∷ [])
   unfolding target schemaWith planOf entryAt
   target-plan release n cs fs = λ i. record {
     scalars = builtIn;
@@ -116,12 +119,12 @@ module _ (t : Schema) where
       rw (le-ltb 4294967295 (at + shapeSize t f) (omega arith)) (not-large (at + shapeSize t f) fs (λ x m. h x (List·Memᴰ·tail m)) (omega arith))
 
   -- a field's command opens no type
-  opened-fields : (fs : List FieldRow) (cs : List Str) → openedIn W.pool (fieldCommands fs cs) ≡ openedIn W.pool cs
+  opened-fields : (fs : List FieldCommand) (cs : List Str) → openedIn W.pool (fieldCommands fs cs) ≡ openedIn W.pool cs
   unfolding openedIn fieldCommands fieldBytes
   opened-fields [] cs = refl
   opened-fields (f ∷ fs) cs = opened-fields fs cs
 
-  slim-structs : (ss : List StructRow) → ((s : StructRow) → List·Memᴰ s ss → any large (places t 0 (fieldsMeant (s .fields))) ≡ false) → slim t (openedIn W.pool (structCommands ss [])) ≡ true
+  slim-structs : (ss : List StructCommand) → ((s : StructCommand) → List·Memᴰ s ss → any large (places t 0 (fieldsMeant (s .fields))) ≡ false) → slim t (openedIn W.pool (structCommands ss [])) ≡ true
   unfolding slim openedIn structCommands structBytes
   slim-structs [] h = refl
   slim-structs (s ∷ ss) h =
@@ -132,22 +135,22 @@ module _ (g : Setting) (r : Str) (cs : List Const) (fs : List Field) (vs : List 
   abbrev T : Schema
   T = schemaWith (planOf g) r cs fs vs
 
-  meant-small : (l : List FieldRow) → AllGood g l → (f : Field) → List·Memᴰ f (fieldsMeant l) → shapeSize T f ≤ 256
+  meant-small : (l : List FieldCommand) → AllGood g l → (f : Field) → List·Memᴰ f (fieldsMeant l) → shapeSize T f ≤ 256
   unfolding fieldsMeant
   meant-small [] h f m = absurd (List·Memᴰ·not-nil m)
   meant-small (x ∷ l) h f (List·Memᴰ·head e) =
       subst (λ (n : ℕ). n ≤ 256) (sym (ap (shapeSize T) e ∙ size-same (planOf g) r cs fs vs (fieldMeant x))) (h x (List·Memᴰ·head refl) .small)
   meant-small (x ∷ l) h f (List·Memᴰ·tail m) = meant-small l (λ y i. h y (List·Memᴰ·tail i)) f m
 
-  meant-count : (l : List FieldRow) → length (fieldsMeant l) ≡ length l
+  meant-count : (l : List FieldCommand) → length (fieldsMeant l) ≡ length l
   unfolding fieldsMeant
   meant-count [] = refl
   meant-count (x ∷ l) = ap suc (meant-count l)
 
-  struct-slim : (s : StructRow) → StructGood g s → any large (places T 0 (fieldsMeant (s .fields))) ≡ false
+  struct-slim : (s : StructCommand) → StructGood g s → any large (places T 0 (fieldsMeant (s .fields))) ≡ false
   struct-slim s h = not-large T 0 (fieldsMeant (s .fields)) (meant-small (s .fields) (h .good)) (let a = meant-count (s .fields) in let b = h .few in omega arith)
 
-  module _ (t : Text) (n : ℕ) (ss : List StructRow) (h : (s : StructRow) → List·Memᴰ s ss → StructGood g s) where
+  module _ (t : Text) (n : ℕ) (ss : List StructCommand) (h : (s : StructCommand) → List·Memᴰ s ss → StructGood g s) where
     abbrev end : List Str
     end = integerBytes W.t·PLUGIN-API 4 1 W.absent ∷ vendorBytes ∷ (sharedCommands ++ (versionBytes t n ∷ structCommands ss []))
 
@@ -180,12 +183,12 @@ shared-length : (cs : List Str) → length (streamOf (sharedCommands ++ cs)) ≡
 unfolding sharedCommands total
 shared-length cs = stream-length sharedCommands cs
 
-fields-length : (fs : List FieldRow) (cs : List Str) → length (streamOf (fieldCommands fs cs)) ≡ 33 * length fs + length (streamOf cs)
+fields-length : (fs : List FieldCommand) (cs : List Str) → length (streamOf (fieldCommands fs cs)) ≡ 33 * length fs + length (streamOf cs)
 unfolding fieldCommands streamOf fieldBytes
 fields-length [] cs = omega arith
 fields-length (f ∷ fs) cs = let b = fields-length fs cs in omega arith
 
-structs-length : (g : Setting) (ss : List StructRow) → ((s : StructRow) → List·Memᴰ s ss → StructGood g s) → length (streamOf (structCommands ss [])) ≤ 604 * length ss + 1
+structs-length : (g : Setting) (ss : List StructCommand) → ((s : StructCommand) → List·Memᴰ s ss → StructGood g s) → length (streamOf (structCommands ss [])) ≤ 604 * length ss + 1
 unfolding structCommands streamOf structBytes
 structs-length g [] h = omega arith
 structs-length g (s ∷ ss) h =
@@ -194,7 +197,7 @@ structs-length g (s ∷ ss) h =
     let c = h s (List·Memᴰ·head refl) .few in
     omega arith
 
-module _ (g : Setting) (t release : Text) (n v : ℕ) (ss : List StructRow) (h : (s : StructRow) → List·Memᴰ s ss → StructGood g s) (k : length ss ≤ 8) where
+module _ (g : Setting) (t release : Text) (n v : ℕ) (ss : List StructCommand) (h : (s : StructCommand) → List·Memᴰ s ss → StructGood g s) (k : length ss ≤ 8) where
   abbrev end′ : List Str
   end′ = integerBytes W.t·PLUGIN-API 4 1 W.absent ∷ vendorBytes ∷ (sharedCommands ++ (versionBytes t n ∷ structCommands ss []))
 
@@ -215,44 +218,44 @@ module _ (g : Setting) (t release : Text) (n v : ℕ) (ss : List StructRow) (h :
 
 -- each record is read, as either side -------------------------------------------------------------------------------------------------------------------------------------
 
-module _ (side : Side) (g : Setting) (r : InRange g) (release : Text) (a : InPool release) (n : ℕ) (fs : List FieldRow) (k : AllGood g fs) (few : length fs ≤ 18) where
-  good : (s : StructRow) → List·Memᴰ s (allRows g fs) → StructGood g s
+module _ (side : Side) (g : Setting) (r : InRange g) (release : Text) (a : InPool release) (n : ℕ) (fs : List FieldCommand) (k : AllGood g fs) (few : length fs ≤ 18) where
+  good : (s : StructCommand) → List·Memᴰ s (allStructs g fs) → StructGood g s
   good = all-good g r fs k few
 
-  count : length (allRows g fs) ≤ 8
+  count : length (allStructs g fs) ≤ 8
   count = let c = all-count g r fs k few in let d = r .structs in omega arith
 
   named : InPool (Draws.structName g (g .root))
   unfolding Draws.structName
-  named = struct-in (g .tails) (g .root) (let c = r .root in let d = r .structs in omega arith)
+  named = struct-in (g .lengths) (g .root) (let c = r .root in let d = r .structs in omega arith)
 
   without-short : length (streamOf (recordWith g release [] n fs)) ≤ 32768
   unfolding recordWith
-  without-short = short-without g (Draws.structName g (g .root)) release n 0 (allRows g fs) good count
+  without-short = short-without g (Draws.structName g (g .root)) release n 0 (allStructs g fs) good count
 
   with-short : length (streamOf (recordWith g release (spareCommand g) n fs)) ≤ 32768
   unfolding recordWith spareCommand
-  with-short = short-with g (Draws.structName g (g .root)) release n (g .spare) (allRows g fs) good count
+  with-short = short-with g (Draws.structName g (g .root)) release n (g .spare) (allStructs g fs) good count
 
   read-without : reading side (rec (streamOf (recordWith g release [] n fs)) W.pool builtIn)
       ≡ read (schemaWith (planOf g) (textOf W.pool release) (generationConst n ∷ otherConstants) (fieldsMeant fs) (entryAt (planOf g) n ∷ []))
   unfolding recordWith
   read-without =
       reads side (recordWith g release [] n fs) (schemaWith (planOf g) (textOf W.pool release) (generationConst n ∷ otherConstants) (fieldsMeant fs) (entryAt (planOf g) n ∷ []))
-      (chain-without side g release n (allRows g fs) a named (λ s m. good s m .fits))
-      (short-without g (Draws.structName g (g .root)) release n 0 (allRows g fs) good count)
-      (means-without (Draws.structName g (g .root)) n (allRows g fs) release a ∙ target-plan g release n (generationConst n ∷ otherConstants) fs)
-      (slim-without g (textOf W.pool release) (generationConst n ∷ otherConstants) (fieldsMeant fs) (entryAt (planOf g) n ∷ []) (Draws.structName g (g .root)) n (allRows g fs) good release)
+      (fit-without side g release n (allStructs g fs) a named (λ s m. good s m .fits))
+      (short-without g (Draws.structName g (g .root)) release n 0 (allStructs g fs) good count)
+      (means-without (Draws.structName g (g .root)) n (allStructs g fs) release a ∙ target-plan g release n (generationConst n ∷ otherConstants) fs)
+      (slim-without g (textOf W.pool release) (generationConst n ∷ otherConstants) (fieldsMeant fs) (entryAt (planOf g) n ∷ []) (Draws.structName g (g .root)) n (allStructs g fs) good release)
 
   read-with : reading side (rec (streamOf (recordWith g release (spareCommand g) n fs)) W.pool builtIn)
       ≡ read (schemaWith (planOf g) (textOf W.pool release) (generationConst n ∷ spareAt (g .spare) ∷ otherConstants) (fieldsMeant fs) (entryAt (planOf g) n ∷ []))
   unfolding recordWith spareCommand
   read-with =
       reads side (recordWith g release (spareCommand g) n fs) (schemaWith (planOf g) (textOf W.pool release) (generationConst n ∷ spareAt (g .spare) ∷ otherConstants) (fieldsMeant fs) (entryAt (planOf g) n ∷ []))
-      (chain-with side g release n (allRows g fs) a named (λ s m. good s m .fits) (g .spare))
-      (short-with g (Draws.structName g (g .root)) release n (g .spare) (allRows g fs) good count)
-      (means-with (Draws.structName g (g .root)) n (allRows g fs) release a (g .spare) ∙ target-plan g release n (generationConst n ∷ spareAt (g .spare) ∷ otherConstants) fs)
-      (slim-with g (textOf W.pool release) (generationConst n ∷ spareAt (g .spare) ∷ otherConstants) (fieldsMeant fs) (entryAt (planOf g) n ∷ []) (Draws.structName g (g .root)) n (allRows g fs) good release (g .spare))
+      (fit-with side g release n (allStructs g fs) a named (λ s m. good s m .fits) (g .spare))
+      (short-with g (Draws.structName g (g .root)) release n (g .spare) (allStructs g fs) good count)
+      (means-with (Draws.structName g (g .root)) n (allStructs g fs) release a (g .spare) ∙ target-plan g release n (generationConst n ∷ spareAt (g .spare) ∷ otherConstants) fs)
+      (slim-with g (textOf W.pool release) (generationConst n ∷ spareAt (g .spare) ∷ otherConstants) (fieldsMeant fs) (entryAt (planOf g) n ∷ []) (Draws.structName g (g .root)) n (allStructs g fs) good release (g .spare))
 
 -- the pair ------------------------------------------------------------------------------------------------------------------------------------------------------------------
 
@@ -260,42 +263,42 @@ module _ (g : Setting) (r : InRange g) where
   pub released-read : reading Released (rec (streamOf (releasedCommands g)) W.pool builtIn) ≡ read (released (planOf g))
   unfolding releasedCommands released constantsWith generationAt planOf generationConst
   released-read =
-      read-with Released g r (Draws.wasText (g .era)) (was-in (g .era)) (g .generation) (wholeRows g) (whole-good g r) (let a = whole-count g r in let b = r .fields in omega arith)
-      ∙ ap (λ (fs : List Field). read (schemaWith (planOf g) (textOf W.pool (Draws.wasText (g .era))) (generationConst (g .generation) ∷ spareAt (g .spare) ∷ otherConstants) fs (entryAt (planOf g) (g .generation) ∷ []))) (whole-plan g)
+      read-with Released g r (Draws.wasText (g .releases)) (was-in (g .releases)) (g .generation) (wholeFields g) (whole-good g r) (let a = whole-count g r in let b = r .fields in omega arith)
+      ∙ ap (λ (fs : List Field). read (schemaWith (planOf g) (textOf W.pool (Draws.wasText (g .releases))) (generationConst (g .generation) ∷ spareAt (g .spare) ∷ otherConstants) fs (entryAt (planOf g) (g .generation) ∷ []))) (whole-plan g)
 
-  now-read : (o : Outcome) (n : ℕ) → reading Current (rec (streamOf (recordWith g (Draws.nowText (g .era)) (spareCommand g) n (editedRows g o))) W.pool builtIn)
-      ≡ read (schemaWith (planOf g) (textOf W.pool (Draws.nowText (g .era))) (generationConst n ∷ spareAt (g .spare) ∷ otherConstants) (edited o (planOf g)) (entryAt (planOf g) n ∷ []))
+  now-read : (o : Outcome) (n : ℕ) → reading Current (rec (streamOf (recordWith g (Draws.nowText (g .releases)) (spareCommand g) n (editedFields g o))) W.pool builtIn)
+      ≡ read (schemaWith (planOf g) (textOf W.pool (Draws.nowText (g .releases))) (generationConst n ∷ spareAt (g .spare) ∷ otherConstants) (edited o (planOf g)) (entryAt (planOf g) n ∷ []))
   now-read o n =
-      read-with Current g r (Draws.nowText (g .era)) (now-in (g .era)) n (editedRows g o) (edited-good g r o) (edited-few g r o)
-      ∙ ap (λ (fs : List Field). read (schemaWith (planOf g) (textOf W.pool (Draws.nowText (g .era))) (generationConst n ∷ spareAt (g .spare) ∷ otherConstants) fs (entryAt (planOf g) n ∷ []))) (edited-plan g o)
+      read-with Current g r (Draws.nowText (g .releases)) (now-in (g .releases)) n (editedFields g o) (edited-good g r o) (edited-few g r o)
+      ∙ ap (λ (fs : List Field). read (schemaWith (planOf g) (textOf W.pool (Draws.nowText (g .releases))) (generationConst n ∷ spareAt (g .spare) ∷ otherConstants) fs (entryAt (planOf g) n ∷ []))) (edited-plan g o)
 
   pub current-read : (o : Outcome) → reading Current (rec (streamOf (currentCommands g o)) W.pool builtIn) ≡ read (current o (planOf g))
-  unfolding currentCommands current constantsNow constantsWith constantsWithout generationNow numberNow spareNow generationAt planOf generationConst
-  current-read P.accepted = now-read P.accepted (g .generation + 1)
-  current-read P.constant-gone =
-      read-without Current g r (Draws.nowText (g .era)) (now-in (g .era)) (g .generation) (editedRows g P.constant-gone) (edited-good g r P.constant-gone) (edited-few g r P.constant-gone)
-      ∙ ap (λ (fs : List Field). read (schemaWith (planOf g) (textOf W.pool (Draws.nowText (g .era))) (generationConst (g .generation) ∷ otherConstants) fs (entryAt (planOf g) (g .generation) ∷ []))) (edited-plan g P.constant-gone)
-  current-read P.field-gone = now-read P.field-gone (g .generation)
-  current-read P.field-moved = now-read P.field-moved (g .generation)
-  current-read P.field-resized = now-read P.field-resized (g .generation)
-  current-read P.unraised = now-read P.unraised (g .generation)
+  unfolding currentCommands current constantsNow constantsWith constantsWithout generationNow spareNow generationAt planOf generationConst
+  current-read O.Accepted = now-read O.Accepted (g .generation + 1)
+  current-read O.ConstantGone =
+      read-without Current g r (Draws.nowText (g .releases)) (now-in (g .releases)) (g .generation) (editedFields g O.ConstantGone) (edited-good g r O.ConstantGone) (edited-few g r O.ConstantGone)
+      ∙ ap (λ (fs : List Field). read (schemaWith (planOf g) (textOf W.pool (Draws.nowText (g .releases))) (generationConst (g .generation) ∷ otherConstants) fs (entryAt (planOf g) (g .generation) ∷ []))) (edited-plan g O.ConstantGone)
+  current-read O.FieldGone = now-read O.FieldGone (g .generation)
+  current-read O.FieldMoved = now-read O.FieldMoved (g .generation)
+  current-read O.FieldResized = now-read O.FieldResized (g .generation)
+  current-read O.Unraised = now-read O.Unraised (g .generation)
 
   -- no stream is long
   pub released-short : length (streamOf (releasedCommands g)) ≤ 32768
   unfolding releasedCommands
-  released-short = with-short Released g r (Draws.wasText (g .era)) (was-in (g .era)) (g .generation) (wholeRows g) (whole-good g r) (let a = whole-count g r in let b = r .fields in omega arith)
+  released-short = with-short Released g r (Draws.wasText (g .releases)) (was-in (g .releases)) (g .generation) (wholeFields g) (whole-good g r) (let a = whole-count g r in let b = r .fields in omega arith)
 
-  now-short : (o : Outcome) (n : ℕ) → length (streamOf (recordWith g (Draws.nowText (g .era)) (spareCommand g) n (editedRows g o))) ≤ 32768
-  now-short o n = with-short Current g r (Draws.nowText (g .era)) (now-in (g .era)) n (editedRows g o) (edited-good g r o) (edited-few g r o)
+  now-short : (o : Outcome) (n : ℕ) → length (streamOf (recordWith g (Draws.nowText (g .releases)) (spareCommand g) n (editedFields g o))) ≤ 32768
+  now-short o n = with-short Current g r (Draws.nowText (g .releases)) (now-in (g .releases)) n (editedFields g o) (edited-good g r o) (edited-few g r o)
 
   pub current-short : (o : Outcome) → length (streamOf (currentCommands g o)) ≤ 32768
-  unfolding currentCommands numberNow spareNow
-  current-short P.accepted = now-short P.accepted (g .generation + 1)
-  current-short P.constant-gone = without-short Current g r (Draws.nowText (g .era)) (now-in (g .era)) (g .generation) (editedRows g P.constant-gone) (edited-good g r P.constant-gone) (edited-few g r P.constant-gone)
-  current-short P.field-gone = now-short P.field-gone (g .generation)
-  current-short P.field-moved = now-short P.field-moved (g .generation)
-  current-short P.field-resized = now-short P.field-resized (g .generation)
-  current-short P.unraised = now-short P.unraised (g .generation)
+  unfolding currentCommands generationNow spareNow
+  current-short O.Accepted = now-short O.Accepted (g .generation + 1)
+  current-short O.ConstantGone = without-short Current g r (Draws.nowText (g .releases)) (now-in (g .releases)) (g .generation) (editedFields g O.ConstantGone) (edited-good g r O.ConstantGone) (edited-few g r O.ConstantGone)
+  current-short O.FieldGone = now-short O.FieldGone (g .generation)
+  current-short O.FieldMoved = now-short O.FieldMoved (g .generation)
+  current-short O.FieldResized = now-short O.FieldResized (g .generation)
+  current-short O.Unraised = now-short O.Unraised (g .generation)
 
 -- the current and the released record of a seed
 unfoldable pub now-record : ℕ → Outcome → Rec
@@ -311,11 +314,11 @@ numbered room pass h = refl
 numbered room (stop w m) h = rw (le-leb (length m) room h)
 
 -- FOR EVERY SEED AND OUTCOME: both records are read, and the check answers the wanted verdict
-pub load-is : (seed : ℕ) (o : Outcome) (room : ℕ) → check room (now-record seed o) (was-record seed) ≡ verdictOf room (wanted o (planOf (settingOf seed)))
+pub pair-checked : (seed : ℕ) (o : Outcome) (room : ℕ) → check room (now-record seed o) (was-record seed) ≡ verdictOf room (wanted o (planOf (settingOf seed)))
 unfolding check answered now-record was-record
-load-is seed o room = rw (current-read (settingOf seed) (in-range seed) o, released-read (settingOf seed) (in-range seed), met seed o)
+pair-checked seed o room = rw (current-read (settingOf seed) (in-range seed) o, released-read (settingOf seed) (in-range seed), met seed o)
 
 -- its number is the outcome's, wherever the message fits
-pub load-fits : (seed : ℕ) (o : Outcome) (room : ℕ) → length (messageOf (wanted o (planOf (settingOf seed)))) ≤ room → check room (now-record seed o) (was-record seed) .number ≡ outcomeNumber o
-load-fits seed o room h =
-    ap (λ (a : Answer). a .number) (load-is seed o room) ∙ numbered room (wanted o (planOf (settingOf seed))) h ∙ wanted-number (planOf (settingOf seed)) o
+pub pair-number : (seed : ℕ) (o : Outcome) (room : ℕ) → length (messageOf (wanted o (planOf (settingOf seed)))) ≤ room → check room (now-record seed o) (was-record seed) .number ≡ outcomeNumber o
+pair-number seed o room h =
+    ap (λ (a : Answer). a .number) (pair-checked seed o room) ∙ numbered room (wanted o (planOf (settingOf seed))) h ∙ wanted-number (planOf (settingOf seed)) o

@@ -18,7 +18,7 @@ use Rattle.record.specs.declared.command.Cursor.{Cursor}
 use Rattle.record.specs.declared.refusal.Side.{Side}
 use Rattle.record.specs.declared.judge.Judged.the-variants.{Next, Done}
 use Rattle.load.specs.Generator.{streamOf}
-use Rattle.load.specs.Written.{opcode, placesFrom, cursorAt, Fits, Chain}
+use Rattle.load.specs.Written.{opcode, placesFrom, cursorAt, Fits, AllFit}
 
 -- the first byte of a command that fits
 front-byte : (c x : Str) (w : ℕ) → length c ≡ 1 + w → getD (c ++ x) 0 0 ≡ opcode c
@@ -65,7 +65,7 @@ module _ (side : Side) (n : ℕ) where
       let q : length pre + (1 + 0) ≡ length (pre ++ (15 ∷ [])) = omega arith in
       rw (lt-ltb (length pre) (length (pre ++ (15 ∷ []))) i, seam-byte pre (15 ∷ []), le-ltb (length (pre ++ (15 ∷ [])) - length pre) (1 + 0) o, ne-eqb last 0 h, seam-byte pre (15 ∷ []), eq-eqb (length pre + (1 + 0)) (length (pre ++ (15 ∷ []))) q)
 
-  pub parse-written : (k : ℕ) (pre : Str) (cs : List Str) (last : ℕ) (parent : Parent) → Chain side n last parent cs → length cs < k
+  pub parse-written : (k : ℕ) (pre : Str) (cs : List Str) (last : ℕ) (parent : Parent) → AllFit side n last parent cs → length cs < k
       → parse k side (pre ++ streamOf cs) n (cursorAt (length pre) last parent) ≡ ok (placesFrom (length pre) cs)
   unfolding parse continued onto streamOf placesFrom
   parse-written zero pre cs last parent f h = absurd (omega arith)

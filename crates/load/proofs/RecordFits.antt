@@ -20,19 +20,19 @@ use Rattle.record.specs.declared.command.Parent.the-variants.{NoParent}
 use Rattle.record.specs.declared.refusal.Side.{Side}
 use Rattle.record.specs.declared.judge.Fault.the-variants.{Fine, Outside}
 use Rattle.load.specs.Pool as W
-use Rattle.load.specs.Rows.{t3, w4, v8, n5, StructRow, structBytes}
+use Rattle.load.specs.Commands.{t3, w4, v8, n5, StructCommand, structBytes}
 use Rattle.load.specs.Draws
-use Rattle.load.specs.Draws.{Setting}
-use Rattle.load.specs.Generator.{headBytes, integerBytes, vendorBytes, versionBytes, sharedCommands, structCommands, allRows, recordWith, spareCommand, streamOf}
-use Rattle.load.specs.Written.{opcode, Fits, Chain}
-use Rattle.load.proofs.RowLaws.{InPool, MayPool, text-fine, StructFits, structs-chain}
+use Rattle.load.specs.Generator.{headBytes, integerBytes, vendorBytes, versionBytes, sharedCommands, structCommands, allStructs, recordWith, spareCommand, streamOf}
+use Rattle.load.specs.Written.{opcode, Fits, AllFit}
+use Rattle.load.proofs.CommandLaws.{InPool, MayPool, text-fine, StructFits, structs-fit}
+use Rattle.load.specs.declared.settings.Setting.{Setting}
 
 -- the commands fit -----------------------------------------------------------------------------------------------------------------------------------------
 
 module _ (side : Side) where
-  shared-chain : (cs : List Str) → Chain side 971 13 NoParent cs → Chain side 971 2 NoParent (sharedCommands ++ cs)
+  shared-fit : (cs : List Str) → AllFit side 971 13 NoParent cs → AllFit side 971 2 NoParent (sharedCommands ++ cs)
   unfolding sharedCommands opcode operands wide widths bytes mayStand follows parentAfter faultsFrom operandFault ifAbsent flagFault optTextAt optText textAt flagAt u16At
-  shared-chain cs k = (
+  shared-fit cs k = (
     record { row = bytes "TT"; has-row = refl; whole = refl; stands = λ at. refl; fine = λ x. refl; going = λ e. omega arith },
     (
       record { row = bytes "TT"; has-row = refl; whole = refl; stands = λ at. refl; fine = λ x. refl; going = λ e. omega arith },
@@ -120,24 +120,24 @@ module _ (side : Side) where
   unfolding versionBytes opcode operands wide widths bytes mayStand faultsFrom operandFault ifAbsent optTextAt textAt u16At
   version-fits t n h = record { row = bytes "TW"; has-row = refl; whole = refl; stands = λ at. refl; fine = λ x. rw (text-fine t h Outside); going = λ e. omega arith }
 
-  module _ (g : Setting) (release : Text) (n : ℕ) (ss : List StructRow) (a : InPool release) (b : InPool (Draws.structName g (g .root))) (h : (s : StructRow) → List·Memᴰ s ss → StructFits s) where
+  module _ (g : Setting) (release : Text) (n : ℕ) (ss : List StructCommand) (a : InPool release) (b : InPool (Draws.structName g (g .root))) (h : (s : StructCommand) → List·Memᴰ s ss → StructFits s) where
     abbrev pub tail : List Str
     tail = integerBytes W.t·PLUGIN-API 4 1 W.absent ∷ vendorBytes ∷ (sharedCommands ++ (versionBytes (Draws.structName g (g .root)) n ∷ structCommands ss []))
 
-    tail-chain : Chain side 971 2 NoParent tail
+    tail-fit : AllFit side 971 2 NoParent tail
     unfolding integerBytes vendorBytes versionBytes opcode operands wide widths bytes mayStand parentAfter faultsFrom operandFault ifAbsent flagFault optTextAt optText textAt flagAt u16At
-    tail-chain = (
+    tail-fit = (
       record { row = bytes "TFV?FO"; has-row = refl; whole = refl; stands = λ at. refl; fine = λ x. refl; going = λ e. omega arith },
       (
         record { row = bytes "TFV?FO"; has-row = refl; whole = refl; stands = λ at. refl; fine = λ x. refl; going = λ e. omega arith },
-        shared-chain (versionBytes (Draws.structName g (g .root)) n ∷ structCommands ss []) (version-fits (Draws.structName g (g .root)) n b, structs-chain side ss h 14 NoParent (λ e. omega arith)),
+        shared-fit (versionBytes (Draws.structName g (g .root)) n ∷ structCommands ss []) (version-fits (Draws.structName g (g .root)) n b, structs-fit side ss h 14 NoParent (λ e. omega arith)),
       ),
     )
 
-    pub chain-without : Chain side 971 0 NoParent (headBytes release ∷ integerBytes W.t·GENERATION n 0 W.absent ∷ tail)
+    pub fit-without : AllFit side 971 0 NoParent (headBytes release ∷ integerBytes W.t·GENERATION n 0 W.absent ∷ tail)
     unfolding headBytes integerBytes opcode operands wide widths bytes mayStand parentAfter faultsFrom operandFault ifAbsent flagFault optTextAt optText textAt flagAt u16At
-    chain-without = (head-fits release a, (record { row = bytes "TFV?FO"; has-row = refl; whole = refl; stands = λ at. refl; fine = λ x. refl; going = λ e. omega arith }, tail-chain))
+    fit-without = (head-fits release a, (record { row = bytes "TFV?FO"; has-row = refl; whole = refl; stands = λ at. refl; fine = λ x. refl; going = λ e. omega arith }, tail-fit))
 
-    pub chain-with : (v : ℕ) → Chain side 971 0 NoParent (headBytes release ∷ integerBytes W.t·GENERATION n 0 W.absent ∷ integerBytes W.t·TILE-LIMIT v 1 W.t·0·8·0 ∷ tail)
+    pub fit-with : (v : ℕ) → AllFit side 971 0 NoParent (headBytes release ∷ integerBytes W.t·GENERATION n 0 W.absent ∷ integerBytes W.t·TILE-LIMIT v 1 W.t·0·8·0 ∷ tail)
     unfolding headBytes integerBytes opcode operands wide widths bytes mayStand parentAfter faultsFrom operandFault ifAbsent flagFault optTextAt optText textAt flagAt u16At
-    chain-with v = (head-fits release a, (record { row = bytes "TFV?FO"; has-row = refl; whole = refl; stands = λ at. refl; fine = λ x. refl; going = λ e. omega arith }, (record { row = bytes "TFV?FO"; has-row = refl; whole = refl; stands = λ at. refl; fine = λ x. refl; going = λ e. omega arith }, tail-chain)))
+    fit-with v = (head-fits release a, (record { row = bytes "TFV?FO"; has-row = refl; whole = refl; stands = λ at. refl; fine = λ x. refl; going = λ e. omega arith }, (record { row = bytes "TFV?FO"; has-row = refl; whole = refl; stands = λ at. refl; fine = λ x. refl; going = λ e. omega arith }, tail-fit)))

@@ -18,14 +18,13 @@ use Rattle.record.specs.Reading.{releaseOf, unreleasedOf}
 use Rattle.record.specs.Schema.{Schema, Heading, integer, words, Const, Alias, Enum, BitField, Key, Field, Struct, Family, Version}
 use Rattle.record.specs.declared.text.Text.{Text}
 use Rattle.load.specs.Pool as W
-use Rattle.load.specs.Rows.{t3, w4, v8, n5, StructRow, structBytes, structsMeant}
+use Rattle.load.specs.Commands.{t3, w4, v8, n5, StructCommand, structBytes, structsMeant}
 use Rattle.load.specs.Draws
-use Rattle.load.specs.Draws.{Setting}
 use Rattle.load.specs.Generator.{headBytes, integerBytes, vendorBytes, versionBytes, sharedCommands, structCommands, streamOf, spareAt, otherConstants, aliasList, enumList, bitfieldList, familyList, unstoredList}
 use Rattle.load.specs.Written.{listedIn, headsIn, constantsIn, aliasesIn, valuesIn, enumsIn, membersIn, bitfieldsIn, keysIn, fieldsIn, structsIn, variantsIn, familiesIn, unstoredIn, versionsIn, schemaIn}
 use Rattle.load.proofs.Shared.{generationConst}
-use Rattle.load.proofs.RowLaws.{four-bytes, back-is, given, InPool}
-use Rattle.load.proofs.RowReading.{skip-structs, structs-back}
+use Rattle.load.proofs.CommandLaws.{four-bytes, back-is, given, InPool}
+use Rattle.load.proofs.CommandReading.{skip-structs, structs-back}
 
 -- numbers of eight bytes, the upper four 0
 eight-bytes : (n : ℕ) → n % 256 + 256 * (n / 256 % 256) + 65536 * (n / 65536 % 256 + 256 * (n / 16777216)) + 4294967296 * 0 ≡ n
@@ -47,7 +46,7 @@ head-back : (t : Text) → InPool t → (x : Str) → headOf W.pool (headAt (hea
 unfolding headBytes optTextAt textAt flagAt u16At
 head-back t h x = (λ i. record { release = optOf W.pool (optText (back-is t i)); unreleased = false }) ∙ rw (given t h)
 
-module _ (t : Text) (n : ℕ) (ss : List StructRow) where
+module _ (t : Text) (n : ℕ) (ss : List StructCommand) where
   abbrev pub last : List Str
   last = integerBytes W.t·PLUGIN-API 4 1 W.absent ∷ vendorBytes ∷ (sharedCommands ++ (versionBytes t n ∷ structCommands ss []))
 

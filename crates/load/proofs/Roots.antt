@@ -26,14 +26,14 @@ use Rattle.definition.specs.Coverage.{owning, standsAlone, checkCovered, checkA
 use Rattle.definition.specs.Generations.{isListed, checkStill, checkRise, checkFrom, checkAgainst, checkGeneration, checkRoots, checkGenerations}
 use Rattle.definition.proofs.Same.{owning-plain}
 use Rattle.load.specs.Plan.{Plan, root, structsWith, generationAt, constantsWith, constantsWithout, entryAt}
-use Rattle.load.specs.Sound.{Sound, Other, Apart, Stands}
+use Rattle.load.specs.Feasible.{Feasible, Other, Apart, Stands}
 use Rattle.load.proofs.Each.{each-all, find-right, find-nowhere, filter-of}
 use Rattle.load.proofs.Layouts.{laid, layouts, eqs-swap, root-found, other-found, self-found, root-member, layout-cases}
 use Rattle.load.proofs.Fields.{same-places}
 
 -- the root is the one structure of its name, and the one with a slot ------------------------------------------------------------------------------
 
-module _ (p : Plan) (g : Sound p) (fs : List Field) where
+module _ (p : Plan) (g : Feasible p) (fs : List Field) where
   before-not : (n : Str) (t : Struct) → List·Memᴰ t (p .before) → isText (t .slot) n ≡ false
   unfolding isText
   before-not n t m = ap (λ (o : Option Str). isText o n) (g .before-other t m .free)
@@ -96,7 +96,7 @@ module _ (p : Plan) (g : Sound p) (fs : List Field) where
   unfolding isGeneration heldByAny any holdsIn
   is-generation n cs h = rw (versioned-one, holds n cs h, eqs-refl (p .constant))
 
-module _ (p : Plan) (g : Sound p) (is was : List Field) where
+module _ (p : Plan) (g : Feasible p) (is was : List Field) where
   -- the standalone pass: no layout of a family is the root's -------------------------------------------------------------------------------------
 
   shipped : (k : Str) → eqs (p .name) k ≡ false → checkShipped (layouts p is) (layouts p was) k ≡ pass

@@ -20,7 +20,7 @@ use Rattle.record.specs.declared.refusal.Side.{Side}
 use Rattle.record.specs.declared.letters.Letters.the-variants.{Good}
 use Rattle.load.specs.Pool as W
 use Rattle.load.specs.Generator.{streamOf}
-use Rattle.load.specs.Written.{placesFrom, Fits, Chain, schemaIn, openedIn, opcode}
+use Rattle.load.specs.Written.{placesFrom, Fits, AllFit, schemaIn, openedIn, opcode}
 use Rattle.load.proofs.Parsing.{parse-written}
 use Rattle.load.proofs.Listing.{schema-written, slim, slim-written}
 
@@ -33,7 +33,7 @@ unfolding W.pool W.structNames W.fieldNames W.kindTexts W.wordTexts bytes oddLet
 pool-letters = refl
 
 -- no command is empty
-more-bytes : (side : Side) (n last : ℕ) (parent : Parent) (cs : List Str) → Chain side n last parent cs → length cs < length (streamOf cs)
+more-bytes : (side : Side) (n last : ℕ) (parent : Parent) (cs : List Str) → AllFit side n last parent cs → length cs < length (streamOf cs)
 unfolding streamOf
 more-bytes side n last parent [] f = omega arith
 more-bytes side n last parent (c ∷ cs) f =
@@ -42,7 +42,7 @@ more-bytes side n last parent (c ∷ cs) f =
     let r = more-bytes side n (opcode c) _ cs (f .1) in
     omega arith
 
-module _ (side : Side) (cs : List Str) (t : Schema) (fits : Chain side 971 0 NoParent cs) (short : length (streamOf cs) ≤ 32768)
+module _ (side : Side) (cs : List Str) (t : Schema) (fits : AllFit side 971 0 NoParent cs) (short : length (streamOf cs) ≤ 32768)
     (means : schemaIn W.pool cs ≡ t) (narrow : slim t (openedIn W.pool cs) ≡ true) where
   parsed-so : parsed side (rec (streamOf cs) W.pool builtIn) ≡ ok (placesFrom 0 cs)
   unfolding parsed

@@ -6,27 +6,27 @@ use native.Mathlib.Nat.{mod-lt}
 use native.Mathlib.Numerals.{sub-one}
 use Rattle.record.specs.declared.text.Text.{Text}
 use Rattle.load.specs.Pool.{fieldText}
-use Rattle.load.specs.Draws.{Setting, step, steps, draw, settingOf, kindAt, rowAs, rowDrawn, fieldName}
+use Rattle.load.specs.Draws.{nextSeed, seedAfter, draw, settingOf, kindAt, fieldAs, fieldDrawn, fieldName}
 use Rattle.load.specs.Range.{InRange}
-use Rattle.load.specs.Meanings.{rowMeant}
-use Rattle.load.specs.declared.rows.FieldRow.{FieldRow}
 use Rattle.load.proofs.Generated.{in-range}
+use Rattle.load.specs.declared.settings.Setting.{Setting}
+use Rattle.load.specs.declared.commands.FieldCommand.{FieldCommand}
 
--- one step of those left
-steps-one : (s n : ℕ) → 0 < n → steps n s ≡ steps (n - 1) (step s)
-unfolding steps
-steps-one s zero h = absurd (omega arith)
-steps-one s (suc n) h = rw sub-one
+-- one nextSeed of those left
+seed-after-one : (s n : ℕ) → 0 < n → seedAfter n s ≡ seedAfter (n - 1) (nextSeed s)
+unfolding seedAfter
+seed-after-one s zero h = absurd (omega arith)
+seed-after-one s (suc n) h = rw sub-one
 
-pub steps-on : (s t n a : ℕ) → a ≡ steps n s → 0 < n → t ≡ step s → a ≡ steps (n - 1) t
-steps-on s t n a e h q = e ∙ steps-one s n h ∙ ap (steps (n - 1)) (sym q)
+pub seed-after-on : (s t n a : ℕ) → a ≡ seedAfter n s → 0 < n → t ≡ nextSeed s → a ≡ seedAfter (n - 1) t
+seed-after-on s t n a e h q = e ∙ seed-after-one s n h ∙ ap (seedAfter (n - 1)) (sym q)
 
-pub steps-end : (s n a : ℕ) → a ≡ steps n s → n ≤ 0 → s ≡ a
-unfolding steps
-steps-end s zero a e h = sym e
-steps-end s (suc n) a e h = absurd (omega arith)
+pub seed-after-end : (s n a : ℕ) → a ≡ seedAfter n s → n ≤ 0 → s ≡ a
+unfolding seedAfter
+seed-after-end s zero a e h = sym e
+seed-after-end s (suc n) a e h = absurd (omega arith)
 
-pub draw-is : (s k n t : ℕ) → t ≡ steps k s → t / 65536 % n ≡ draw s k n
+pub draw-is : (s k n t : ℕ) → t ≡ seedAfter k s → t / 65536 % n ≡ draw s k n
 unfolding draw
 draw-is s k n t e = rw e
 
@@ -35,24 +35,24 @@ draw-low t n h = mod-lt (t / 65536) h
 
 -- a setting by its draws
 module _ (s a b c d e f h i j k l m : ℕ) (qa : a ≡ draw s 1 8) (qb : b ≡ draw s 2 16) (qc : c ≡ draw s 3 4) (qd : d ≡ draw s 4 3) (qe : e ≡ draw s 5 14) (qf : f ≡ draw s 6 32768)
-    (qh : h ≡ draw s 7 32768) (qi : i ≡ draw s 8 (a + 1)) (qj : j ≡ draw s 9 (b + 2)) (qk : k ≡ draw s 10 4) (ql : l ≡ draw s 11 4) (qm : m ≡ steps 11 s) where
+    (qh : h ≡ draw s 7 32768) (qi : i ≡ draw s 8 (a + 1)) (qj : j ≡ draw s 9 (b + 2)) (qk : k ≡ draw s 10 4) (ql : l ≡ draw s 11 4) (qm : m ≡ seedAfter 11 s) where
   abbrev drawn : Setting
-  drawn = record { structs = a + 1; fields = b + 2; era = c; slot = d; tails = e; generation = f; spare = h; root = i; mark = j; word = k; other = l; seed = m }
+  drawn = record { structs = a + 1; fields = b + 2; releases = c; slot = d; lengths = e; generation = f; spare = h; root = i; target = j; word = k; fresh = l; seed = m }
 
   setting-is : drawn ≡ settingOf s
   unfolding settingOf
   setting-is = λ x. record {
     structs = qa x + 1;
     fields = qb x + 2;
-    era = qc x;
+    releases = qc x;
     slot = qd x;
-    tails = qe x;
+    lengths = qe x;
     generation = qf x;
     spare = qh x;
     root = (qi ∙ ap (λ (n : ℕ). draw s 8 (n + 1)) qa) x;
-    mark = (qj ∙ ap (λ (n : ℕ). draw s 9 (n + 2)) qb) x;
+    target = (qj ∙ ap (λ (n : ℕ). draw s 9 (n + 2)) qb) x;
     word = qk x;
-    other = ql x;
+    fresh = ql x;
     seed = qm x;
   }
 
@@ -60,7 +60,7 @@ module _ (s a b c d e f h i j k l m : ℕ) (qa : a ≡ draw s 1 8) (qb : b ≡ d
   setting-drawn = (setting-is, subst InRange (sym setting-is) (in-range s))
 
 -- a field by its draws
-pub row-is : (g : Setting) (s j k n t : ℕ) (name : Text) (r : FieldRow) → k ≡ draw s 1 16 → n ≡ draw s 2 8 → t ≡ draw s 3 8 → name ≡ fieldText (g .tails) j
-    → rowMeant r ≡ rowAs (kindAt k) (g .tails) (g .structs) name n t → rowMeant r ≡ rowDrawn g s j
-unfolding rowDrawn fieldName
-row-is g s j k n t name r qk qn qt qa e = e ∙ λ i. rowAs (kindAt (qk i)) (g .tails) (g .structs) (qa i) (qn i) (qt i)
+pub field-is : (g : Setting) (s j k n t : ℕ) (name : Text) (r : FieldCommand) → k ≡ draw s 1 16 → n ≡ draw s 2 8 → t ≡ draw s 3 8 → name ≡ fieldText (g .lengths) j
+    → r ≡ fieldAs (kindAt k) (g .lengths) (g .structs) name n t → r ≡ fieldDrawn g s j
+unfolding fieldDrawn fieldName
+field-is g s j k n t name r qk qn qt qa e = e ∙ λ i. fieldAs (kindAt (qk i)) (g .lengths) (g .structs) (qa i) (qn i) (qt i)

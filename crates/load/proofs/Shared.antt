@@ -46,10 +46,10 @@ generationConst n = record { name = bytes "GENERATION"; value = integer n; api =
 order-at : ℕ → Type 0
 order-at e = checkReleaseOrder (nowSpelt e) (some (wasSpelt e)) ≡ pass
 
-pub order-era : (e : ℕ) → e < 4 → checkReleaseOrder (nowSpelt e) (some (wasSpelt e)) ≡ pass
+pub order-releases : (e : ℕ) → e < 4 → checkReleaseOrder (nowSpelt e) (some (wasSpelt e)) ≡ pass
 unfolding order-at nowSpelt wasSpelt nowText wasText textOf W.pool W.structNames W.fieldNames W.kindTexts W.wordTexts bytes
     checkReleaseOrder checkCopy checkEarlier ensure releaseParts isRelease parts ontoHead allDecimal isDecimal allDigits digit eqs number parsed parsedPart earlier
-order-era = four order-at refl refl refl refl
+order-releases = four order-at refl refl refl refl
 
 -- the released and the current constants, with the spare one or without
 dated-at : ℕ → Type 0
@@ -57,24 +57,24 @@ dated-at e =
     (m n v : ℕ) → checkFirstReleases (nowSpelt e) (some (wasSpelt e)) (generationConst m ∷ spareAt v ∷ otherConstants) (generationConst n ∷ spareAt v ∷ otherConstants)
     enumList enumList unstoredList unstoredList ≡ pass
 
-pub dated-era : (e : ℕ) → e < 4 → (m n v : ℕ) → checkFirstReleases (nowSpelt e) (some (wasSpelt e)) (generationConst m ∷ spareAt v ∷ otherConstants) (generationConst n ∷ spareAt v ∷ otherConstants)
+pub dated-releases : (e : ℕ) → e < 4 → (m n v : ℕ) → checkFirstReleases (nowSpelt e) (some (wasSpelt e)) (generationConst m ∷ spareAt v ∷ otherConstants) (generationConst n ∷ spareAt v ∷ otherConstants)
     enumList enumList unstoredList unstoredList ≡ pass
 unfolding dated-at nowSpelt wasSpelt nowText wasText textOf W.pool W.structNames W.fieldNames W.kindTexts W.wordTexts bytes generationConst spareAt otherConstants enumList unstoredList
     checkFirstReleases checkConstantArrivals checkConstantArrival checkEnumArrivals checkEnumArrival checkValueArrivals checkValueArrival checkKeyArrivals checkKeyArrival checkArrival
     constantRelease apiEnum enumRelease valueRelease keyRelease findLast lastOr mapOption orOption isSome required orElse valueIn find ensure each onFound _then_ eqs
-dated-era = four dated-at (λ m n v. refl) (λ m n v. refl) (λ m n v. refl) (λ m n v. refl)
+dated-releases = four dated-at (λ m n v. refl) (λ m n v. refl) (λ m n v. refl) (λ m n v. refl)
 
 dated-without-at : ℕ → Type 0
 dated-without-at e =
     (m n v : ℕ) → checkFirstReleases (nowSpelt e) (some (wasSpelt e)) (generationConst m ∷ otherConstants) (generationConst n ∷ spareAt v ∷ otherConstants)
     enumList enumList unstoredList unstoredList ≡ pass
 
-pub dated-without-era : (e : ℕ) → e < 4 → (m n v : ℕ) → checkFirstReleases (nowSpelt e) (some (wasSpelt e)) (generationConst m ∷ otherConstants) (generationConst n ∷ spareAt v ∷ otherConstants)
+pub dated-without-releases : (e : ℕ) → e < 4 → (m n v : ℕ) → checkFirstReleases (nowSpelt e) (some (wasSpelt e)) (generationConst m ∷ otherConstants) (generationConst n ∷ spareAt v ∷ otherConstants)
     enumList enumList unstoredList unstoredList ≡ pass
 unfolding dated-without-at nowSpelt wasSpelt nowText wasText textOf W.pool W.structNames W.fieldNames W.kindTexts W.wordTexts bytes generationConst spareAt otherConstants enumList unstoredList
     checkFirstReleases checkConstantArrivals checkConstantArrival checkEnumArrivals checkEnumArrival checkValueArrivals checkValueArrival checkKeyArrivals checkKeyArrival checkArrival
     constantRelease apiEnum enumRelease valueRelease keyRelease findLast lastOr mapOption orOption isSome required orElse valueIn find ensure each onFound _then_ eqs
-dated-without-era = four dated-without-at (λ m n v. refl) (λ m n v. refl) (λ m n v. refl) (λ m n v. refl)
+dated-without-releases = four dated-without-at (λ m n v. refl) (λ m n v. refl) (λ m n v. refl) (λ m n v. refl)
 
 pub enums-pass : checkEnums enumList enumList ≡ pass
 unfolding enumList checkEnums checkEnum checkValues checkValue numberIn enumIn valueIn find ensure each onFound _then_ eqs bytes empty
@@ -87,10 +87,10 @@ bits-pass = refl
 bits-dated-at : ℕ → Type 0
 bits-dated-at e = checkBitfieldReleases (nowSpelt e) bitfieldList bitfieldList ≡ pass
 
-pub bits-dated-era : (e : ℕ) → e < 4 → checkBitfieldReleases (nowSpelt e) bitfieldList bitfieldList ≡ pass
+pub bits-dated-releases : (e : ℕ) → e < 4 → checkBitfieldReleases (nowSpelt e) bitfieldList bitfieldList ≡ pass
 unfolding bits-dated-at nowSpelt nowText textOf W.pool W.structNames W.fieldNames W.kindTexts W.wordTexts bytes bitfieldList checkBitfieldReleases checkBitfieldArrived checkMembersArrived
     checkMemberArrived checkArrived memberRelease bitfieldRelease bitfieldIn memberIn find mapOption orOption orElse required ensure each _then_ eqs
-bits-dated-era = four bits-dated-at refl refl refl refl
+bits-dated-releases = four bits-dated-at refl refl refl refl
 
 -- constants ------------------------------------------------------------------------------------------------------------------------------------------
 

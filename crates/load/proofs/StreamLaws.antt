@@ -6,16 +6,16 @@ use Rattle.record.specs.Base.{Str}
 use Rattle.record.specs.Write.{Puts}
 use Rattle.record.specs.declared.text.Text.{Text}
 use Rattle.record.proofs.WriterLaws.{puts-then, puts-as}
-use Rattle.load.specs.Plan as P
+use Rattle.load.specs.Plan.{generationNow}
 use Rattle.load.specs.Pool as W
-use Rattle.load.specs.Rows.{FieldRow}
-use Rattle.load.specs.Draws.{Setting, structName, nowText, wasText}
-use Rattle.load.specs.Generator.{headBytes, integerBytes, vendorBytes, versionBytes, sharedCommands, wholeRows, editedRows, allRows, spareCommand, spareNow, numberNow, recordWith, releasedCommands, currentCommands, streamOf}
+use Rattle.load.specs.Draws.{structName, nowText, wasText}
+use Rattle.load.specs.Generator.{headBytes, integerBytes, vendorBytes, versionBytes, sharedCommands, wholeFields, editedFields, allStructs, spareCommand, spareNow, recordWith, releasedCommands, currentCommands, streamOf}
 use Rattle.load.specs.Bytes.{structsBytes, commandsBytes, sharedBytes, restBytes}
-use Rattle.load.specs.Meanings.{outcomeMeant}
+use Rattle.load.proofs.ByteLaws.{record-bytes}
 use Rattle.load.specs.declared.outcomes.Outcome.{Outcome}
 use Rattle.load.specs.declared.outcomes.Outcome.the-variants as O
-use Rattle.load.proofs.ByteLaws.{record-bytes}
+use Rattle.load.specs.declared.settings.Setting.{Setting}
+use Rattle.load.specs.declared.commands.FieldCommand.{FieldCommand}
 
 module _ (t : Text) (a b : ℕ) (p : a ≡ t .start % 256) (q : b ≡ t .start / 256) where
   pub head-put : (1 ∷ a ∷ b ∷ t .len ∷ 0 ∷ []) ≡ headBytes t
@@ -41,61 +41,61 @@ module _ (g : Setting) (out : Str) (at : ℕ) (o : Outcome) (after : Str) (r : �
   unfolding commandsBytes spareCommand
   spare-put w = puts-as w (sym (append-nil (integerBytes W.t·TILE-LIMIT (g .spare) 1 W.t·0·8·0)))
 
-  pub spare-accepted : o ≡ O.Accepted → Puts out at (integerBytes W.t·TILE-LIMIT (g .spare) 1 W.t·0·8·0) after r → Puts out at (commandsBytes (spareNow g (outcomeMeant o))) after r
-  unfolding outcomeMeant spareNow
+  pub spare-accepted : o ≡ O.Accepted → Puts out at (integerBytes W.t·TILE-LIMIT (g .spare) 1 W.t·0·8·0) after r → Puts out at (commandsBytes (spareNow g o)) after r
+  unfolding spareNow
   spare-accepted e w = rw e (spare-put w)
 
-  pub spare-constant : o ≡ O.ConstantGone → Puts out at [] after r → Puts out at (commandsBytes (spareNow g (outcomeMeant o))) after r
-  unfolding outcomeMeant spareNow commandsBytes
+  pub spare-constant : o ≡ O.ConstantGone → Puts out at [] after r → Puts out at (commandsBytes (spareNow g o)) after r
+  unfolding spareNow commandsBytes
   spare-constant e w = rw e w
 
-  pub spare-gone : o ≡ O.FieldGone → Puts out at (integerBytes W.t·TILE-LIMIT (g .spare) 1 W.t·0·8·0) after r → Puts out at (commandsBytes (spareNow g (outcomeMeant o))) after r
-  unfolding outcomeMeant spareNow
+  pub spare-gone : o ≡ O.FieldGone → Puts out at (integerBytes W.t·TILE-LIMIT (g .spare) 1 W.t·0·8·0) after r → Puts out at (commandsBytes (spareNow g o)) after r
+  unfolding spareNow
   spare-gone e w = rw e (spare-put w)
 
-  pub spare-moved : o ≡ O.FieldMoved → Puts out at (integerBytes W.t·TILE-LIMIT (g .spare) 1 W.t·0·8·0) after r → Puts out at (commandsBytes (spareNow g (outcomeMeant o))) after r
-  unfolding outcomeMeant spareNow
+  pub spare-moved : o ≡ O.FieldMoved → Puts out at (integerBytes W.t·TILE-LIMIT (g .spare) 1 W.t·0·8·0) after r → Puts out at (commandsBytes (spareNow g o)) after r
+  unfolding spareNow
   spare-moved e w = rw e (spare-put w)
 
-  pub spare-resized : o ≡ O.FieldResized → Puts out at (integerBytes W.t·TILE-LIMIT (g .spare) 1 W.t·0·8·0) after r → Puts out at (commandsBytes (spareNow g (outcomeMeant o))) after r
-  unfolding outcomeMeant spareNow
+  pub spare-resized : o ≡ O.FieldResized → Puts out at (integerBytes W.t·TILE-LIMIT (g .spare) 1 W.t·0·8·0) after r → Puts out at (commandsBytes (spareNow g o)) after r
+  unfolding spareNow
   spare-resized e w = rw e (spare-put w)
 
-  pub spare-unraised : o ≡ O.Unraised → Puts out at (integerBytes W.t·TILE-LIMIT (g .spare) 1 W.t·0·8·0) after r → Puts out at (commandsBytes (spareNow g (outcomeMeant o))) after r
-  unfolding outcomeMeant spareNow
+  pub spare-unraised : o ≡ O.Unraised → Puts out at (integerBytes W.t·TILE-LIMIT (g .spare) 1 W.t·0·8·0) after r → Puts out at (commandsBytes (spareNow g o)) after r
+  unfolding spareNow
   spare-unraised e w = rw e (spare-put w)
 
 module _ (g : Setting) (o : Outcome) (r : ℕ) where
-  pub number-accepted : o ≡ O.Accepted → r ≡ g .generation + 1 → r ≡ numberNow g (outcomeMeant o)
-  unfolding outcomeMeant numberNow
+  pub number-accepted : o ≡ O.Accepted → r ≡ g .generation + 1 → r ≡ generationNow o (g .generation)
+  unfolding generationNow
   number-accepted e q = rw e q
 
-  pub number-constant : o ≡ O.ConstantGone → r ≡ g .generation → r ≡ numberNow g (outcomeMeant o)
-  unfolding outcomeMeant numberNow
+  pub number-constant : o ≡ O.ConstantGone → r ≡ g .generation → r ≡ generationNow o (g .generation)
+  unfolding generationNow
   number-constant e q = rw e q
 
-  pub number-gone : o ≡ O.FieldGone → r ≡ g .generation → r ≡ numberNow g (outcomeMeant o)
-  unfolding outcomeMeant numberNow
+  pub number-gone : o ≡ O.FieldGone → r ≡ g .generation → r ≡ generationNow o (g .generation)
+  unfolding generationNow
   number-gone e q = rw e q
 
-  pub number-moved : o ≡ O.FieldMoved → r ≡ g .generation → r ≡ numberNow g (outcomeMeant o)
-  unfolding outcomeMeant numberNow
+  pub number-moved : o ≡ O.FieldMoved → r ≡ g .generation → r ≡ generationNow o (g .generation)
+  unfolding generationNow
   number-moved e q = rw e q
 
-  pub number-resized : o ≡ O.FieldResized → r ≡ g .generation → r ≡ numberNow g (outcomeMeant o)
-  unfolding outcomeMeant numberNow
+  pub number-resized : o ≡ O.FieldResized → r ≡ g .generation → r ≡ generationNow o (g .generation)
+  unfolding generationNow
   number-resized e q = rw e q
 
-  pub number-unraised : o ≡ O.Unraised → r ≡ g .generation → r ≡ numberNow g (outcomeMeant o)
-  unfolding outcomeMeant numberNow
+  pub number-unraised : o ≡ O.Unraised → r ≡ g .generation → r ≡ generationNow o (g .generation)
+  unfolding generationNow
   number-unraised e q = rw e q
 
 -- a record in three stretches
-record-three : (g : Setting) (release : Text) (spare : List Str) (n : ℕ) (fs : List FieldRow)
+record-three : (g : Setting) (release : Text) (spare : List Str) (n : ℕ) (fs : List FieldCommand)
     → (headBytes release ++ integerBytes W.t·GENERATION n 0 W.absent) ++ (commandsBytes spare ++ restBytes g n fs) ≡ streamOf (recordWith g release spare n fs)
 unfolding restBytes sharedBytes
 record-three g release spare n fs =
-    let end = versionBytes (structName g (g .root)) n ++ (structsBytes (allRows g fs) ++ (15 ∷ [])) in
+    let end = versionBytes (structName g (g .root)) n ++ (structsBytes (allStructs g fs) ++ (15 ∷ [])) in
     append-assoc (headBytes release) (integerBytes W.t·GENERATION n 0 W.absent) (commandsBytes spare ++ restBytes g n fs)
     ∙ ap (λ (x : Str). headBytes release ++ (integerBytes W.t·GENERATION n 0 W.absent ++ (commandsBytes spare ++ x)))
     (append-assoc (integerBytes W.t·PLUGIN-API 4 1 W.absent) (vendorBytes ++ commandsBytes sharedCommands) end
@@ -103,29 +103,29 @@ record-three g release spare n fs =
     ∙ sym (record-bytes g release spare n fs)
 
 module _ (g : Setting) (out : Str) (at : ℕ) where
-  pub rest-put : (n : ℕ) (fs : List FieldRow) (name : Text) (x y z after : Str) (a b c r : ℕ) → Puts out at sharedBytes x a → name ≡ W.structText (g .tails) (g .root)
-      → Puts x a (versionBytes name n) y b → Puts y b (structsBytes (allRows g fs)) z c → Puts z c (streamOf []) after r → Puts out at (restBytes g n fs) after r
+  pub rest-put : (n : ℕ) (fs : List FieldCommand) (name : Text) (x y z after : Str) (a b c r : ℕ) → Puts out at sharedBytes x a → name ≡ W.structText (g .lengths) (g .root)
+      → Puts x a (versionBytes name n) y b → Puts y b (structsBytes (allStructs g fs)) z c → Puts z c (streamOf []) after r → Puts out at (restBytes g n fs) after r
   unfolding restBytes structName streamOf
   rest-put n fs name x y z after a b c r p e q s w = puts-then p (puts-then (puts-as q (ap (λ (t : Text). versionBytes t n) e)) (puts-then s w))
 
-  pub released-put : (release : Text) (x y after : Str) (a b r : ℕ) → release ≡ wasText (g .era) → Puts out at (headBytes release ++ integerBytes W.t·GENERATION (g .generation) 0 W.absent) x a
-      → Puts x a (integerBytes W.t·TILE-LIMIT (g .spare) 1 W.t·0·8·0) y b → Puts y b (restBytes g (g .generation) (editedRows g (outcomeMeant O.ConstantGone))) after r
+  pub released-put : (release : Text) (x y after : Str) (a b r : ℕ) → release ≡ wasText (g .releases) → Puts out at (headBytes release ++ integerBytes W.t·GENERATION (g .generation) 0 W.absent) x a
+      → Puts x a (integerBytes W.t·TILE-LIMIT (g .spare) 1 W.t·0·8·0) y b → Puts y b (restBytes g (g .generation) (editedFields g O.ConstantGone)) after r
       → Puts out at (streamOf (releasedCommands g)) after r
-  unfolding releasedCommands editedRows outcomeMeant
+  unfolding releasedCommands editedFields
   released-put release x y after a b r e p q s =
       puts-as
       (puts-then
       (puts-as p (ap (λ (t : Text). headBytes t ++ integerBytes W.t·GENERATION (g .generation) 0 W.absent) e))
       (puts-then (spare-put g x a O.ConstantGone y b q) s))
-      (record-three g (wasText (g .era)) (spareCommand g) (g .generation) (wholeRows g))
+      (record-three g (wasText (g .releases)) (spareCommand g) (g .generation) (wholeFields g))
 
-  pub current-put : (o : P.Outcome) (release : Text) (n : ℕ) (x y after : Str) (a b r : ℕ) → release ≡ nowText (g .era) → n ≡ numberNow g o
+  pub current-put : (o : Outcome) (release : Text) (n : ℕ) (x y after : Str) (a b r : ℕ) → release ≡ nowText (g .releases) → n ≡ generationNow o (g .generation)
       → Puts out at (headBytes release ++ integerBytes W.t·GENERATION n 0 W.absent) x a
-      → Puts x a (commandsBytes (spareNow g o)) y b → Puts y b (restBytes g n (editedRows g o)) after r → Puts out at (streamOf (currentCommands g o)) after r
+      → Puts x a (commandsBytes (spareNow g o)) y b → Puts y b (restBytes g n (editedFields g o)) after r → Puts out at (streamOf (currentCommands g o)) after r
   unfolding currentCommands
   current-put o release n x y after a b r e k p q s =
       puts-as
       (puts-then
       (puts-as p (ap₂ (λ (t : Text) (m : ℕ). headBytes t ++ integerBytes W.t·GENERATION m 0 W.absent) e k))
-      (puts-then q (puts-as s (ap (λ (m : ℕ). restBytes g m (editedRows g o)) k))))
-      (record-three g (nowText (g .era)) (spareNow g o) (numberNow g o) (editedRows g o))
+      (puts-then q (puts-as s (ap (λ (m : ℕ). restBytes g m (editedFields g o)) k))))
+      (record-three g (nowText (g .releases)) (spareNow g o) (generationNow o (g .generation)) (editedFields g o))

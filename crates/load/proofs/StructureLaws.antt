@@ -10,13 +10,13 @@ use Rattle.record.specs.Write.{largest, Puts}
 use Rattle.record.specs.declared.text.Text.{Text}
 use Rattle.record.proofs.WriterLaws.{puts-none, puts-then, puts-as}
 use Rattle.load.specs.Pool as W
-use Rattle.load.specs.Rows as R
-use Rattle.load.specs.Rows.{fieldBytes, StructRow, structBytes}
-use Rattle.load.specs.Draws.{Setting, steps, rowDrawn, rowsFrom, structName, plainStruct, structsFrom}
+use Rattle.load.specs.Commands.{fieldBytes, StructCommand, structBytes}
+use Rattle.load.specs.Draws.{seedAfter, fieldDrawn, fieldsFrom, structName, plainStruct, structsFrom}
 use Rattle.load.specs.Bytes.{fieldsBytes, wholeBytes, structsBytes}
-use Rattle.load.specs.Meanings.{structRow, rowMeant, rowBytes}
-use Rattle.load.specs.declared.rows.FieldRow.{FieldRow}
+use Rattle.load.specs.Commands.{structCommand}
 use Rattle.load.proofs.ByteLaws.{structs-cons}
+use Rattle.load.specs.declared.settings.Setting.{Setting}
+use Rattle.load.specs.declared.commands.FieldCommand.{FieldCommand}
 
 -- some of the bytes are put, and others are left
 pub record Putting (out : Str) (at : ℕ) (xs mid : Str) (q : ℕ) (left : Str) : Type 0 where
@@ -38,31 +38,31 @@ pub putting-end : (out : Str) (at : ℕ) (xs mid : Str) (q : ℕ) (l : Str) → 
 putting-end out at xs mid q l p e = puts-as (p .put) (sym (append-nil (p .done)) ∙ ap (λ (x : Str). p .done ++ x) (sym e) ∙ p .both)
 
 module _ (g : Setting) (out : Str) (at : ℕ) (xs mid : Str) (q s j : ℕ) where
-  rows-one : (n : ℕ) → 0 < n → fieldsBytes (rowsFrom g s j n) ≡ fieldBytes (rowDrawn g s j) ++ fieldsBytes (rowsFrom g (steps 3 s) (j + 1) (n - 1))
-  unfolding fieldsBytes rowsFrom
-  rows-one zero h = absurd (omega arith)
-  rows-one (suc n) h = rw sub-one
+  fields-one : (n : ℕ) → 0 < n → fieldsBytes (fieldsFrom g s j n) ≡ fieldBytes (fieldDrawn g s j) ++ fieldsBytes (fieldsFrom g (seedAfter 3 s) (j + 1) (n - 1))
+  unfolding fieldsBytes fieldsFrom
+  fields-one zero h = absurd (omega arith)
+  fields-one (suc n) h = rw sub-one
 
-  pub rows-on : (n t : ℕ) (row : FieldRow) (after : Str) (r : ℕ) → Putting out at xs mid q (fieldsBytes (rowsFrom g s j n)) → 0 < n → rowMeant row ≡ rowDrawn g s j
-      → Puts mid q (rowBytes row) after r → t ≡ steps 3 s → Putting out at xs after r (fieldsBytes (rowsFrom g t (j + 1) (n - 1)))
-  unfolding rowBytes
-  rows-on n t row after r p h e w k =
-      rw k (putting-next out at xs mid q (fieldsBytes (rowsFrom g s j n)) (fieldBytes (rowDrawn g s j)) (fieldsBytes (rowsFrom g (steps 3 s) (j + 1) (n - 1))) after r p (rows-one n h) (puts-as w (ap fieldBytes e)))
+  pub fields-on : (n t : ℕ) (row : FieldCommand) (after : Str) (r : ℕ) → Putting out at xs mid q (fieldsBytes (fieldsFrom g s j n)) → 0 < n → row ≡ fieldDrawn g s j
+      → Puts mid q (fieldBytes row) after r → t ≡ seedAfter 3 s → Putting out at xs after r (fieldsBytes (fieldsFrom g t (j + 1) (n - 1)))
+  unfolding fieldBytes
+  fields-on n t row after r p h e w k =
+      rw k (putting-next out at xs mid q (fieldsBytes (fieldsFrom g s j n)) (fieldBytes (fieldDrawn g s j)) (fieldsBytes (fieldsFrom g (seedAfter 3 s) (j + 1) (n - 1))) after r p (fields-one n h) (puts-as w (ap fieldBytes e)))
 
-  pub rows-end : (n : ℕ) → Putting out at xs mid q (fieldsBytes (rowsFrom g s j n)) → n ≤ 0 → Puts out at xs mid q
-  unfolding fieldsBytes rowsFrom
-  rows-end zero p h = putting-end out at xs mid q [] p refl
-  rows-end (suc n) p h = absurd (omega arith)
+  pub fields-end : (n : ℕ) → Putting out at xs mid q (fieldsBytes (fieldsFrom g s j n)) → n ≤ 0 → Puts out at xs mid q
+  unfolding fieldsBytes fieldsFrom
+  fields-end zero p h = putting-end out at xs mid q [] p refl
+  fields-end (suc n) p h = absurd (omega arith)
 
-  structs-one : (n : ℕ) → 0 < n → structsBytes (structsFrom g s j n) ≡ wholeBytes (plainStruct g s j) ++ structsBytes (structsFrom g (steps (3 * g .fields) s) (j + 1) (n - 1))
+  structs-one : (n : ℕ) → 0 < n → structsBytes (structsFrom g s j n) ≡ wholeBytes (plainStruct g s j) ++ structsBytes (structsFrom g (seedAfter (3 * g .fields) s) (j + 1) (n - 1))
   unfolding structsFrom
   structs-one zero h = absurd (omega arith)
-  structs-one (suc n) h = rw sub-one (sym (structs-cons (plainStruct g s j) (structsFrom g (steps (3 * g .fields) s) (j + 1) n)))
+  structs-one (suc n) h = rw sub-one (sym (structs-cons (plainStruct g s j) (structsFrom g (seedAfter (3 * g .fields) s) (j + 1) n)))
 
   pub structs-on : (n t : ℕ) (after : Str) (r : ℕ) → Putting out at xs mid q (structsBytes (structsFrom g s j n)) → 0 < n
-      → Puts mid q (wholeBytes (plainStruct g s j)) after r → t ≡ steps (3 * g .fields) s → Putting out at xs after r (structsBytes (structsFrom g t (j + 1) (n - 1)))
+      → Puts mid q (wholeBytes (plainStruct g s j)) after r → t ≡ seedAfter (3 * g .fields) s → Putting out at xs after r (structsBytes (structsFrom g t (j + 1) (n - 1)))
   structs-on n t after r p h w k =
-      rw k (putting-next out at xs mid q (structsBytes (structsFrom g s j n)) (wholeBytes (plainStruct g s j)) (structsBytes (structsFrom g (steps (3 * g .fields) s) (j + 1) (n - 1))) after r p (structs-one n h) w)
+      rw k (putting-next out at xs mid q (structsBytes (structsFrom g s j n)) (wholeBytes (plainStruct g s j)) (structsBytes (structsFrom g (seedAfter (3 * g .fields) s) (j + 1) (n - 1))) after r p (structs-one n h) w)
 
   pub structs-end : (n : ℕ) → Putting out at xs mid q (structsBytes (structsFrom g s j n)) → n ≤ 0 → Puts out at xs mid q
   unfolding structsBytes structsFrom
@@ -70,7 +70,7 @@ module _ (g : Setting) (out : Str) (at : ℕ) (xs mid : Str) (q s j : ℕ) where
   structs-end (suc n) p h = absurd (omega arith)
 
   -- a structure, and its fields
-  pub plain-put : (name : Text) (after : Str) (r i : ℕ) (end : Str) (k : ℕ) → name ≡ W.structText (g .tails) i → Puts mid q (structBytes (structRow name W.absent W.absent)) after r
-      → Puts after r (fieldsBytes (rowsFrom g s 0 (g .fields))) end k → Puts mid q (wholeBytes (plainStruct g s i)) end k
+  pub plain-put : (name : Text) (after : Str) (r i : ℕ) (end : Str) (k : ℕ) → name ≡ W.structText (g .lengths) i → Puts mid q (structBytes (structCommand name W.absent W.absent)) after r
+      → Puts after r (fieldsBytes (fieldsFrom g s 0 (g .fields))) end k → Puts mid q (wholeBytes (plainStruct g s i)) end k
   unfolding wholeBytes plainStruct structName structBytes
-  plain-put name after r i end k e a b = puts-then (puts-as a (ap (λ (t : Text). structBytes (structRow t W.absent W.absent)) e)) b
+  plain-put name after r i end k e a b = puts-then (puts-as a (ap (λ (t : Text). structBytes (structCommand t W.absent W.absent)) e)) b

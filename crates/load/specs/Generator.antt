@@ -1,4 +1,5 @@
--- The plan that a setting gives, and its records as commands: 02, W-213. The sections that both records share come first, the structures last. Assumes nothing.
+-- The plan that a setting gives, and its records as commands: the sections that both records share come first, the structures last.
+-- Assumes nothing.
 use mathlib.Core.List.{List, [], _∷_, _++_}
 use mathlib.Core.Option.{Option, none, some}
 use mathlib.Core.Bool.{Bool, true, false, cond}
@@ -7,13 +8,17 @@ use Rattle.record.specs.Base.{Str, bytes}
 use Rattle.record.specs.Stretch.{textOf}
 use Rattle.record.specs.Schema.{integer, words, Const, Alias, Enum, EnumValue, BitField, Member, Key, Field, Family, Variant}
 use Rattle.record.specs.declared.text.Text.{Text}
-use Rattle.load.specs.Plan as P
-use Rattle.load.specs.Plan.{Outcome, Plan}
+use Rattle.load.specs.Plan.{Plan, generationNow}
 use Rattle.load.specs.Pool as W
-use Rattle.load.specs.Rows.{t3, w4, v8, Num, no, number, n5, FieldRow, fieldBytes, fieldMeant, fieldsMeant, StructRow, structBytes, structsMeant}
+use Rattle.load.specs.Commands.{t3, w4, v8, no, number, n5, fieldBytes, fieldMeant, fieldsMeant, StructCommand, structBytes, structsMeant}
 use Rattle.load.specs.Draws
+use Rattle.load.specs.declared.outcomes.Outcome.{Outcome}
+use Rattle.load.specs.declared.outcomes.Outcome.the-variants as O
+use Rattle.load.specs.declared.settings.Setting.{Setting}
+use Rattle.load.specs.declared.commands.FieldCommand.{FieldCommand}
+use Rattle.load.specs.declared.commands.Num.{Num}
 
--- the sections that both records share ---------------------------------------------------------------------------------------------------------------
+-- the sections that both records share ----------------------------------------------------------------------------------------------------------
 
 abbrev pub since : Option Str
 since = some (bytes "0.8.0")
@@ -70,7 +75,8 @@ bitfieldList =
     ∷ []
 
 abbrev pub familyField : Str → Str → Option Str → Option Str → Option ℕ → Option ℕ → Field
-familyField n k ty el count size = record { name = n; kind = k; typ = ty; element = el; count = count; rows = none; cols = none; size = size; key = none }
+familyField n k ty el count size =
+    record { name = n; kind = k; typ = ty; element = el; count = count; rows = none; cols = none; size = size; key = none }
 
 unfoldable pub familyList : List Family
 familyList =
@@ -108,12 +114,12 @@ familyList =
 unfoldable pub unstoredList : List Key
 unstoredList = record { name = bytes "plate"; since = since } ∷ record { name = bytes "row"; since = since } ∷ []
 
--- the plan -------------------------------------------------------------------------------------------------------------------------------------------
+-- the plan --------------------------------------------------------------------------------------------------------------------------------------
 
-unfoldable pub planOf : Draws.Setting → Plan
+unfoldable pub planOf : Setting → Plan
 planOf g = record {
-  now = textOf W.pool (Draws.nowText (g .era));
-  was = textOf W.pool (Draws.wasText (g .era));
+  now = textOf W.pool (Draws.nowText (g .releases));
+  was = textOf W.pool (Draws.wasText (g .releases));
   constant = bytes "GENERATION";
   generation = g .generation;
   spare = spareAt (g .spare);
@@ -123,19 +129,19 @@ planOf g = record {
   bitfields = bitfieldList;
   families = familyList;
   unstored = unstoredList;
-  before = structsMeant (Draws.beforeRows g);
-  after = structsMeant (Draws.afterRows g);
+  before = structsMeant (Draws.beforeStructs g);
+  after = structsMeant (Draws.afterStructs g);
   name = textOf W.pool (Draws.structName g (g .root));
   slot = textOf W.pool (Draws.slotText (g .slot));
-  front = fieldsMeant (Draws.frontRows g);
-  back = fieldsMeant (Draws.backRows g);
-  marked = fieldMeant (Draws.markedRow g);
-  wider = fieldMeant (Draws.widerRow g);
-  wedge = fieldMeant (Draws.wedgeRow g);
-  added = fieldMeant (Draws.addedRow g);
+  front = fieldsMeant (Draws.frontFields g);
+  back = fieldsMeant (Draws.backFields g);
+  target = fieldMeant (Draws.targetField g);
+  retyped = fieldMeant (Draws.retypedField g);
+  inserted = fieldMeant (Draws.insertedField g);
+  added = fieldMeant (Draws.addedField g);
 }
 
--- the commands ---------------------------------------------------------------------------------------------------------------------------------------
+-- the commands ----------------------------------------------------------------------------------------------------------------------------------
 
 unfoldable pub headBytes : Text → Str
 headBytes release = 1 ∷ t3 release (0 ∷ [])
@@ -149,8 +155,8 @@ vendorBytes = 2 ∷ t3 W.t·VENDOR (1 ∷ v8 0 0 (t3 W.t·menqachu (0 ∷ t3 W.a
 abbrev pub valueBytes : Text → ℕ → ℕ → Text → Str
 valueBytes name low high first = 5 ∷ t3 name (v8 low high (t3 first []))
 
-abbrev pub rowBytes : Text → Text → Text → Text → Num → Num → Str
-rowBytes n k ty el count size = 11 ∷ t3 n (t3 k (t3 ty (t3 el (n5 count (n5 no (n5 no (n5 size [])))))))
+abbrev pub familyFieldBytes : Text → Text → Text → Text → Num → Num → Str
+familyFieldBytes n k ty el count size = 11 ∷ t3 n (t3 k (t3 ty (t3 el (n5 count (n5 no (n5 no (n5 size [])))))))
 
 unfoldable pub versionBytes : Text → ℕ → Str
 versionBytes name n = 14 ∷ t3 name (w4 n [])
@@ -172,79 +178,74 @@ sharedCommands =
     ∷ (7 ∷ t3 W.t·lamp (w4 0 (n5 no (t3 W.absent []))))
     ∷ (7 ∷ t3 W.t·zoom (w4 1 (n5 (number 3) (t3 W.t·0·8·0 []))))
     ∷ (9 ∷ t3 W.t·frame (t3 W.t·tag (t3 W.t·mode (t3 W.t·len (t3 W.t·u16 (0 ∷ []))))))
-    ∷ rowBytes W.t·seq W.k·scalar W.t·u16 W.absent no no
+    ∷ familyFieldBytes W.t·seq W.k·scalar W.t·u16 W.absent no no
     ∷ (10 ∷ t3 W.t·A [])
-    ∷ rowBytes W.t·gain W.k·scalar W.t·u8 W.absent no no
-    ∷ rowBytes W.t·gap W.k·padding W.absent W.absent no (number 1)
+    ∷ familyFieldBytes W.t·gain W.k·scalar W.t·u8 W.absent no no
+    ∷ familyFieldBytes W.t·gap W.k·padding W.absent W.absent no (number 1)
     ∷ (10 ∷ t3 W.t·B [])
-    ∷ rowBytes W.t·pos W.k·inline-array W.absent W.t·u16 (number 3) no
+    ∷ familyFieldBytes W.t·pos W.k·inline-array W.absent W.t·u16 (number 3) no
     ∷ (9 ∷ t3 W.t·legacy (t3 W.t·sort (t3 W.t·filter (t3 W.t·size (t3 W.absent (1 ∷ []))))))
-    ∷ rowBytes W.t·old W.k·type-alias W.t·ticks W.absent no no
+    ∷ familyFieldBytes W.t·old W.k·type-alias W.t·ticks W.absent no no
     ∷ (10 ∷ t3 W.t·C [])
-    ∷ rowBytes W.t·txt W.k·string W.absent W.absent no no
+    ∷ familyFieldBytes W.t·txt W.k·string W.absent W.absent no no
     ∷ (13 ∷ t3 W.t·plate (t3 W.t·0·8·0 []))
     ∷ (13 ∷ t3 W.t·row (t3 W.t·0·8·0 []))
     ∷ []
 
 -- the fields' and structures' commands before more
-unfoldable pub fieldCommands : List FieldRow → List Str → List Str
+unfoldable pub fieldCommands : List FieldCommand → List Str → List Str
 fieldCommands [] cs = cs
 fieldCommands (f ∷ fs) cs = fieldBytes f ∷ fieldCommands fs cs
 
-unfoldable pub structCommands : List StructRow → List Str → List Str
+unfoldable pub structCommands : List StructCommand → List Str → List Str
 structCommands [] cs = cs
 structCommands (s ∷ ss) cs = structBytes s ∷ fieldCommands (s .fields) (structCommands ss cs)
 
-module _ (g : Draws.Setting) where
-  unfoldable pub rootRow : List FieldRow → StructRow
-  rootRow fs = record { name = Draws.structName g (g .root); slot = Draws.slotText (g .slot); version = W.t·GENERATION; fields = fs }
+module _ (g : Setting) where
+  unfoldable pub rootStruct : List FieldCommand → StructCommand
+  rootStruct fs = record { name = Draws.structName g (g .root); slot = Draws.slotText (g .slot); version = W.t·GENERATION; fields = fs }
 
   -- all structures, the root with these fields
-  unfoldable pub allRows : List FieldRow → List StructRow
-  allRows fs = Draws.beforeRows g ++ (rootRow fs ∷ Draws.afterRows g)
+  unfoldable pub allStructs : List FieldCommand → List StructCommand
+  allStructs fs = Draws.beforeStructs g ++ (rootStruct fs ∷ Draws.afterStructs g)
 
   -- a record: its release, the constants before the shared ones, the generation's number, the root's fields
-  unfoldable pub recordWith : Text → List Str → ℕ → List FieldRow → List Str
+  unfoldable pub recordWith : Text → List Str → ℕ → List FieldCommand → List Str
   recordWith release spare n fs =
       headBytes release
       ∷ integerBytes W.t·GENERATION n 0 W.absent
-      ∷ (spare ++ (integerBytes W.t·PLUGIN-API 4 1 W.absent ∷ vendorBytes ∷ (sharedCommands ++ (versionBytes (Draws.structName g (g .root)) n ∷ structCommands (allRows fs) []))))
+      ∷ (spare
+      ++ (integerBytes W.t·PLUGIN-API 4 1 W.absent
+      ∷ vendorBytes
+      ∷ (sharedCommands ++ (versionBytes (Draws.structName g (g .root)) n ∷ structCommands (allStructs fs) []))))
 
   unfoldable pub spareCommand : List Str
   spareCommand = integerBytes W.t·TILE-LIMIT (g .spare) 1 W.t·0·8·0 ∷ []
 
-  unfoldable pub wholeRows : List FieldRow
-  wholeRows = Draws.frontRows g ++ (Draws.markedRow g ∷ Draws.backRows g)
+  unfoldable pub wholeFields : List FieldCommand
+  wholeFields = Draws.frontFields g ++ (Draws.targetField g ∷ Draws.backFields g)
 
-  unfoldable pub editedRows : Outcome → List FieldRow
-  editedRows P.accepted = wholeRows ++ (Draws.addedRow g ∷ [])
-  editedRows P.constant-gone = wholeRows
-  editedRows P.field-gone = Draws.frontRows g ++ Draws.backRows g
-  editedRows P.field-moved = Draws.frontRows g ++ (Draws.wedgeRow g ∷ Draws.markedRow g ∷ Draws.backRows g)
-  editedRows P.field-resized = Draws.frontRows g ++ (Draws.widerRow g ∷ Draws.backRows g)
-  editedRows P.unraised = wholeRows ++ (Draws.addedRow g ∷ [])
+  unfoldable pub editedFields : Outcome → List FieldCommand
+  editedFields O.Accepted = wholeFields ++ (Draws.addedField g ∷ [])
+  editedFields O.ConstantGone = wholeFields
+  editedFields O.FieldGone = Draws.frontFields g ++ Draws.backFields g
+  editedFields O.FieldMoved = Draws.frontFields g ++ (Draws.insertedField g ∷ Draws.targetField g ∷ Draws.backFields g)
+  editedFields O.FieldResized = Draws.frontFields g ++ (Draws.retypedField g ∷ Draws.backFields g)
+  editedFields O.Unraised = wholeFields ++ (Draws.addedField g ∷ [])
 
   unfoldable pub spareNow : Outcome → List Str
-  spareNow P.accepted = spareCommand
-  spareNow P.constant-gone = []
-  spareNow P.field-gone = spareCommand
-  spareNow P.field-moved = spareCommand
-  spareNow P.field-resized = spareCommand
-  spareNow P.unraised = spareCommand
-
-  unfoldable pub numberNow : Outcome → ℕ
-  numberNow P.accepted = g .generation + 1
-  numberNow P.constant-gone = g .generation
-  numberNow P.field-gone = g .generation
-  numberNow P.field-moved = g .generation
-  numberNow P.field-resized = g .generation
-  numberNow P.unraised = g .generation
+  spareNow O.Accepted = spareCommand
+  spareNow O.ConstantGone = []
+  spareNow O.FieldGone = spareCommand
+  spareNow O.FieldMoved = spareCommand
+  spareNow O.FieldResized = spareCommand
+  spareNow O.Unraised = spareCommand
 
   unfoldable pub releasedCommands : List Str
-  releasedCommands = recordWith (Draws.wasText (g .era)) spareCommand (g .generation) wholeRows
+  releasedCommands = recordWith (Draws.wasText (g .releases)) spareCommand (g .generation) wholeFields
 
   unfoldable pub currentCommands : Outcome → List Str
-  currentCommands o = recordWith (Draws.nowText (g .era)) (spareNow o) (numberNow o) (editedRows o)
+  currentCommands o = recordWith (Draws.nowText (g .releases)) (spareNow o) (generationNow o (g .generation)) (editedFields o)
 
 -- 01: commands after each other, and 0F
 unfoldable pub streamOf : List Str → Str

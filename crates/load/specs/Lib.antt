@@ -1,12 +1,11 @@
 pub mod Plan
 pub mod Wanted
-pub mod Sound
+pub mod Feasible
 pub mod Pool
-pub mod Rows
+pub mod Commands
 pub mod Draws
 pub mod Generator
 pub mod Range
 pub mod Written
 pub mod Load
 pub mod Bytes
-pub mod Meanings

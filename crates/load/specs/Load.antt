@@ -7,12 +7,12 @@ use lib.Dec.{eqb, leb}
 use lib.ListN.{length}
 use Rattle.record.specs.Base.{Str}
 use Rattle.layout.specs.Answer.{Answer, textOr}
-use Rattle.load.specs.Plan as P
-use Rattle.load.specs.Plan.{Outcome}
 use Rattle.load.specs.Pool.{pool}
-use Rattle.load.specs.Rows.{w4}
+use Rattle.load.specs.Commands.{w4}
 use Rattle.load.specs.Draws.{settingOf}
 use Rattle.load.specs.Generator.{releasedCommands, currentCommands, streamOf}
+use Rattle.load.specs.declared.outcomes.Outcome.{Outcome}
+use Rattle.load.specs.declared.outcomes.Outcome.the-variants as O
 
 -- 01: a part is a length of four bytes and its bytes
 unfoldable pub part : Str → Str
@@ -32,12 +32,12 @@ pairOf seed o = part (nowStream seed o) ++ (part pool ++ (part (wasStream seed) 
 -- the outcome that a number names
 unfoldable pub outcomeAt : ℕ → Option Outcome
 outcomeAt n =
-    cond (eqb n 0) (some P.accepted)
-    (cond (eqb n 20) (some P.constant-gone)
-    (cond (eqb n 34) (some P.field-gone)
-    (cond (eqb n 35) (some P.field-moved)
-    (cond (eqb n 36) (some P.field-resized)
-    (cond (eqb n 43) (some P.unraised) none)))))
+    cond (eqb n 0) (some O.Accepted)
+    (cond (eqb n 20) (some O.ConstantGone)
+    (cond (eqb n 34) (some O.FieldGone)
+    (cond (eqb n 35) (some O.FieldMoved)
+    (cond (eqb n 36) (some O.FieldResized)
+    (cond (eqb n 43) (some O.Unraised) none)))))
 
 -- 02: 61 another outcome or a seed above 2147483647, before 10
 unfoldable pub unfit : Answer

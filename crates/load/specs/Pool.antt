@@ -1,4 +1,4 @@
--- The pool of every pair, and where its texts are: names of 16 bytes each, of which the first three bytes tell them apart, the kinds, 20 bytes each,
+-- The pool of every record, and where its texts are: names of 16 bytes each, which their first three bytes tell apart, the kinds, 20 bytes each,
 -- then the words. Assumes nothing.
 use mathlib.Core.List.{List, [], _∷_, _++_}
 use Prim.Native.Nat.{ℕ, _+_, _*_, _%_}
@@ -9,13 +9,22 @@ unfoldable pub structNames : Str
 structNames = bytes "s00stage_originss01optics_state_s02tile_table_hds03plate_barcodes04lamp_schedules05focus_profiles06camera_setup_s07run_statistic"
 
 unfoldable pub fieldNames : Str
-fieldNames = bytes "f00exposure_timef01gain_setting_f02well_row_markf03well_col_markf04lens_positionf05filter_selectf06lamp_intensitf07encoder_ticksf08tile_checksumf09overlap_widthf10stitch_offsetf11operator_notef12serial_numberf13firmware_hashf14temperature_cf15pressure_mbarf16humidity_percf17spare_byte_inf18spare_byte_at"
+fieldNames =
+    bytes "f00exposure_timef01gain_setting_f02well_row_markf03well_col_markf04lens_positionf05filter_selectf06lamp_intensit"
+    ++ (bytes "f07encoder_ticksf08tile_checksumf09overlap_widthf10stitch_offsetf11operator_notef12serial_numberf13firmware_hash"
+    ++ bytes "f14temperature_cf15pressure_mbarf16humidity_percf17spare_byte_inf18spare_byte_at")
 
 unfoldable pub kindTexts : Str
-kindTexts = bytes "scalar..............enum................type_alias..........bitfield............inline_array........inline_array2d......cstr_ptr............struct_ptr..........struct_array_ptr....struct_ptr_array_ptrtagged_fam_ptr......simple_fam_ptr......opaque_ptr..........fn_ptr..............padding.............string.............."
+kindTexts =
+    bytes "scalar..............enum................type_alias..........bitfield............inline_array........inline_array2d......"
+    ++ (bytes "cstr_ptr............struct_ptr..........struct_array_ptr....struct_ptr_array_ptrtagged_fam_ptr......simple_fam_ptr......"
+    ++ bytes "opaque_ptr..........fn_ptr..............padding.............string..............")
 
 unfoldable pub wordTexts : Str
-wordTexts = bytes "0.8.00.9.00.10.01.0.01.9.91.10.0metadataruntimeinfoGENERATIONTILE_LIMITPLUGIN_APIVENDORmenqachutickswellfilterdarkdapifitcmodeidlescanfaultflagslampzoomframetaglenseqAgaingapBposlegacysortsizeoldCtxtplaterowu8u16u32char"
+wordTexts =
+    bytes "0.8.00.9.00.10.01.0.01.9.91.10.0metadataruntimeinfo"
+    ++ (bytes "GENERATIONTILE_LIMITPLUGIN_APIVENDORmenqachutickswellfilterdarkdapifitcmodeidlescanfault"
+    ++ bytes "flagslampzoomframetaglenseqAgaingapBposlegacysortsizeoldCtxtplaterowu8u16u32char")
 
 unfoldable pub pool : Str
 pool = structNames ++ (fieldNames ++ (kindTexts ++ wordTexts))

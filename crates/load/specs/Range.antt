@@ -1,16 +1,16 @@
 -- The range of each draw, and of a setting. Assumes nothing.
 use Prim.Native.Nat.{ℕ, _+_, _≤_, _<_}
-use Rattle.load.specs.Draws.{Setting}
+use Rattle.load.specs.declared.settings.Setting.{Setting}
 
 pub record InRange (g : Setting) : Type 0 where
   pub structs : g .structs ≤ 8
   pub fields : g .fields ≤ 17
-  pub era : g .era < 4
+  pub releases : g .releases < 4
   pub slot : g .slot < 3
-  pub tails : g .tails < 14
+  pub lengths : g .lengths < 14
   pub generation : g .generation < 32768
   pub spare : g .spare < 32768
   pub root : g .root < g .structs
-  pub mark : g .mark < g .fields
+  pub target : g .target < g .fields
   pub word : g .word < 4
-  pub other : g .other < 4
+  pub fresh : g .fresh < 4

@@ -10,9 +10,11 @@ use Rattle.record.specs.Base.{Str, first}
 use Rattle.record.specs.Scalars.{builtIn}
 use Rattle.record.specs.Schema.{Schema, Heading, Const, Alias, Enum, EnumValue, BitField, Member, Key, Field, Struct, Variant, Family, Version}
 use Rattle.record.specs.Shapes.{prefix}
-use Rattle.record.specs.Commands.{operands, widths, headAt, constantAt, aliasAt, enumAt, valueAt, bitfieldAt, memberAt, structAt, familyAt, variantAt, fieldAt, keyAt, versionAt}
+use Rattle.record.specs.Commands.{operands, widths}
+use Rattle.record.specs.Commands.{headAt, constantAt, aliasAt, enumAt, valueAt, bitfieldAt, memberAt, structAt, familyAt, variantAt, fieldAt, keyAt, versionAt}
 use Rattle.record.specs.Judge.{mayStand, parentAfter, faultsFrom}
-use Rattle.record.specs.Lists.{headOf, constantOf, aliasOf, enumOf, valueOf, bitfieldOf, memberOf, structOf, familyOf, variantOf, fieldOf, keyOf, versionOf, anything, nothing, aKey, aField}
+use Rattle.record.specs.Lists.{headOf, constantOf, aliasOf, enumOf, valueOf, bitfieldOf, memberOf, structOf, familyOf, variantOf, fieldOf, keyOf, versionOf}
+use Rattle.record.specs.Lists.{anything, nothing, aKey, aField}
 use Rattle.record.specs.Reading.{releaseOf, unreleasedOf}
 use Rattle.record.specs.declared.command.Parent.{Parent}
 use Rattle.record.specs.declared.command.Cursor.{Cursor}
@@ -40,9 +42,9 @@ pub record Fits (side : Side) (n last : ℕ) (parent : Parent) (c : Str) : Type 
   pub fine : (x : Str) → faultsFrom side n (c ++ x) 1 row ≡ Fine
   pub going : opcode c ≡ 15 → ⊥
 
-abbrev pub Chain : Side → ℕ → ℕ → Parent → List Str → Type 0
-Chain side n last parent [] = last ≡ 0 → ⊥
-Chain side n last parent (c ∷ cs) = Fits side n last parent c × Chain side n (opcode c) (parentAfter parent (opcode c)) cs
+abbrev pub AllFit : Side → ℕ → ℕ → Parent → List Str → Type 0
+AllFit side n last parent [] = last ≡ 0 → ⊥
+AllFit side n last parent (c ∷ cs) = Fits side n last parent c × AllFit side n (opcode c) (parentAfter parent (opcode c)) cs
 
 -- the elements that commands give, each from its bytes with all that follow, and the commands after it
 unfoldable pub listedIn : {A : Type 0} → (ℕ → Bool) → ℕ → (Str → List Str → A) → List Str → List A

@@ -1,15 +1,15 @@
-// Drawn fields: by a kind's number and two draws.
+// Texts by a small number, and drawn fields. A text is a place of the pool: specs/Pool names them all.
+use crate::commands::FieldCommand;
+use crate::commands::Num;
 use crate::draws::draw;
-use crate::rows::FieldRow;
-use crate::rows::Num;
 use crate::settings::Setting;
 use record::text::Text;
 ghost use mathlib.Core.Path.{_≡_};
 ghost use Prim.Native.Nat.{_+_, _<_, _≤_, _%_};
-ghost use Rattle.load.specs.Pool.{absent, k·scalar, structText, fieldText};
+ghost use Rattle.load.specs.Pool.{at, absent, k·scalar, k·inline-array, k·inline-array2d, k·padding, structText, fieldText};
 ghost use Rattle.load.specs.Range.{InRange};
-ghost use Rattle.load.specs.Draws.{scalarText, widerText, enumText, aliasText, slotText, nowText, wasText, plainRow, countedRow, griddedRow, paddedRow, rowAs, kindAt, rowDrawn};
-ghost use Rattle.load.specs.Meanings.{rowMeant, settingMeant};
+ghost use Rattle.load.specs.Draws.{scalarText, retypedText, enumText, aliasText, slotText, nowText, wasText};
+ghost use Rattle.load.specs.Draws.{plainField, arrayField, gridField, paddingField, fieldAs, kindAt, fieldDrawn};
 
 // A scalar word by its number.
 pub fn scalar_text(n: u32) -> Text
@@ -58,8 +58,8 @@ pub fn struct_text(l: u32, i: u32) -> Text
 }
 
 // A word of another size.
-pub fn wider_text(n: u32) -> Text
-    ensures { λ r. ⌜ r ≡ widerText n ⌝ }
+pub fn retyped_text(n: u32) -> Text
+    ensures { λ r. ⌜ r ≡ retypedText n ⌝ }
 {
     if n == 0 {
         return Text { start: 961, len: 3 };
@@ -128,16 +128,60 @@ pub fn field_text(l: u32, i: u32) -> Text
     }
 }
 
-// A field with texts alone.
-fn plain(name: Text, kind: Text, typ: Text, element: Text) -> FieldRow
-    ensures { λ r. ⌜ rowMeant r ≡ plainRow name kind typ element ⌝ }
+// A field of a kind whose word stands at a place of the pool: one with a type.
+fn typed(name: Text, start: u16, len: u8, typ: Text) -> FieldCommand
+    ensures { λ r. ⌜ r ≡ plainField name (at start len) typ absent ⌝ }
 {
     let no = Num { flag: 0, value: 0 };
-    FieldRow {
+    FieldCommand {
         name,
-        kind,
+        kind: Text { start, len },
         typ,
+        element: Text {
+            start: 65535,
+            len: 0,
+        },
+        count: no,
+        rows: no,
+        cols: no,
+        size: no,
+    }
+}
+
+// One with an element.
+fn of_element(name: Text, start: u16, len: u8, element: Text) -> FieldCommand
+    ensures { λ r. ⌜ r ≡ plainField name (at start len) absent element ⌝ }
+{
+    let no = Num { flag: 0, value: 0 };
+    FieldCommand {
+        name,
+        kind: Text { start, len },
+        typ: Text {
+            start: 65535,
+            len: 0,
+        },
         element,
+        count: no,
+        rows: no,
+        cols: no,
+        size: no,
+    }
+}
+
+// One with neither.
+fn untyped(name: Text, start: u16, len: u8) -> FieldCommand
+    ensures { λ r. ⌜ r ≡ plainField name (at start len) absent absent ⌝ }
+{
+    let no = Num { flag: 0, value: 0 };
+    let none = Text {
+        start: 65535,
+        len: 0,
+    };
+    FieldCommand {
+        name,
+        kind: Text { start, len },
+        typ: none,
+        element: none,
         count: no,
         rows: no,
         cols: no,
@@ -146,294 +190,132 @@ fn plain(name: Text, kind: Text, typ: Text, element: Text) -> FieldRow
 }
 
 // An array of n + 1 elements.
-fn counted(name: Text, kind: Text, element: Text, n: u32) -> FieldRow
+fn array(name: Text, element: Text, n: u32) -> FieldCommand
     requires { ⌜ (n < 8) ⌝ }
-    ensures { λ r. ⌜ rowMeant r ≡ countedRow name kind element (n + 1) ⌝ }
+    ensures { λ r. ⌜ r ≡ arrayField name k·inline-array element (n + 1) ⌝ }
 {
     let no = Num { flag: 0, value: 0 };
-    let count = Num {
-        flag: 1,
-        value: n + 1,
-    };
-    FieldRow {
+    FieldCommand {
         name,
-        kind,
+        kind: Text {
+            start: 512,
+            len: 12,
+        },
         typ: Text {
             start: 65535,
             len: 0,
         },
         element,
-        count,
+        count: Num {
+            flag: 1,
+            value: n + 1,
+        },
         rows: no,
         cols: no,
         size: no,
     }
 }
 
-// One of n + 1 rows and t + 1 columns.
-fn gridded(name: Text, kind: Text, element: Text, n: u32, t: u32) -> FieldRow
+// An array of n + 1 rows and t + 1 columns.
+fn grid(name: Text, element: Text, n: u32, t: u32) -> FieldCommand
     requires { ⌜ (n < 8) ⌝ }
     requires { ⌜ (t < 8) ⌝ }
-    ensures { λ r. ⌜ rowMeant r ≡ griddedRow name kind element (n + 1) (t + 1) ⌝ }
+    ensures { λ r. ⌜ r ≡ gridField name k·inline-array2d element (n + 1) (t + 1) ⌝ }
 {
     let no = Num { flag: 0, value: 0 };
-    let rows = Num {
-        flag: 1,
-        value: n + 1,
-    };
-    let cols = Num {
-        flag: 1,
-        value: t + 1,
-    };
-    FieldRow {
+    FieldCommand {
         name,
-        kind,
+        kind: Text {
+            start: 532,
+            len: 14,
+        },
         typ: Text {
             start: 65535,
             len: 0,
         },
         element,
         count: no,
-        rows,
-        cols,
+        rows: Num {
+            flag: 1,
+            value: n + 1,
+        },
+        cols: Num {
+            flag: 1,
+            value: t + 1,
+        },
         size: no,
     }
 }
 
 // Padding of n + 1 bytes.
-fn padded(name: Text, kind: Text, n: u32) -> FieldRow
+fn padding(name: Text, n: u32) -> FieldCommand
     requires { ⌜ (n < 8) ⌝ }
-    ensures { λ r. ⌜ rowMeant r ≡ paddedRow name kind (n + 1) ⌝ }
+    ensures { λ r. ⌜ r ≡ paddingField name k·padding (n + 1) ⌝ }
 {
     let no = Num { flag: 0, value: 0 };
-    let size = Num {
-        flag: 1,
-        value: n + 1,
+    let none = Text {
+        start: 65535,
+        len: 0,
     };
-    FieldRow {
+    FieldCommand {
         name,
-        kind,
-        typ: Text {
-            start: 65535,
-            len: 0,
-        },
-        element: Text {
-            start: 65535,
-            len: 0,
-        },
+        kind: Text { start: 712, len: 7 },
+        typ: none,
+        element: none,
         count: no,
         rows: no,
         cols: no,
-        size,
+        size: Num {
+            flag: 1,
+            value: n + 1,
+        },
     }
 }
 
-// A field by its name, its kind's number, and two draws below 8; l the lengths of names, a the number of structures.
-pub fn row_as(l: u32, a: u32, name: Text, k: u32, n: u32, t: u32) -> FieldRow
+// A field by its name, its kind's number, and two draws below 8; l has the lengths of names, a the number of structures.
+pub fn field_as(l: u32, a: u32, name: Text, k: u32, n: u32, t: u32) -> FieldCommand
     requires { ⌜ (l < 14) ⌝ }
     requires { ⌜ (0 < a) ⌝ }
     requires { ⌜ (a ≤ 8) ⌝ }
     requires { ⌜ (n < 8) ⌝ }
     requires { ⌜ (t < 8) ⌝ }
-    ensures { λ r. ⌜ rowMeant r ≡ rowAs (kindAt k) l a name n t ⌝ }
+    ensures { λ r. ⌜ r ≡ fieldAs (kindAt k) l a name n t ⌝ }
 {
     match k {
-        0 => plain(
-            name,
-            Text { start: 432, len: 6 },
-            scalar_text(t % 4),
-            Text {
-                start: 65535,
-                len: 0,
-            },
-        ),
-        1 => plain(
-            name,
-            Text { start: 452, len: 4 },
-            enum_text(t % 2),
-            Text {
-                start: 65535,
-                len: 0,
-            },
-        ),
-        2 => plain(
-            name,
-            Text {
-                start: 472,
-                len: 10,
-            },
-            alias_text(t % 2),
-            Text {
-                start: 65535,
-                len: 0,
-            },
-        ),
-        3 => plain(
-            name,
-            Text { start: 492, len: 8 },
-            Text { start: 891, len: 5 },
-            Text {
-                start: 65535,
-                len: 0,
-            },
-        ),
-        4 => counted(
-            name,
-            Text {
-                start: 512,
-                len: 12,
-            },
-            scalar_text(t % 4),
-            n,
-        ),
-        5 => gridded(
-            name,
-            Text {
-                start: 532,
-                len: 14,
-            },
-            scalar_text(t % 4),
-            n,
-            t,
-        ),
-        6 => plain(
-            name,
-            Text { start: 552, len: 8 },
-            Text {
-                start: 65535,
-                len: 0,
-            },
-            Text {
-                start: 65535,
-                len: 0,
-            },
-        ),
-        7 => plain(
-            name,
-            Text {
-                start: 572,
-                len: 10,
-            },
-            struct_text(l, t % a),
-            Text {
-                start: 65535,
-                len: 0,
-            },
-        ),
-        8 => plain(
-            name,
-            Text {
-                start: 592,
-                len: 16,
-            },
-            Text {
-                start: 65535,
-                len: 0,
-            },
-            struct_text(l, t % a),
-        ),
-        9 => plain(
-            name,
-            Text {
-                start: 612,
-                len: 20,
-            },
-            Text {
-                start: 65535,
-                len: 0,
-            },
-            struct_text(l, t % a),
-        ),
-        10 => plain(
-            name,
-            Text {
-                start: 632,
-                len: 14,
-            },
-            Text { start: 904, len: 5 },
-            Text {
-                start: 65535,
-                len: 0,
-            },
-        ),
-        11 => plain(
-            name,
-            Text {
-                start: 652,
-                len: 14,
-            },
-            Text { start: 930, len: 6 },
-            Text {
-                start: 65535,
-                len: 0,
-            },
-        ),
-        12 => plain(
-            name,
-            Text {
-                start: 672,
-                len: 10,
-            },
-            Text {
-                start: 65535,
-                len: 0,
-            },
-            Text {
-                start: 65535,
-                len: 0,
-            },
-        ),
-        13 => plain(
-            name,
-            Text { start: 692, len: 6 },
-            Text {
-                start: 65535,
-                len: 0,
-            },
-            Text {
-                start: 65535,
-                len: 0,
-            },
-        ),
-        14 => padded(name, Text { start: 712, len: 7 }, n),
-        _ => plain(
-            name,
-            Text { start: 732, len: 6 },
-            Text {
-                start: 65535,
-                len: 0,
-            },
-            Text {
-                start: 65535,
-                len: 0,
-            },
-        ),
+        0 => typed(name, 432, 6, scalar_text(t % 4)),
+        1 => typed(name, 452, 4, enum_text(t % 2)),
+        2 => typed(name, 472, 10, alias_text(t % 2)),
+        3 => typed(name, 492, 8, Text { start: 891, len: 5 }),
+        4 => array(name, scalar_text(t % 4), n),
+        5 => grid(name, scalar_text(t % 4), n, t),
+        6 => untyped(name, 552, 8),
+        7 => typed(name, 572, 10, struct_text(l, t % a)),
+        8 => of_element(name, 592, 16, struct_text(l, t % a)),
+        9 => of_element(name, 612, 20, struct_text(l, t % a)),
+        10 => typed(name, 632, 14, Text { start: 904, len: 5 }),
+        11 => typed(name, 652, 14, Text { start: 930, len: 6 }),
+        12 => untyped(name, 672, 10),
+        13 => untyped(name, 692, 6),
+        14 => padding(name, n),
+        _ => untyped(name, 732, 6),
     }
 }
 
 // A scalar field.
-pub fn scalar_row(name: Text, word: Text) -> FieldRow
-    ensures { λ r. ⌜ rowMeant r ≡ plainRow name k·scalar word absent ⌝ }
+pub fn scalar_field(name: Text, word: Text) -> FieldCommand
+    ensures { λ r. ⌜ r ≡ plainField name k·scalar word absent ⌝ }
 {
-    plain(
-        name,
-        Text { start: 432, len: 6 },
-        word,
-        Text {
-            start: 65535,
-            len: 0,
-        },
-    )
+    typed(name, 432, 6, word)
 }
 
 // The field of an index, from a seed.
-pub fn row_drawn(g: Setting, seed: u32, j: u32) -> FieldRow
-    requires { ⌜ InRange (settingMeant g) × (j < 19) ⌝ }
-    ensures { λ r. ⌜ rowMeant r ≡ rowDrawn (settingMeant g) seed j ⌝ }
+pub fn field_drawn(g: Setting, seed: u32, j: u32) -> FieldCommand
+    requires { ⌜ InRange g × (j < 19) ⌝ }
+    ensures { λ r. ⌜ r ≡ fieldDrawn g seed j ⌝ }
 {
     let k = draw(seed, 1, 16);
     let n = draw(seed, 2, 8);
     let t = draw(seed, 3, 8);
-    let name = field_text(g.tails, j);
-    row_as(g.tails, g.structs, name, k, n, t)
+    let name = field_text(g.lengths, j);
+    field_as(g.lengths, g.structs, name, k, n, t)
 }

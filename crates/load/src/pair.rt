@@ -13,25 +13,24 @@ ghost use lib.ListN.{length};
 ghost use Rattle.record.specs.Write.{Puts};
 ghost use Rattle.layout.specs.Answer.{Answered, textOr};
 ghost use Rattle.load.specs.Pool.{pool};
-ghost use Rattle.load.specs.Rows.{w4};
+ghost use Rattle.load.specs.Commands.{w4};
 ghost use Rattle.load.specs.Range.{InRange};
 ghost use Rattle.load.specs.Generator.{releasedCommands, currentCommands, streamOf};
 ghost use Rattle.load.specs.Load.{part, pairOf, load};
 ghost use Rattle.load.specs.Bytes.{partsOf};
-ghost use Rattle.load.specs.Meanings.{settingMeant, outcomeMeant};
 
 // How long the two streams are.
 fn released_len(g: Setting) -> usize
-    requires { ⌜ InRange (settingMeant g) ⌝ }
-    ensures { λ r. ⌜ (r ≡ length (streamOf (releasedCommands (settingMeant g)))) × (r ≤ 32768) ⌝ }
+    requires { ⌜ InRange g ⌝ }
+    ensures { λ r. ⌜ (r ≡ length (streamOf (releasedCommands g))) × (r ≤ 32768) ⌝ }
 {
     let mut none = [0u8; 1];
     put_released(&mut none, 0, g)
 }
 
 fn current_len(g: Setting, o: Outcome) -> usize
-    requires { ⌜ InRange (settingMeant g) ⌝ }
-    ensures { λ r. ⌜ (r ≡ length (streamOf (currentCommands (settingMeant g) (outcomeMeant o)))) × (r ≤ 32768) ⌝ }
+    requires { ⌜ InRange g ⌝ }
+    ensures { λ r. ⌜ (r ≡ length (streamOf (currentCommands g o))) × (r ≤ 32768) ⌝ }
 {
     let mut none = [0u8; 1];
     put_current(&mut none, 0, g, o)
@@ -79,8 +78,8 @@ fn put_pool(out: &mut [u8], at: usize) -> usize
 
 // Puts a record as two parts; n is its stream's length.
 fn put_current_parts(out: &mut [u8], at: usize, g: Setting, o: Outcome, n: usize) -> usize
-    requires { ⌜ InRange (settingMeant g) × (n ≡ length (streamOf (currentCommands (settingMeant g) (outcomeMeant o)))) × (n ≤ 32768) ⌝ }
-    ensures { λ r. ⌜ Puts (now (out .entry)) at (partsOf (streamOf (currentCommands (settingMeant g) (outcomeMeant o)))) (now (out .exit)) r ⌝ }
+    requires { ⌜ InRange g × (n ≡ length (streamOf (currentCommands g o))) × (n ≤ 32768) ⌝ }
+    ensures { λ r. ⌜ Puts (now (out .entry)) at (partsOf (streamOf (currentCommands g o))) (now (out .exit)) r ⌝ }
 {
     let a = put_len(out, at, n);
     let b = put_current(out, a, g, o);
@@ -88,8 +87,8 @@ fn put_current_parts(out: &mut [u8], at: usize, g: Setting, o: Outcome, n: usize
 }
 
 fn put_released_parts(out: &mut [u8], at: usize, g: Setting, n: usize) -> usize
-    requires { ⌜ InRange (settingMeant g) × (n ≡ length (streamOf (releasedCommands (settingMeant g)))) × (n ≤ 32768) ⌝ }
-    ensures { λ r. ⌜ Puts (now (out .entry)) at (partsOf (streamOf (releasedCommands (settingMeant g)))) (now (out .exit)) r ⌝ }
+    requires { ⌜ InRange g × (n ≡ length (streamOf (releasedCommands g))) × (n ≤ 32768) ⌝ }
+    ensures { λ r. ⌜ Puts (now (out .entry)) at (partsOf (streamOf (releasedCommands g))) (now (out .exit)) r ⌝ }
 {
     let a = put_len(out, at, n);
     let b = put_released(out, a, g);
@@ -98,7 +97,7 @@ fn put_released_parts(out: &mut [u8], at: usize, g: Setting, n: usize) -> usize
 
 // Writes the pair of a seed, if it fits.
 fn write_pair(out: &mut [u8], seed: u32, o: Outcome) -> Answer
-    ensures { λ r. ⌜ Answered (now (out .entry)) (now (out .exit)) (textOr (length (now (out .entry))) 0 (pairOf seed (outcomeMeant o))) r ⌝ }
+    ensures { λ r. ⌜ Answered (now (out .entry)) (now (out .exit)) (textOr (length (now (out .entry))) 0 (pairOf seed o)) r ⌝ }
 {
     let g = draw_setting(seed);
     let n = current_len(g, o);

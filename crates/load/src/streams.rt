@@ -1,11 +1,11 @@
 // The two records of a pair, put command by command.
+use crate::commands::high;
+use crate::commands::low;
 use crate::drawn::now_text;
 use crate::drawn::struct_text;
 use crate::drawn::was_text;
 use crate::outcomes::Outcome;
 use crate::root::put_all;
-use crate::rows::high;
-use crate::rows::low;
 use crate::settings::Setting;
 use crate::structures::put_none;
 use record::text::Text;
@@ -16,9 +16,10 @@ ghost use Rattle.record.specs.Write.{Puts};
 ghost use Rattle.load.specs.Pool.{absent, t·GENERATION, t·TILE-LIMIT, t·0·8·0};
 ghost use Rattle.load.specs.Draws.{structName};
 ghost use Rattle.load.specs.Range.{InRange};
-ghost use Rattle.load.specs.Generator.{headBytes, integerBytes, versionBytes, editedRows, spareNow, numberNow, releasedCommands, currentCommands, streamOf};
+ghost use Rattle.load.specs.Plan.{generationNow};
+ghost use Rattle.load.specs.Generator.{headBytes, integerBytes, versionBytes, editedFields, spareNow};
+ghost use Rattle.load.specs.Generator.{releasedCommands, currentCommands, streamOf};
 ghost use Rattle.load.specs.Bytes.{commandsBytes, sharedBytes, restBytes};
-ghost use Rattle.load.specs.Meanings.{settingMeant, outcomeMeant};
 
 // Puts the head.
 fn put_head(out: &mut [u8], at: usize, release: Text) -> usize
@@ -168,7 +169,7 @@ fn put_spare(out: &mut [u8], at: usize, g: Setting) -> usize
 
 // Puts it in a current record.
 fn put_spare_now(out: &mut [u8], at: usize, g: Setting, o: Outcome) -> usize
-    ensures { λ r. ⌜ Puts (now (out .entry)) at (commandsBytes (spareNow (settingMeant g) (outcomeMeant o))) (now (out .exit)) r ⌝ }
+    ensures { λ r. ⌜ Puts (now (out .entry)) at (commandsBytes (spareNow g o)) (now (out .exit)) r ⌝ }
 {
     match o {
         Outcome::Accepted => put_spare(out, at, g),
@@ -182,8 +183,8 @@ fn put_spare_now(out: &mut [u8], at: usize, g: Setting, o: Outcome) -> usize
 
 // The generation of a current record.
 fn number_now(g: Setting, o: Outcome) -> u32
-    requires { ⌜ InRange (settingMeant g) ⌝ }
-    ensures { λ r. ⌜ r ≡ numberNow (settingMeant g) (outcomeMeant o) ⌝ }
+    requires { ⌜ InRange g ⌝ }
+    ensures { λ r. ⌜ r ≡ generationNow o (g .generation) ⌝ }
 {
     match o {
         Outcome::Accepted => g.generation + 1,
@@ -197,11 +198,11 @@ fn number_now(g: Setting, o: Outcome) -> u32
 
 // Puts a record from the shared commands on.
 fn put_rest(out: &mut [u8], at: usize, g: Setting, n: u32, o: Outcome) -> usize
-    requires { ⌜ InRange (settingMeant g) ⌝ }
-    ensures { λ r. ⌜ Puts (now (out .entry)) at (restBytes (settingMeant g) n (editedRows (settingMeant g) (outcomeMeant o))) (now (out .exit)) r ⌝ }
+    requires { ⌜ InRange g ⌝ }
+    ensures { λ r. ⌜ Puts (now (out .entry)) at (restBytes g n (editedFields g o)) (now (out .exit)) r ⌝ }
 {
     let a = put_shared(out, at);
-    let name = struct_text(g.tails, g.root);
+    let name = struct_text(g.lengths, g.root);
     let b = put_version(out, a, name, n);
     let c = put_all(out, b, g, o);
     put_stop(out, c)
@@ -209,10 +210,10 @@ fn put_rest(out: &mut [u8], at: usize, g: Setting, n: u32, o: Outcome) -> usize
 
 // Puts the released record's stream.
 pub fn put_released(out: &mut [u8], at: usize, g: Setting) -> usize
-    requires { ⌜ InRange (settingMeant g) ⌝ }
-    ensures { λ r. ⌜ Puts (now (out .entry)) at (streamOf (releasedCommands (settingMeant g))) (now (out .exit)) r ⌝ }
+    requires { ⌜ InRange g ⌝ }
+    ensures { λ r. ⌜ Puts (now (out .entry)) at (streamOf (releasedCommands g)) (now (out .exit)) r ⌝ }
 {
-    let release = was_text(g.era);
+    let release = was_text(g.releases);
     let a = put_start(out, at, release, g.generation);
     let b = put_spare(out, a, g);
     put_rest(out, b, g, g.generation, Outcome::ConstantGone)
@@ -220,10 +221,10 @@ pub fn put_released(out: &mut [u8], at: usize, g: Setting) -> usize
 
 // Puts the current record's stream.
 pub fn put_current(out: &mut [u8], at: usize, g: Setting, o: Outcome) -> usize
-    requires { ⌜ InRange (settingMeant g) ⌝ }
-    ensures { λ r. ⌜ Puts (now (out .entry)) at (streamOf (currentCommands (settingMeant g) (outcomeMeant o))) (now (out .exit)) r ⌝ }
+    requires { ⌜ InRange g ⌝ }
+    ensures { λ r. ⌜ Puts (now (out .entry)) at (streamOf (currentCommands g o)) (now (out .exit)) r ⌝ }
 {
-    let release = now_text(g.era);
+    let release = now_text(g.releases);
     let n = number_now(g, o);
     let a = put_start(out, at, release, n);
     let b = put_spare_now(out, a, g, o);

@@ -5,11 +5,9 @@ use Rattle.load.proofs.drawn.alias_text.Tie as tie
 use Rattle.load.proofs.drawn.alias_text.Reads as reads
 use Rattle.load.proofs.drawn.alias_text.Lts as lts
 
--- src/drawn.rt:41:9
 returns : tie.Need-returns
 returns c = search alias-0
 
--- src/drawn.rt:37:1
 returns-2 : tie.Need-returns-2
 returns-2 c = search alias-1
 

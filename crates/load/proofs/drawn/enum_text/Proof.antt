@@ -5,11 +5,9 @@ use Rattle.load.proofs.drawn.enum_text.Tie as tie
 use Rattle.load.proofs.drawn.enum_text.Reads as reads
 use Rattle.load.proofs.drawn.enum_text.Lts as lts
 
--- src/drawn.rt:32:9
 returns : tie.Need-returns
 returns c = search enum-0
 
--- src/drawn.rt:28:1
 returns-2 : tie.Need-returns-2
 returns-2 c = search enum-1
 

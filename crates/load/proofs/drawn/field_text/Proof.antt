@@ -6,31 +6,24 @@ use Rattle.load.proofs.drawn.field_text.Tie as tie
 use Rattle.load.proofs.drawn.field_text.Reads as reads
 use Rattle.load.proofs.drawn.field_text.Lts as lts
 
--- src/drawn.rt:127:23
 mul-t3 : tie.Need-mul-t3
 mul-t3 c = search needs
 
--- src/drawn.rt:127:17
 add-t4 : tie.Need-add-t4
 add-t4 c = search needs
 
--- src/drawn.rt:127:16
 cast-t5 : tie.Need-cast-t5
 cast-t5 c = search needs
 
--- src/drawn.rt:128:20
 add-t6 : tie.Need-add-t6
 add-t6 c = search needs
 
--- src/drawn.rt:128:15
 add-t8 : tie.Need-add-t8
 add-t8 c = search needs
 
--- src/drawn.rt:128:14
 cast-t9 : tie.Need-cast-t9
 cast-t9 c = search needs
 
--- src/drawn.rt:122:1
 returns : tie.Need-returns
 unfolding fieldText
 returns c = refl

@@ -5,19 +5,15 @@ use Rattle.load.proofs.drawn.now_text.Tie as tie
 use Rattle.load.proofs.drawn.now_text.Reads as reads
 use Rattle.load.proofs.drawn.now_text.Lts as lts
 
--- src/drawn.rt:95:9
 returns : tie.Need-returns
 returns c = search now-0
 
--- src/drawn.rt:98:9
 returns-2 : tie.Need-returns-2
 returns-2 c = search now-1
 
--- src/drawn.rt:101:9
 returns-3 : tie.Need-returns-3
 returns-3 c = search now-2
 
--- src/drawn.rt:91:1
 returns-4 : tie.Need-returns-4
 returns-4 c = search now-3
 

@@ -5,19 +5,15 @@ use Rattle.load.proofs.drawn.scalar_text.Tie as tie
 use Rattle.load.proofs.drawn.scalar_text.Reads as reads
 use Rattle.load.proofs.drawn.scalar_text.Lts as lts
 
--- src/drawn.rt:17:9
 returns : tie.Need-returns
 returns c = search scalar-0
 
--- src/drawn.rt:20:9
 returns-2 : tie.Need-returns-2
 returns-2 c = search scalar-1
 
--- src/drawn.rt:23:9
 returns-3 : tie.Need-returns-3
 returns-3 c = search scalar-2
 
--- src/drawn.rt:13:1
 returns-4 : tie.Need-returns-4
 returns-4 c = search scalar-3
 

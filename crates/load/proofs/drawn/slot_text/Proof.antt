@@ -5,15 +5,12 @@ use Rattle.load.proofs.drawn.slot_text.Tie as tie
 use Rattle.load.proofs.drawn.slot_text.Reads as reads
 use Rattle.load.proofs.drawn.slot_text.Lts as lts
 
--- src/drawn.rt:82:9
 returns : tie.Need-returns
 returns c = search slot-0
 
--- src/drawn.rt:85:9
 returns-2 : tie.Need-returns-2
 returns-2 c = search slot-1
 
--- src/drawn.rt:78:1
 returns-3 : tie.Need-returns-3
 returns-3 c = search slot-2
 

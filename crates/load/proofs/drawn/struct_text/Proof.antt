@@ -6,27 +6,21 @@ use Rattle.load.proofs.drawn.struct_text.Tie as tie
 use Rattle.load.proofs.drawn.struct_text.Reads as reads
 use Rattle.load.proofs.drawn.struct_text.Lts as lts
 
--- src/drawn.rt:52:20
 mul-t3 : tie.Need-mul-t3
 mul-t3 c = search needs
 
--- src/drawn.rt:52:19
 cast-t4 : tie.Need-cast-t4
 cast-t4 c = search needs
 
--- src/drawn.rt:52:47
 add-t5 : tie.Need-add-t5
 add-t5 c = search needs
 
--- src/drawn.rt:52:42
 add-t7 : tie.Need-add-t7
 add-t7 c = search needs
 
--- src/drawn.rt:52:41
 cast-t8 : tie.Need-cast-t8
 cast-t8 c = search needs
 
--- src/drawn.rt:47:1
 returns : tie.Need-returns
 unfolding structText
 returns c = refl

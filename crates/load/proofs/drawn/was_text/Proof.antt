@@ -5,19 +5,15 @@ use Rattle.load.proofs.drawn.was_text.Tie as tie
 use Rattle.load.proofs.drawn.was_text.Reads as reads
 use Rattle.load.proofs.drawn.was_text.Lts as lts
 
--- src/drawn.rt:110:9
 returns : tie.Need-returns
 returns c = search was-0
 
--- src/drawn.rt:113:9
 returns-2 : tie.Need-returns-2
 returns-2 c = search was-1
 
--- src/drawn.rt:116:9
 returns-3 : tie.Need-returns-3
 returns-3 c = search was-2
 
--- src/drawn.rt:106:1
 returns-4 : tie.Need-returns-4
 returns-4 c = search was-3
 

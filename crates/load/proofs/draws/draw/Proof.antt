@@ -4,19 +4,16 @@ use Rattle.load.proofs.draws.draw.Statement.{statement}
 use Rattle.load.proofs.draws.draw.Tie as tie
 use Rattle.load.proofs.draws.draw.Reads as reads
 use Rattle.load.proofs.draws.draw.Lts as lts
-use Rattle.load.proofs.draws.stepped.Reads as stepped-reads
+use Rattle.load.proofs.draws.seed_after.Reads as seed-after-reads
 
--- src/draws.rt:31:5
-stepped-requires : tie.Need-stepped-requires
-stepped-requires c κs = search needs
+seed-after-requires : tie.Need-seed-after-requires
+seed-after-requires c κs = search needs
 
--- src/draws.rt:31:5
 rem-result : tie.Need-rem-result
 rem-result c = search needs
 
--- src/draws.rt:27:1
 returns : tie.Need-returns
 returns c = (search draw-is, search draw-low)
 
 pub draw-spec : {M : Type 1} → statement M
-draw-spec = tie.close (tie.spec stepped-requires rem-result returns)
+draw-spec = tie.close (tie.spec seed-after-requires rem-result returns)

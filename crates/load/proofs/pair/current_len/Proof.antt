@@ -6,15 +6,12 @@ use Rattle.load.proofs.pair.current_len.Reads as reads
 use Rattle.load.proofs.pair.current_len.Lts as lts
 use Rattle.load.proofs.streams.put_current.Reads as put-current-reads
 
--- src/pair.rt:37:17
 slice-aggregate-put-current : tie.Need-slice-aggregate-put-current
 slice-aggregate-put-current c = search needs
 
--- src/pair.rt:37:5
 put-current-requires : tie.Need-put-current-requires
 put-current-requires c κs = search needs
 
--- src/pair.rt:32:1
 returns : tie.Need-returns
 returns c = current-measured _ (c .before .before .before .pre) _ _ _ _ (c .before .put-current .ensures)
 

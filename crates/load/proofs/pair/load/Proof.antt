@@ -7,83 +7,63 @@ use Rattle.load.proofs.pair.load.Reads as reads
 use Rattle.load.proofs.pair.load.Lts as lts
 use Rattle.load.proofs.pair.write_pair.Reads as write-pair-reads
 
--- src/pair.rt:125:9
 returns : tie.Need-returns
 returns c = search load-late
 
--- src/pair.rt:128:14
 write-pair-requires : tie.Need-write-pair-requires
 write-pair-requires c κs = search needs
 
--- src/pair.rt:129:15
 write-pair-requires-2 : tie.Need-write-pair-requires-2
 write-pair-requires-2 c κs = search needs
 
--- src/pair.rt:130:15
 write-pair-requires-3 : tie.Need-write-pair-requires-3
 write-pair-requires-3 c κs = search needs
 
--- src/pair.rt:131:15
 write-pair-requires-4 : tie.Need-write-pair-requires-4
 write-pair-requires-4 c κs = search needs
 
--- src/pair.rt:132:15
 write-pair-requires-5 : tie.Need-write-pair-requires-5
 write-pair-requires-5 c κs = search needs
 
--- src/pair.rt:133:15
 write-pair-requires-6 : tie.Need-write-pair-requires-6
 write-pair-requires-6 c κs = search needs
 
--- src/pair.rt:115:1
 same-length : tie.Need-same-length
 same-length c = search needs
 
--- src/pair.rt:115:1
 returns-2 : tie.Need-returns-2
 returns-2 c = search load-0
 
--- src/pair.rt:115:1
 same-length-2 : tie.Need-same-length-2
 same-length-2 c = search needs
 
--- src/pair.rt:115:1
 returns-3 : tie.Need-returns-3
 returns-3 c = search load-20
 
--- src/pair.rt:115:1
 same-length-3 : tie.Need-same-length-3
 same-length-3 c = search needs
 
--- src/pair.rt:115:1
 returns-4 : tie.Need-returns-4
 returns-4 c = search load-34
 
--- src/pair.rt:115:1
 same-length-4 : tie.Need-same-length-4
 same-length-4 c = search needs
 
--- src/pair.rt:115:1
 returns-5 : tie.Need-returns-5
 returns-5 c = search load-35
 
--- src/pair.rt:115:1
 same-length-5 : tie.Need-same-length-5
 same-length-5 c = search needs
 
--- src/pair.rt:115:1
 returns-6 : tie.Need-returns-6
 returns-6 c = search load-36
 
--- src/pair.rt:115:1
 same-length-6 : tie.Need-same-length-6
 same-length-6 c = search needs
 
--- src/pair.rt:115:1
 returns-7 : tie.Need-returns-7
 returns-7 c = search load-43
 
--- src/pair.rt:115:1
 returns-8 : tie.Need-returns-8
 returns-8 c = let m = c .match .rest in load-unknown _ _ _ (omega arith) (m .0 .0 .0 .0 .0 .1) (m .0 .0 .0 .0 .1) (m .0 .0 .0 .1) (m .0 .0 .1) (m .0 .1) (m .1)
 

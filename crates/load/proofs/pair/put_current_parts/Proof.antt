@@ -8,23 +8,18 @@ use Rattle.load.proofs.pair.put_len.Reads as put-len-reads
 use Rattle.load.proofs.pair.put_pool.Reads as put-pool-reads
 use Rattle.load.proofs.streams.put_current.Reads as put-current-reads
 
--- src/pair.rt:74:9
 put-len-requires : tie.Need-put-len-requires
 put-len-requires c κs = search needs
 
--- src/pair.rt:75:9
 put-current-requires : tie.Need-put-current-requires
 put-current-requires c κs = search needs
 
--- src/pair.rt:76:5
 put-pool-requires : tie.Need-put-pool-requires
 put-pool-requires c κs = search needs
 
--- src/pair.rt:70:1
 same-length : tie.Need-same-length
 same-length c = search needs
 
--- src/pair.rt:70:1
 returns : tie.Need-returns
 returns c = search parts-put
 

@@ -10,23 +10,18 @@ use Rattle.load.proofs.pair.put_pool.Lts as lts
 use Rattle.load.proofs.pair.put_len.Reads as put-len-reads
 use Rattle.record.proofs.writer.put.Reads as put-reads
 
--- src/pair.rt:61:9
 put-len-requires : tie.Need-put-len-requires
 put-len-requires c κs = search needs
 
--- src/pair.rt:65:9
 slice-aggregate-put : tie.Need-slice-aggregate-put
 slice-aggregate-put c = search needs
 
--- src/pair.rt:62:5
 put-requires : tie.Need-put-requires
 put-requires c κs = search needs
 
--- src/pair.rt:58:1
 same-length : tie.Need-same-length
 same-length c = search needs
 
--- src/pair.rt:58:1
 returns : tie.Need-returns
 unfolding W.pool W.structNames W.fieldNames W.kindTexts W.wordTexts bytes
 returns c = pool-put _ _ _ _ _ _ _ (c .before .before .before .before .before .before .before .put-len .ensures) (c .before .before .put .ensures) refl

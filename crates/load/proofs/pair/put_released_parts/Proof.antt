@@ -8,23 +8,18 @@ use Rattle.load.proofs.pair.put_len.Reads as put-len-reads
 use Rattle.load.proofs.pair.put_pool.Reads as put-pool-reads
 use Rattle.load.proofs.streams.put_released.Reads as put-released-reads
 
--- src/pair.rt:83:9
 put-len-requires : tie.Need-put-len-requires
 put-len-requires c κs = search needs
 
--- src/pair.rt:84:9
 put-released-requires : tie.Need-put-released-requires
 put-released-requires c κs = search needs
 
--- src/pair.rt:85:5
 put-pool-requires : tie.Need-put-pool-requires
 put-pool-requires c κs = search needs
 
--- src/pair.rt:79:1
 same-length : tie.Need-same-length
 same-length c = search needs
 
--- src/pair.rt:79:1
 returns : tie.Need-returns
 returns c = search parts-put
 

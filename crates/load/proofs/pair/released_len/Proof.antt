@@ -6,15 +6,12 @@ use Rattle.load.proofs.pair.released_len.Reads as reads
 use Rattle.load.proofs.pair.released_len.Lts as lts
 use Rattle.load.proofs.streams.put_released.Reads as put-released-reads
 
--- src/pair.rt:29:18
 slice-aggregate-put-released : tie.Need-slice-aggregate-put-released
 slice-aggregate-put-released c = search needs
 
--- src/pair.rt:29:5
 put-released-requires : tie.Need-put-released-requires
 put-released-requires c κs = search needs
 
--- src/pair.rt:24:1
 returns : tie.Need-returns
 returns c = released-measured _ (c .before .before .before .pre) _ _ _ (c .before .put-released .ensures)
 

@@ -10,43 +10,33 @@ use Rattle.load.proofs.pair.put_released_parts.Reads as put-released-pa
 use Rattle.load.proofs.pair.released_len.Reads as released-len-reads
 use Rattle.load.proofs.settings.draw_setting.Reads as draw-setting-reads
 
--- src/pair.rt:92:9
 draw-setting-requires : tie.Need-draw-setting-requires
 draw-setting-requires c κs = search needs
 
--- src/pair.rt:93:9
 current-len-requires : tie.Need-current-len-requires
 current-len-requires c κs = search needs
 
--- src/pair.rt:94:9
 released-len-requires : tie.Need-released-len-requires
 released-len-requires c κs = search needs
 
--- src/pair.rt:95:15
 add-len : tie.Need-add-len
 add-len c = search needs
 
--- src/pair.rt:95:15
 add-len-2 : tie.Need-add-len-2
 add-len-2 c = search needs
 
--- src/pair.rt:97:9
 returns : tie.Need-returns
 returns c = search pair-no-room
 
--- src/pair.rt:104:9
 put-current-parts-requires : tie.Need-put-current-parts-requires
 put-current-parts-requires c κs = search needs
 
--- src/pair.rt:105:5
 put-released-parts-requires : tie.Need-put-released-parts-requires
 put-released-parts-requires c κs = search needs
 
--- src/pair.rt:89:1
 same-length : tie.Need-same-length
 same-length c = search needs
 
--- src/pair.rt:89:1
 returns-2 : tie.Need-returns-2
 returns-2 c = search pair-written
 

@@ -7,19 +7,15 @@ use Rattle.load.proofs.root.put_added.Lts as lts
 use Rattle.load.proofs.drawn.scalar_text.Reads as scalar-text-reads
 use Rattle.load.proofs.root.put_scalar.Reads as put-scalar-reads
 
--- src/root.rt:74:9
 scalar-text-requires : tie.Need-scalar-text-requires
 scalar-text-requires c κs = search needs
 
--- src/root.rt:75:5
 put-scalar-requires : tie.Need-put-scalar-requires
 put-scalar-requires c κs = search needs
 
--- src/root.rt:70:1
 same-length : tie.Need-same-length
 same-length c = search needs
 
--- src/root.rt:70:1
 returns : tie.Need-returns
 returns c = search added-put
 

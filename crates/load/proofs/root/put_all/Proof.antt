@@ -8,23 +8,18 @@ use Rattle.load.proofs.root.put_after.Reads as put-after-reads
 use Rattle.load.proofs.root.put_before.Reads as put-before-reads
 use Rattle.load.proofs.root.put_root.Reads as put-root-reads
 
--- src/root.rt:177:9
 put-before-requires : tie.Need-put-before-requires
 put-before-requires c κs = search needs
 
--- src/root.rt:178:9
 put-root-requires : tie.Need-put-root-requires
 put-root-requires c κs = search needs
 
--- src/root.rt:179:5
 put-after-requires : tie.Need-put-after-requires
 put-after-requires c κs = search needs
 
--- src/root.rt:173:1
 same-length : tie.Need-same-length
 same-length c = search needs
 
--- src/root.rt:173:1
 returns : tie.Need-returns
 returns c = search all-put
 

@@ -6,15 +6,12 @@ use Rattle.load.proofs.root.put_before.Reads as reads
 use Rattle.load.proofs.root.put_before.Lts as lts
 use Rattle.load.proofs.structures.put_structs.Reads as put-structs-reads
 
--- src/root.rt:160:5
 put-structs-requires : tie.Need-put-structs-requires
 put-structs-requires c κs = search needs
 
--- src/root.rt:156:1
 same-length : tie.Need-same-length
 same-length c = search needs
 
--- src/root.rt:156:1
 returns : tie.Need-returns
 returns c = search before-put
 

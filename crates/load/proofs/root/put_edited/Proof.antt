@@ -9,27 +9,21 @@ use Rattle.load.proofs.root.put_front.Reads as put-front-reads
 use Rattle.load.proofs.root.put_last.Reads as put-last-reads
 use Rattle.load.proofs.root.put_middle.Reads as put-middle-reads
 
--- src/root.rt:134:9
 put-front-requires : tie.Need-put-front-requires
 put-front-requires c κs = search needs
 
--- src/root.rt:135:9
 put-middle-requires : tie.Need-put-middle-requires
 put-middle-requires c κs = search needs
 
--- src/root.rt:136:9
 put-back-requires : tie.Need-put-back-requires
 put-back-requires c κs = search needs
 
--- src/root.rt:137:5
 put-last-requires : tie.Need-put-last-requires
 put-last-requires c κs = search needs
 
--- src/root.rt:130:1
 same-length : tie.Need-same-length
 same-length c = search needs
 
--- src/root.rt:130:1
 returns : tie.Need-returns
 returns c = search edited-put
 

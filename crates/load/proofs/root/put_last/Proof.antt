@@ -7,99 +7,75 @@ use Rattle.load.proofs.root.put_last.Lts as lts
 use Rattle.load.proofs.root.put_added.Reads as put-added-reads
 use Rattle.load.proofs.structures.put_none.Reads as put-none-reads
 
--- src/root.rt:103:40
 enum-told : tie.Need-enum-told
 enum-told c = search needs
 
--- src/root.rt:103:30
 put-added-requires : tie.Need-put-added-requires
 put-added-requires c κs = search needs
 
--- src/root.rt:104:43
 enum-told-2 : tie.Need-enum-told-2
 enum-told-2 c = search needs
 
--- src/root.rt:104:34
 put-none-requires : tie.Need-put-none-requires
 put-none-requires c κs = search needs
 
--- src/root.rt:105:40
 enum-told-3 : tie.Need-enum-told-3
 enum-told-3 c = search needs
 
--- src/root.rt:105:31
 put-none-requires-2 : tie.Need-put-none-requires-2
 put-none-requires-2 c κs = search needs
 
--- src/root.rt:106:41
 enum-told-4 : tie.Need-enum-told-4
 enum-told-4 c = search needs
 
--- src/root.rt:106:32
 put-none-requires-3 : tie.Need-put-none-requires-3
 put-none-requires-3 c κs = search needs
 
--- src/root.rt:107:43
 enum-told-5 : tie.Need-enum-told-5
 enum-told-5 c = search needs
 
--- src/root.rt:107:34
 put-none-requires-4 : tie.Need-put-none-requires-4
 put-none-requires-4 c κs = search needs
 
--- src/root.rt:108:40
 enum-told-6 : tie.Need-enum-told-6
 enum-told-6 c = search needs
 
--- src/root.rt:108:30
 put-added-requires-2 : tie.Need-put-added-requires-2
 put-added-requires-2 c κs = search needs
 
--- src/root.rt:98:1
 same-length : tie.Need-same-length
 same-length c = search needs
 
--- src/root.rt:98:1
 returns : tie.Need-returns
 returns c = search last-accepted
 
--- src/root.rt:98:1
 same-length-2 : tie.Need-same-length-2
 same-length-2 c = search needs
 
--- src/root.rt:98:1
 returns-2 : tie.Need-returns-2
 returns-2 c = search last-constant
 
--- src/root.rt:98:1
 same-length-3 : tie.Need-same-length-3
 same-length-3 c = search needs
 
--- src/root.rt:98:1
 returns-3 : tie.Need-returns-3
 returns-3 c = search last-gone
 
--- src/root.rt:98:1
 same-length-4 : tie.Need-same-length-4
 same-length-4 c = search needs
 
--- src/root.rt:98:1
 returns-4 : tie.Need-returns-4
 returns-4 c = search last-moved
 
--- src/root.rt:98:1
 same-length-5 : tie.Need-same-length-5
 same-length-5 c = search needs
 
--- src/root.rt:98:1
 returns-5 : tie.Need-returns-5
 returns-5 c = search last-resized
 
--- src/root.rt:98:1
 same-length-6 : tie.Need-same-length-6
 same-length-6 c = search needs
 
--- src/root.rt:98:1
 returns-6 : tie.Need-returns-6
 returns-6 c = search last-unraised
 

@@ -7,29 +7,23 @@ use Rattle.load.proofs.root.put_root.Lts as lts
 use Rattle.load.proofs.drawn.slot_text.Reads as slot-text-reads
 use Rattle.load.proofs.drawn.struct_text.Reads as struct-text-reads
 use Rattle.load.proofs.root.put_edited.Reads as put-edited-reads
-use Rattle.load.proofs.rows.put_struct.Reads as put-struct-reads
+use Rattle.load.proofs.commands.put_struct.Reads as put-struct-reads
 
--- src/root.rt:129:9
 struct-text-requires : tie.Need-struct-text-requires
 struct-text-requires c κs = search needs
 
--- src/root.rt:130:9
 slot-text-requires : tie.Need-slot-text-requires
 slot-text-requires c κs = search needs
 
--- src/root.rt:135:9
 put-struct-requires : tie.Need-put-struct-requires
 put-struct-requires c κs = search needs
 
--- src/root.rt:136:5
 put-edited-requires : tie.Need-put-edited-requires
 put-edited-requires c κs = search needs
 
--- src/root.rt:125:1
 same-length : tie.Need-same-length
 same-length c = search needs
 
--- src/root.rt:125:1
 returns : tie.Need-returns
 returns c = search root-put
 

@@ -5,67 +5,52 @@ use Rattle.load.proofs.settings.draw_setting.Tie as tie
 use Rattle.load.proofs.settings.draw_setting.Reads as reads
 use Rattle.load.proofs.settings.draw_setting.Lts as lts
 use Rattle.load.proofs.draws.draw.Reads as draw-reads
-use Rattle.load.proofs.draws.stepped.Reads as stepped-reads
+use Rattle.load.proofs.draws.seed_after.Reads as seed-after-reads
 
--- src/settings.rt:27:19
 draw-requires : tie.Need-draw-requires
 draw-requires c κs = search needs
 
--- src/settings.rt:27:19
 add-structs : tie.Need-add-structs
 add-structs c = search needs
 
--- src/settings.rt:28:18
 draw-requires-2 : tie.Need-draw-requires-2
 draw-requires-2 c κs = search needs
 
--- src/settings.rt:28:18
 add-fields : tie.Need-add-fields
 add-fields c = search needs
 
--- src/settings.rt:29:9
 draw-requires-3 : tie.Need-draw-requires-3
 draw-requires-3 c κs = search needs
 
--- src/settings.rt:30:9
 draw-requires-4 : tie.Need-draw-requires-4
 draw-requires-4 c κs = search needs
 
--- src/settings.rt:31:9
 draw-requires-5 : tie.Need-draw-requires-5
 draw-requires-5 c κs = search needs
 
--- src/settings.rt:32:9
 draw-requires-6 : tie.Need-draw-requires-6
 draw-requires-6 c κs = search needs
 
--- src/settings.rt:33:9
 draw-requires-7 : tie.Need-draw-requires-7
 draw-requires-7 c κs = search needs
 
--- src/settings.rt:34:9
 draw-requires-8 : tie.Need-draw-requires-8
 draw-requires-8 c κs = search needs
 
--- src/settings.rt:35:9
 draw-requires-9 : tie.Need-draw-requires-9
 draw-requires-9 c κs = search needs
 
--- src/settings.rt:36:9
 draw-requires-10 : tie.Need-draw-requires-10
 draw-requires-10 c κs = search needs
 
--- src/settings.rt:37:9
 draw-requires-11 : tie.Need-draw-requires-11
 draw-requires-11 c κs = search needs
 
--- src/settings.rt:38:9
-stepped-requires : tie.Need-stepped-requires
-stepped-requires c κs = search needs
+seed-after-requires : tie.Need-seed-after-requires
+seed-after-requires c κs = search needs
 
--- src/settings.rt:24:1
 returns : tie.Need-returns
-returns c = setting-drawn _ _ _ _ _ _ _ _ _ _ _ _ _ (c .before .before .before .before .before .before .before .before .before .before .before .draw .ensures .0) (c .before .before .before .before .before .before .before .before .before .before .draw2 .ensures .0) (c .before .before .before .before .before .before .before .before .before .draw3 .ensures .0) (c .before .before .before .before .before .before .before .before .draw4 .ensures .0) (c .before .before .before .before .before .before .before .draw5 .ensures .0) (c .before .before .before .before .before .before .draw6 .ensures .0) (c .before .before .before .before .before .draw7 .ensures .0) (c .before .before .before .before .draw8 .ensures .0) (c .before .before .before .draw9 .ensures .0) (c .before .before .draw10 .ensures .0) (c .before .draw11 .ensures .0) (c .stepped .ensures)
+returns c = setting-drawn _ _ _ _ _ _ _ _ _ _ _ _ _ (c .before .before .before .before .before .before .before .before .before .before .before .draw .ensures .0) (c .before .before .before .before .before .before .before .before .before .before .draw2 .ensures .0) (c .before .before .before .before .before .before .before .before .before .draw3 .ensures .0) (c .before .before .before .before .before .before .before .before .draw4 .ensures .0) (c .before .before .before .before .before .before .before .draw5 .ensures .0) (c .before .before .before .before .before .before .draw6 .ensures .0) (c .before .before .before .before .before .draw7 .ensures .0) (c .before .before .before .before .draw8 .ensures .0) (c .before .before .before .draw9 .ensures .0) (c .before .before .draw10 .ensures .0) (c .before .draw11 .ensures .0) (c .seed-after .ensures)
 
 pub draw-setting-spec : {M : Type 1} → statement M
 draw-setting-spec =
@@ -84,5 +69,5 @@ draw-setting-spec =
     draw-requires-9
     draw-requires-10
     draw-requires-11
-    stepped-requires
+    seed-after-requires
     returns)

@@ -5,55 +5,42 @@ use Rattle.load.proofs.streams.number_now.Tie as tie
 use Rattle.load.proofs.streams.number_now.Reads as reads
 use Rattle.load.proofs.streams.number_now.Lts as lts
 
--- src/streams.rt:162:30
 enum-told : tie.Need-enum-told
 enum-told c = search needs
 
--- src/streams.rt:162:30
 add-result : tie.Need-add-result
 add-result c = search needs
 
--- src/streams.rt:163:34
 enum-told-2 : tie.Need-enum-told-2
 enum-told-2 c = search needs
 
--- src/streams.rt:164:31
 enum-told-3 : tie.Need-enum-told-3
 enum-told-3 c = search needs
 
--- src/streams.rt:165:32
 enum-told-4 : tie.Need-enum-told-4
 enum-told-4 c = search needs
 
--- src/streams.rt:166:34
 enum-told-5 : tie.Need-enum-told-5
 enum-told-5 c = search needs
 
--- src/streams.rt:167:30
 enum-told-6 : tie.Need-enum-told-6
 enum-told-6 c = search needs
 
--- src/streams.rt:157:1
 returns : tie.Need-returns
 returns c = search number-accepted
 
--- src/streams.rt:157:1
 returns-2 : tie.Need-returns-2
 returns-2 c = search number-constant
 
--- src/streams.rt:157:1
 returns-3 : tie.Need-returns-3
 returns-3 c = search number-gone
 
--- src/streams.rt:157:1
 returns-4 : tie.Need-returns-4
 returns-4 c = search number-moved
 
--- src/streams.rt:157:1
 returns-5 : tie.Need-returns-5
 returns-5 c = search number-resized
 
--- src/streams.rt:157:1
 returns-6 : tie.Need-returns-6
 returns-6 c = search number-unraised
 

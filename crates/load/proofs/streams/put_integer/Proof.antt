@@ -5,55 +5,43 @@ use Rattle.load.proofs.streams.put_integer.Statement.{statement}
 use Rattle.load.proofs.streams.put_integer.Tie as tie
 use Rattle.load.proofs.streams.put_integer.Reads as reads
 use Rattle.load.proofs.streams.put_integer.Lts as lts
-use Rattle.load.proofs.rows.high.Reads as high-reads
-use Rattle.load.proofs.rows.low.Reads as low-reads
+use Rattle.load.proofs.commands.high.Reads as high-reads
+use Rattle.load.proofs.commands.low.Reads as low-reads
 use Rattle.record.proofs.writer.put.Reads as put-reads
 
--- src/streams.rt:43:13
 low-requires : tie.Need-low-requires
 low-requires c κs = search needs
 
--- src/streams.rt:44:13
 high-requires : tie.Need-high-requires
 high-requires c κs = search needs
 
--- src/streams.rt:47:13
 cast-t13 : tie.Need-cast-t13
 cast-t13 c = search needs
 
--- src/streams.rt:48:13
 cast-t16 : tie.Need-cast-t16
 cast-t16 c = search needs
 
--- src/streams.rt:49:13
 cast-t19 : tie.Need-cast-t19
 cast-t19 c = search needs
 
--- src/streams.rt:50:13
 cast-t21 : tie.Need-cast-t21
 cast-t21 c = search needs
 
--- src/streams.rt:59:13
 low-requires-2 : tie.Need-low-requires-2
 low-requires-2 c κs = search needs
 
--- src/streams.rt:60:13
 high-requires-2 : tie.Need-high-requires-2
 high-requires-2 c κs = search needs
 
--- src/streams.rt:41:9
 slice-aggregate-put : tie.Need-slice-aggregate-put
 slice-aggregate-put c = search needs
 
--- src/streams.rt:38:5
 put-requires : tie.Need-put-requires
 put-requires c κs = search needs
 
--- src/streams.rt:35:1
 same-length : tie.Need-same-length
 same-length c = search needs
 
--- src/streams.rt:35:1
 returns : tie.Need-returns
 returns c = search (puts-as, integer-put)
 

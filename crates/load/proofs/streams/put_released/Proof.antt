@@ -9,27 +9,21 @@ use Rattle.load.proofs.streams.put_rest.Reads as put-rest-reads
 use Rattle.load.proofs.streams.put_spare.Reads as put-spare-reads
 use Rattle.load.proofs.streams.put_start.Reads as put-start-reads
 
--- src/streams.rt:188:9
 was-text-requires : tie.Need-was-text-requires
 was-text-requires c κs = search needs
 
--- src/streams.rt:189:9
 put-start-requires : tie.Need-put-start-requires
 put-start-requires c κs = search needs
 
--- src/streams.rt:190:9
 put-spare-requires : tie.Need-put-spare-requires
 put-spare-requires c κs = search needs
 
--- src/streams.rt:191:5
 put-rest-requires : tie.Need-put-rest-requires
 put-rest-requires c κs = search needs
 
--- src/streams.rt:184:1
 same-length : tie.Need-same-length
 same-length c = search needs
 
--- src/streams.rt:184:1
 returns : tie.Need-returns
 returns c = search released-put
 

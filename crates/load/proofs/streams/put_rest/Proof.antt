@@ -10,31 +10,24 @@ use Rattle.load.proofs.streams.put_shared.Reads as put-shared-reads
 use Rattle.load.proofs.streams.put_stop.Reads as put-stop-reads
 use Rattle.load.proofs.streams.put_version.Reads as put-version-reads
 
--- src/streams.rt:176:9
 put-shared-requires : tie.Need-put-shared-requires
 put-shared-requires c κs = search needs
 
--- src/streams.rt:177:9
 struct-text-requires : tie.Need-struct-text-requires
 struct-text-requires c κs = search needs
 
--- src/streams.rt:178:9
 put-version-requires : tie.Need-put-version-requires
 put-version-requires c κs = search needs
 
--- src/streams.rt:179:9
 put-all-requires : tie.Need-put-all-requires
 put-all-requires c κs = search needs
 
--- src/streams.rt:180:5
 put-stop-requires : tie.Need-put-stop-requires
 put-stop-requires c κs = search needs
 
--- src/streams.rt:172:1
 same-length : tie.Need-same-length
 same-length c = search needs
 
--- src/streams.rt:172:1
 returns : tie.Need-returns
 returns c = search rest-put
 

@@ -7,19 +7,15 @@ use Rattle.load.proofs.streams.put_shared.Reads as reads
 use Rattle.load.proofs.streams.put_shared.Lts as lts
 use Rattle.record.proofs.writer.put.Reads as put-reads
 
--- src/streams.rt:93:9
 slice-aggregate-put : tie.Need-slice-aggregate-put
 slice-aggregate-put c = search needs
 
--- src/streams.rt:90:5
 put-requires : tie.Need-put-requires
 put-requires c κs = search needs
 
--- src/streams.rt:87:1
 same-length : tie.Need-same-length
 same-length c = search needs
 
--- src/streams.rt:87:1
 returns : tie.Need-returns
 unfolding sharedBytes integerBytes vendorBytes commandsBytes sharedCommands
 returns c = c .before .before .put .ensures

@@ -7,99 +7,75 @@ use Rattle.load.proofs.streams.put_spare_now.Lts as lts
 use Rattle.load.proofs.streams.put_spare.Reads as put-spare-reads
 use Rattle.load.proofs.structures.put_none.Reads as put-none-reads
 
--- src/streams.rt:147:40
 enum-told : tie.Need-enum-told
 enum-told c = search needs
 
--- src/streams.rt:147:30
 put-spare-requires : tie.Need-put-spare-requires
 put-spare-requires c κs = search needs
 
--- src/streams.rt:148:43
 enum-told-2 : tie.Need-enum-told-2
 enum-told-2 c = search needs
 
--- src/streams.rt:148:34
 put-none-requires : tie.Need-put-none-requires
 put-none-requires c κs = search needs
 
--- src/streams.rt:149:41
 enum-told-3 : tie.Need-enum-told-3
 enum-told-3 c = search needs
 
--- src/streams.rt:149:31
 put-spare-requires-2 : tie.Need-put-spare-requires-2
 put-spare-requires-2 c κs = search needs
 
--- src/streams.rt:150:42
 enum-told-4 : tie.Need-enum-told-4
 enum-told-4 c = search needs
 
--- src/streams.rt:150:32
 put-spare-requires-3 : tie.Need-put-spare-requires-3
 put-spare-requires-3 c κs = search needs
 
--- src/streams.rt:151:44
 enum-told-5 : tie.Need-enum-told-5
 enum-told-5 c = search needs
 
--- src/streams.rt:151:34
 put-spare-requires-4 : tie.Need-put-spare-requires-4
 put-spare-requires-4 c κs = search needs
 
--- src/streams.rt:152:40
 enum-told-6 : tie.Need-enum-told-6
 enum-told-6 c = search needs
 
--- src/streams.rt:152:30
 put-spare-requires-5 : tie.Need-put-spare-requires-5
 put-spare-requires-5 c κs = search needs
 
--- src/streams.rt:143:1
 same-length : tie.Need-same-length
 same-length c = search needs
 
--- src/streams.rt:143:1
 returns : tie.Need-returns
 returns c = search spare-accepted
 
--- src/streams.rt:143:1
 same-length-2 : tie.Need-same-length-2
 same-length-2 c = search needs
 
--- src/streams.rt:143:1
 returns-2 : tie.Need-returns-2
 returns-2 c = search spare-constant
 
--- src/streams.rt:143:1
 same-length-3 : tie.Need-same-length-3
 same-length-3 c = search needs
 
--- src/streams.rt:143:1
 returns-3 : tie.Need-returns-3
 returns-3 c = search spare-gone
 
--- src/streams.rt:143:1
 same-length-4 : tie.Need-same-length-4
 same-length-4 c = search needs
 
--- src/streams.rt:143:1
 returns-4 : tie.Need-returns-4
 returns-4 c = search spare-moved
 
--- src/streams.rt:143:1
 same-length-5 : tie.Need-same-length-5
 same-length-5 c = search needs
 
--- src/streams.rt:143:1
 returns-5 : tie.Need-returns-5
 returns-5 c = search spare-resized
 
--- src/streams.rt:143:1
 same-length-6 : tie.Need-same-length-6
 same-length-6 c = search needs
 
--- src/streams.rt:143:1
 returns-6 : tie.Need-returns-6
 returns-6 c = search spare-unraised
 

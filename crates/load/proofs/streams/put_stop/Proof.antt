@@ -7,19 +7,15 @@ use Rattle.load.proofs.streams.put_stop.Reads as reads
 use Rattle.load.proofs.streams.put_stop.Lts as lts
 use Rattle.record.proofs.writer.put.Reads as put-reads
 
--- src/streams.rt:101:18
 slice-aggregate-put : tie.Need-slice-aggregate-put
 slice-aggregate-put c = search needs
 
--- src/streams.rt:101:5
 put-requires : tie.Need-put-requires
 put-requires c κs = search needs
 
--- src/streams.rt:98:1
 same-length : tie.Need-same-length
 same-length c = search needs
 
--- src/streams.rt:98:1
 returns : tie.Need-returns
 returns c = puts-as (c .before .before .put .ensures) stop-put
 

@@ -5,47 +5,37 @@ use Rattle.load.proofs.streams.put_version.Statement.{statement}
 use Rattle.load.proofs.streams.put_version.Tie as tie
 use Rattle.load.proofs.streams.put_version.Reads as reads
 use Rattle.load.proofs.streams.put_version.Lts as lts
-use Rattle.load.proofs.rows.high.Reads as high-reads
-use Rattle.load.proofs.rows.low.Reads as low-reads
+use Rattle.load.proofs.commands.high.Reads as high-reads
+use Rattle.load.proofs.commands.low.Reads as low-reads
 use Rattle.record.proofs.writer.put.Reads as put-reads
 
--- src/streams.rt:75:13
 low-requires : tie.Need-low-requires
 low-requires c κs = search needs
 
--- src/streams.rt:76:13
 high-requires : tie.Need-high-requires
 high-requires c κs = search needs
 
--- src/streams.rt:78:13
 cast-t11 : tie.Need-cast-t11
 cast-t11 c = search needs
 
--- src/streams.rt:79:13
 cast-t14 : tie.Need-cast-t14
 cast-t14 c = search needs
 
--- src/streams.rt:80:13
 cast-t17 : tie.Need-cast-t17
 cast-t17 c = search needs
 
--- src/streams.rt:81:13
 cast-t19 : tie.Need-cast-t19
 cast-t19 c = search needs
 
--- src/streams.rt:73:9
 slice-aggregate-put : tie.Need-slice-aggregate-put
 slice-aggregate-put c = search needs
 
--- src/streams.rt:70:5
 put-requires : tie.Need-put-requires
 put-requires c κs = search needs
 
--- src/streams.rt:67:1
 same-length : tie.Need-same-length
 same-length c = search needs
 
--- src/streams.rt:67:1
 returns : tie.Need-returns
 returns c = search (puts-as, version-put)
 

@@ -6,7 +6,6 @@ use Rattle.load.proofs.structures.put_none.Tie as tie
 use Rattle.load.proofs.structures.put_none.Reads as reads
 use Rattle.load.proofs.structures.put_none.Lts as lts
 
--- src/structures.rt:18:1
 returns : tie.Need-returns
 returns c = puts-none _ _ (omega arith) (omega arith)
 
