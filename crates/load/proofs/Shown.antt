@@ -32,12 +32,12 @@ unfolding Draws.nextSeed
 seeds-next = refl
 
 -- below 32,768, then below 8 and below 16 as the two first draws are taken
-draws : ℕ → List ℕ
+abbrev draws : ℕ → List ℕ
 draws s = Draws.draw s 1 32768 ∷ Draws.draw s 2 32768 ∷ Draws.draw s 1 8 ∷ Draws.draw s 2 16 ∷ []
 
 pub first-draws : _≡_ {A = List (List ℕ)} (draws 0 ∷ draws 1 ∷ draws 2147483647 ∷ [])
     ((0 ∷ 21468 ∷ 0 ∷ 12 ∷ []) ∷ (16838 ∷ 5758 ∷ 6 ∷ 14 ∷ []) ∷ (15929 ∷ 4409 ∷ 1 ∷ 9 ∷ []) ∷ [])
-unfolding draws Draws.draw Draws.seedAfter Draws.nextSeed
+unfolding Draws.draw Draws.seedAfter Draws.nextSeed
 first-draws = refl
 
 -- structures, and fields of each, in the released record --------------------------------------------------------------------------------------------------------------

@@ -1,9 +1,10 @@
-// The exported calls, for programs in C and Rust: include/menqachu.h declares them. They are the calls of compare and layout, and have their contracts.
+// The exported calls, for programs in C and Rust: include/menqachu.h declares them. They are the calls of compare, layout and load, and have their contracts.
 use compare::check::check;
 use layout::answer::Answer;
 use layout::list::list_layouts;
 use layout::owner::OwnerFields;
 use layout::owner::ask_owner;
+use load::pair::load;
 use record::refusal::Side;
 ghost use mathlib.Core.Path.{_≡_};
 ghost use mathlib.Core.Bool.{cond};
@@ -14,6 +15,7 @@ ghost use Rattle.record.specs.declared.refusal.Side.the-variants.{Current, Rele
 ghost use Rattle.layout.specs.Answer.{list, Answered};
 ghost use Rattle.layout.specs.OwnerCall.{ownerFields, ownerAsked};
 ghost use Rattle.definition.specs.Answer.{check};
+ghost use Rattle.load.specs.Load.{load};
 
 // A current record against a released one.
 #[no_mangle]
@@ -51,4 +53,12 @@ pub extern "C" fn menqachu_owner(stream: &[u8], pool: &[u8], name: &[u8]) -> Own
     ensures { λ r. ⌜ r ≡ ownerFields (ownerAsked (rec (now (stream .entry)) (now (pool .entry)) builtIn) (now (name .entry))) ⌝ }
 {
     ask_owner(stream, pool, name).fields()
+}
+
+// A pair of records for a burn-in, whose check gives the wanted outcome.
+#[no_mangle]
+pub extern "C" fn menqachu_load(outcome: u32, seed: u32, out: &mut [u8]) -> Answer
+    ensures { λ r. ⌜ Answered (now (out .entry)) (now (out .exit)) (load (length (now (out .entry))) outcome seed) r ⌝ }
+{
+    load(outcome, seed, out)
 }
