@@ -76,6 +76,7 @@ unsafe extern "C" {
         name: *const u8,
         name_len: usize,
     ) -> OwnerAnswer;
+    fn menqachu_load(outcome: u32, seed: u32, out: *mut u8, out_len: usize) -> Answer;
 }
 
 /// Checks a current record against a released one; a verdict's message stands at the front of `out`.
@@ -128,4 +129,11 @@ pub fn owner(record: Record, name: &[u8]) -> Owner {
         return Owner::Nobody;
     }
     Owner::Named { start: answer.start as usize, len: answer.len as usize }
+}
+
+/// A pair of records whose check gives the wanted outcome, at the front of `out` as the check program's four parts;
+/// 61 for an outcome other than those of `record::pair::OUTCOMES`, or a seed above 2147483647.
+pub fn load(outcome: u32, seed: u32, out: &mut [u8]) -> Answer {
+    // SAFETY: the pointer comes with the length of its slice.
+    unsafe { menqachu_load(outcome, seed, out.as_mut_ptr(), out.len()) }
 }

@@ -6,7 +6,8 @@ use std::os::unix::ffi::OsStringExt;
 
 use common::run;
 
-const COMMANDS: [&str; 7] = ["check", "chain", "list", "owner", "diff", "assemble", "show"];
+const COMMANDS: [&str; 9] =
+    ["check", "chain", "list", "owner", "diff", "assemble", "show", "load", "burn-in"];
 
 #[test]
 fn help_of_the_whole() {
@@ -37,7 +38,7 @@ fn help_of_each_command() {
 
 #[test]
 fn no_command_and_unknown_commands() {
-    let commands = "the commands are check, chain, list, owner, diff, assemble and show\n\
+    let commands = "the commands are check, chain, list, owner, diff, assemble, show, load and burn-in\n\
                     `release --help` says what each does\n";
     assert_eq!(run::<&str>(&[]).complained(3), format!("release: expected a command\n{commands}"));
     let unknown = format!("release: expected a command, found chek\n{commands}");

@@ -4,10 +4,12 @@
 mod pool;
 mod shared;
 mod stream;
+mod summary;
 pub mod validate;
 
 use pool::{ABSENT, Text, field_name, pool, struct_name, text};
 use stream::{Field, Stream};
+pub use summary::summary;
 
 /// The outcomes that a pair can have.
 pub const OUTCOMES: [u32; 6] = [0, 20, 34, 35, 36, 43];
@@ -176,7 +178,10 @@ fn drawn_field(draws: &mut Draws, name: Text, lengths: usize, structs: usize) ->
         "enum" => Field::typed(name, word, text(["filter", "mode"][t % 2])),
         "type_alias" => Field::typed(name, word, text(["ticks", "well"][t % 2])),
         "bitfield" => Field::typed(name, word, text("flags")),
-        "inline_array" => Field { count: count(n), ..Field::element(name, word, scalar) },
+        "inline_array" => Field {
+            count: count(n),
+            ..Field::element(name, word, scalar)
+        },
         "inline_array2d" => Field {
             rows: count(n),
             cols: count(t),
@@ -186,7 +191,10 @@ fn drawn_field(draws: &mut Draws, name: Text, lengths: usize, structs: usize) ->
         "struct_array_ptr" | "struct_ptr_array_ptr" => Field::element(name, word, referred),
         "tagged_fam_ptr" => Field::typed(name, word, text("frame")),
         "simple_fam_ptr" => Field::typed(name, word, text("legacy")),
-        "padding" => Field { size: count(n), ..Field::new(name, word) },
+        "padding" => Field {
+            size: count(n),
+            ..Field::new(name, word)
+        },
         _ => Field::new(name, word),
     }
 }

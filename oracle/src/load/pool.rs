@@ -81,7 +81,10 @@ pub fn text(word: &str) -> Text {
     }
     let before = WORDS.split_whitespace().take_while(|other| *other != word);
     let start = names + KINDS.len() * KIND + before.map(str::len).sum::<usize>();
-    assert!(WORDS.split_whitespace().any(|other| other == word), "no such word: {word}");
+    assert!(
+        WORDS.split_whitespace().any(|other| other == word),
+        "no such word: {word}"
+    );
     (start as u16, length)
 }
 
@@ -90,7 +93,10 @@ pub fn struct_name(lengths: usize, index: usize) -> Text {
 }
 
 pub fn field_name(lengths: usize, index: usize) -> Text {
-    (((STRUCTS.len() + index) * NAME) as u16, length(lengths, index))
+    (
+        ((STRUCTS.len() + index) * NAME) as u16,
+        length(lengths, index),
+    )
 }
 
 fn length(lengths: usize, index: usize) -> u8 {

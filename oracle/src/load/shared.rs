@@ -39,8 +39,15 @@ fn aliases(stream: &mut Stream) {
 fn enums(stream: &mut Stream) {
     let dated = text("0.8.0");
     let filter = [("dark", 0, ABSENT), ("dapi", 1, dated), ("fitc", 2, ABSENT)];
-    let mode = [("idle", 0, ABSENT), ("scan", 1, ABSENT), ("fault", -1, ABSENT)];
-    for (name, size, api, since, values) in [("filter", 1, 1, dated, filter), ("mode", 2, 0, ABSENT, mode)] {
+    let mode = [
+        ("idle", 0, ABSENT),
+        ("scan", 1, ABSENT),
+        ("fault", -1, ABSENT),
+    ];
+    for (name, size, api, since, values) in [
+        ("filter", 1, 1, dated, filter),
+        ("mode", 2, 0, ABSENT, mode),
+    ] {
         stream.byte(4);
         stream.text(text(name));
         stream.number(size);
@@ -75,7 +82,10 @@ fn frame(stream: &mut Stream) {
     stream.field(&Field::typed(text("seq"), "scalar", text("u16")));
     variant(stream, "A");
     stream.field(&Field::typed(text("gain"), "scalar", text("u8")));
-    stream.field(&Field { size: Some(1), ..Field::new(text("gap"), "padding") });
+    stream.field(&Field {
+        size: Some(1),
+        ..Field::new(text("gap"), "padding")
+    });
     variant(stream, "B");
     stream.field(&Field {
         count: Some(3),

@@ -30,11 +30,17 @@ impl Field {
     }
 
     pub fn typed(name: Text, kind: &str, typ: Text) -> Self {
-        Field { typ, ..Field::new(name, kind) }
+        Field {
+            typ,
+            ..Field::new(name, kind)
+        }
     }
 
     pub fn element(name: Text, kind: &str, element: Text) -> Self {
-        Field { element, ..Field::new(name, kind) }
+        Field {
+            element,
+            ..Field::new(name, kind)
+        }
     }
 }
 

@@ -1,8 +1,6 @@
 //! What document 02 asks of a pair, judged from its bytes: the parts, the counts
 //! of the two first draws, the outcome that the Rust itself gives.
 
-use std::collections::BTreeSet;
-
 use super::Draws;
 use crate::answers::{self, ROOM};
 use crate::model::{Content, Side};
@@ -11,8 +9,7 @@ use crate::reader::read;
 /// What a pair was found to be.
 #[derive(Clone, Debug)]
 pub struct Judged {
-    /// The kinds of fields in the released record.
-    pub kinds: BTreeSet<String>,
+    pub released: Content,
     pub length: usize,
 }
 
@@ -20,14 +17,18 @@ pub struct Judged {
 pub fn judge(outcome: u32, seed: u32, pair: &[u8]) -> Result<Judged, String> {
     let amiss = |what: String| format!("seed {seed}, outcome {outcome}: {what}");
     let [now, now_pool, was, was_pool] = parts(pair).map_err(amiss)?;
-    read(Side::Current, now, now_pool).map_err(|refusal| amiss(format!("the current record: {refusal:?}")))?;
+    read(Side::Current, now, now_pool)
+        .map_err(|refusal| amiss(format!("the current record: {refusal:?}")))?;
     let released = read(Side::Released, was, was_pool)
         .map_err(|refusal| amiss(format!("the released record: {refusal:?}")))?
         .content;
     counts(seed, &released).map_err(amiss)?;
     let answer = answers::check(now, now_pool, was, was_pool, ROOM);
     match answer.number == outcome {
-        true => Ok(Judged { kinds: kinds(&released), length: pair.len() }),
+        true => Ok(Judged {
+            released,
+            length: pair.len(),
+        }),
         false => Err(amiss(format!("the Rust gives {}", answer.number))),
     }
 }
@@ -57,12 +58,10 @@ fn counts(seed: u32, released: &Content) -> Result<(), String> {
         return Err(format!("{found} structures where {structs} were drawn"));
     }
     match released.structs().find(|each| each.fields.len() != fields) {
-        Some(each) => Err(format!("{} fields where {fields} were drawn", each.fields.len())),
+        Some(each) => Err(format!(
+            "{} fields where {fields} were drawn",
+            each.fields.len()
+        )),
         None => Ok(()),
     }
-}
-
-fn kinds(released: &Content) -> BTreeSet<String> {
-    let fields = released.structs().flat_map(|each| &each.fields);
-    fields.map(|field| field.kind.clone()).collect()
 }

@@ -5,6 +5,7 @@ pub mod decode;
 pub mod encode;
 pub mod layout;
 pub mod numbers;
+pub mod pair;
 pub mod parts;
 pub mod room;
 

@@ -11,7 +11,7 @@ pub fn reason(number: u32) -> Option<&'static str> {
     REASONS.get(index).copied()
 }
 
-const WORDS: [(u32, &str); 47] = [
+const WORDS: [(u32, &str); 48] = [
     (0, "accepted"),
     (1, "cut"),
     (2, "unknown"),
@@ -59,6 +59,7 @@ const WORDS: [(u32, &str); 47] = [
     (44, "unlisted"),
     (45, "leapt"),
     (46, "fell"),
+    (61, "unfit"),
 ];
 
 const REASONS: [&str; 9] = [
