@@ -166,6 +166,7 @@ pub fn run() {
     }
     println!("{}", check(&inputs::deepest(), 41));
     println!("{}", owner(&inputs::deepest()));
+    crate::load::bench();
 }
 
 /// One call on one input so many times and nothing else, for a tool that counts what the code does; none where the words name

@@ -4,6 +4,7 @@
 //!     trials lists SEED COUNT            records drawn, listed as current and as released
 //!     trials owners SEED COUNT           records drawn, asked for owners
 //!     trials chains SEED COUNT           chains of offers, and what the last keeps of the first
+//!     trials load SEED COUNT             pairs of the load call, checked, and a share held to the model
 //!     trials memcheck SEED COUNT         the calls on blocks of exact lengths, to be run under valgrind
 //!     trials stack                       the smallest thread that suffices for the largest records
 //!     trials fuzz SECONDS SEED [FOLDER]  a search for pairs that differ; they are written to the folder
@@ -18,6 +19,7 @@ mod differ;
 mod fuzz;
 mod inputs;
 mod kept;
+mod load;
 mod memcheck;
 mod mutate;
 mod premises;
@@ -28,7 +30,7 @@ mod tally;
 use std::path::Path;
 use std::process::ExitCode;
 
-const USAGE: &str = "usage: trials checks SEED COUNT [LEAST] | trials lists|owners|chains|memcheck SEED COUNT
+const USAGE: &str = "usage: trials checks SEED COUNT [LEAST] | trials lists|owners|chains|load|memcheck SEED COUNT
        trials fuzz SECONDS SEED [FOLDER] | trials stack | trials bench | trials repeat check|list|owner INPUT TURNS";
 
 fn main() -> ExitCode {
@@ -63,6 +65,11 @@ fn run(words: &[&str]) -> Option<bool> {
             let chains = chains::run(number(1)?, number(2)?);
             println!("{chains}");
             Some(chains.tally.differ() == 0 && chains.lost == 0)
+        }
+        ("load", 3) => {
+            let load = load::run(number(1)?, number(2)?);
+            println!("{load}");
+            Some(load.tally.differ() == 0)
         }
         ("fuzz", 3 | 4) => {
             let folder = words.get(3).unwrap_or(&"found");

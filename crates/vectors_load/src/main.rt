@@ -89,7 +89,7 @@ fn place_of(kind: Kind) -> usize {
 // Counts the kinds of the fields from a place of a stream on; a stream has fewer than a thousand fields.
 fn count_kinds(stream: &[u8], pool: &[u8], from: usize, kinds: &mut [u64]) {
     let mut at = from;
-    let mut turns = 0;
+    let mut turns: u64 = 0;
     while turns < 1000 {
         let Sought::At(place, after) = seek(stream, at, 11, Between::Anything) else {
             return;
@@ -201,16 +201,13 @@ fn one(outcome: u32, seed: u32, found: Found, kinds: &mut [u64], lengths: &mut [
     mark(&mut out);
     let a = menqachu_load(outcome, seed, &mut out);
     let n = a.len;
-    if 16384 < n {
-        return found;
-    }
     if !is_answer(a, 0, n) {
         return found;
     }
     if !holds(cut::from(&out, n), b"") {
         return found;
     }
-    judge(outcome, seed, &out[..n], found, kinds, lengths)
+    judge(outcome, seed, cut::upto(&out, n), found, kinds, lengths)
 }
 
 fn print_count(n: u64) {
