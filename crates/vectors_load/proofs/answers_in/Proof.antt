@@ -14,7 +14,7 @@ array-borrow-prefix-out : tie.Need-array-borrow-prefix-out
 array-borrow-prefix-out c = search needs
 
 slice-aggregate-answers : tie.Need-slice-aggregate-answers
-slice-aggregate-answers c = cut-long _ _ (omega (arith, c .if .left))
+slice-aggregate-answers c = cut-long _ _ (omega (arith, c .before .if1 .left))
 
 answers-requires : tie.Need-answers-requires
 answers-requires c κs = search needs
