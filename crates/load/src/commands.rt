@@ -25,20 +25,20 @@ pub struct FieldCommand {
 }
 
 // The lower and the upper byte of a number of 16 bits.
-pub fn low(n: u16) -> u8
+pub(crate) fn low(n: u16) -> u8
     ensures { λ r. ⌜ r ≡ n % 256 ⌝ }
 {
     (n % 256) as u8
 }
 
-pub fn high(n: u16) -> u8
+pub(crate) fn high(n: u16) -> u8
     ensures { λ r. ⌜ r ≡ n / 256 ⌝ }
 {
     (n / 256) as u8
 }
 
 // Puts a structure's command.
-pub fn put_struct(out: &mut [u8], at: usize, name: Text, slot: Text, version: Text) -> usize
+pub(crate) fn put_struct(out: &mut [u8], at: usize, name: Text, slot: Text, version: Text) -> usize
     ensures { λ r. ⌜ Puts (now (out .entry)) at (structBytes (structCommand name slot version)) (now (out .exit)) r ⌝ }
 {
     put(
@@ -113,7 +113,7 @@ fn put_nums(out: &mut [u8], at: usize, f: FieldCommand) -> usize
 }
 
 // Puts a field's command.
-pub fn put_field(out: &mut [u8], at: usize, f: FieldCommand) -> usize
+pub(crate) fn put_field(out: &mut [u8], at: usize, f: FieldCommand) -> usize
     ensures { λ r. ⌜ Puts (now (out .entry)) at (fieldBytes f) (now (out .exit)) r ⌝ }
 {
     let a = put(out, at, &[11]);

@@ -12,7 +12,7 @@ ghost use Rattle.load.specs.Draws.{scalarText, retypedText, enumText, al
 ghost use Rattle.load.specs.Draws.{plainField, arrayField, gridField, paddingField, fieldAs, kindAt, fieldDrawn};
 
 // A scalar word by its number.
-pub fn scalar_text(n: u32) -> Text
+pub(crate) fn scalar_text(n: u32) -> Text
     ensures { λ r. ⌜ r ≡ scalarText n ⌝ }
 {
     if n == 0 {
@@ -46,7 +46,7 @@ fn alias_text(n: u32) -> Text
 }
 
 // A structure's name.
-pub fn struct_text(l: u32, i: u32) -> Text
+pub(crate) fn struct_text(l: u32, i: u32) -> Text
     requires { ⌜ (l < 14) ⌝ }
     requires { ⌜ (i < 8) ⌝ }
     ensures { λ r. ⌜ r ≡ structText l i ⌝ }
@@ -58,7 +58,7 @@ pub fn struct_text(l: u32, i: u32) -> Text
 }
 
 // A word of another size.
-pub fn retyped_text(n: u32) -> Text
+pub(crate) fn retyped_text(n: u32) -> Text
     ensures { λ r. ⌜ r ≡ retypedText n ⌝ }
 {
     if n == 0 {
@@ -74,7 +74,7 @@ pub fn retyped_text(n: u32) -> Text
 }
 
 // The root's slot.
-pub fn slot_text(n: u32) -> Text
+pub(crate) fn slot_text(n: u32) -> Text
     ensures { λ r. ⌜ r ≡ slotText n ⌝ }
 {
     if n == 0 {
@@ -87,7 +87,7 @@ pub fn slot_text(n: u32) -> Text
 }
 
 // The current release, and the released one.
-pub fn now_text(n: u32) -> Text
+pub(crate) fn now_text(n: u32) -> Text
     ensures { λ r. ⌜ r ≡ nowText n ⌝ }
 {
     if n == 0 {
@@ -102,7 +102,7 @@ pub fn now_text(n: u32) -> Text
     Text { start: 778, len: 6 }
 }
 
-pub fn was_text(n: u32) -> Text
+pub(crate) fn was_text(n: u32) -> Text
     ensures { λ r. ⌜ r ≡ wasText n ⌝ }
 {
     if n == 0 {
@@ -118,7 +118,7 @@ pub fn was_text(n: u32) -> Text
 }
 
 // A field's name.
-pub fn field_text(l: u32, i: u32) -> Text
+pub(crate) fn field_text(l: u32, i: u32) -> Text
     requires { ⌜ (l < 14) × (i < 19) ⌝ }
     ensures { λ r. ⌜ r ≡ fieldText l i ⌝ }
 {
@@ -273,7 +273,7 @@ fn padding(name: Text, n: u32) -> FieldCommand
 }
 
 // A field by its name, its kind's number, and two draws below 8; l has the lengths of names, a the number of structures.
-pub fn field_as(l: u32, a: u32, name: Text, k: u32, n: u32, t: u32) -> FieldCommand
+pub(crate) fn field_as(l: u32, a: u32, name: Text, k: u32, n: u32, t: u32) -> FieldCommand
     requires { ⌜ (l < 14) ⌝ }
     requires { ⌜ (0 < a) ⌝ }
     requires { ⌜ (a ≤ 8) ⌝ }
@@ -302,14 +302,14 @@ pub fn field_as(l: u32, a: u32, name: Text, k: u32, n: u32, t: u32) -> FieldComm
 }
 
 // A scalar field.
-pub fn scalar_field(name: Text, word: Text) -> FieldCommand
+pub(crate) fn scalar_field(name: Text, word: Text) -> FieldCommand
     ensures { λ r. ⌜ r ≡ plainField name k·scalar word absent ⌝ }
 {
     typed(name, 432, 6, word)
 }
 
 // The field of an index, from a seed.
-pub fn field_drawn(g: Setting, seed: u32, j: u32) -> FieldCommand
+pub(crate) fn field_drawn(g: Setting, seed: u32, j: u32) -> FieldCommand
     requires { ⌜ InRange g × (j < 19) ⌝ }
     ensures { λ r. ⌜ r ≡ fieldDrawn g seed j ⌝ }
 {

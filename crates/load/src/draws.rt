@@ -11,7 +11,7 @@ fn next_seed(seed: u32) -> u32
 }
 
 // The seed after k seedAfter.
-pub fn seed_after(seed: u32, k: u32) -> u32
+pub(crate) fn seed_after(seed: u32, k: u32) -> u32
     ensures { λ r. ⌜ r ≡ seedAfter k seed ⌝ }
 {
     let mut s = seed;
@@ -24,7 +24,7 @@ pub fn seed_after(seed: u32, k: u32) -> u32
 }
 
 // A draw below n, after k seedAfter.
-pub fn draw(seed: u32, k: u32, n: u32) -> u32
+pub(crate) fn draw(seed: u32, k: u32, n: u32) -> u32
     requires { ⌜ 0 < n ⌝ }
     ensures { λ r. ⌜ (r ≡ draw seed k n) × (r < n) ⌝ }
 {

@@ -171,7 +171,7 @@ fn put_after(out: &mut [u8], at: usize, g: Setting) -> usize
 }
 
 // Puts all structures.
-pub fn put_all(out: &mut [u8], at: usize, g: Setting, o: Outcome) -> usize
+pub(crate) fn put_all(out: &mut [u8], at: usize, g: Setting, o: Outcome) -> usize
     requires { ⌜ InRange g ⌝ }
     ensures { λ r. ⌜ Puts (now (out .entry)) at (structsBytes (allStructs g (editedFields g o))) (now (out .exit)) r ⌝ }
 {

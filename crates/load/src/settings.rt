@@ -28,7 +28,7 @@ pub struct Setting {
 
 // The setting of a seed.
 
-pub fn draw_setting(seed: u32) -> Setting
+pub(crate) fn draw_setting(seed: u32) -> Setting
     ensures { λ r. ⌜ (r ≡ settingOf seed) × InRange r ⌝ }
 {
     let structs = draw(seed, 1, 8) + 1;

@@ -209,7 +209,7 @@ fn put_rest(out: &mut [u8], at: usize, g: Setting, n: u32, o: Outcome) -> usize
 }
 
 // Puts the released record's stream.
-pub fn put_released(out: &mut [u8], at: usize, g: Setting) -> usize
+pub(crate) fn put_released(out: &mut [u8], at: usize, g: Setting) -> usize
     requires { ⌜ InRange g ⌝ }
     ensures { λ r. ⌜ Puts (now (out .entry)) at (streamOf (releasedCommands g)) (now (out .exit)) r ⌝ }
 {
@@ -220,7 +220,7 @@ pub fn put_released(out: &mut [u8], at: usize, g: Setting) -> usize
 }
 
 // Puts the current record's stream.
-pub fn put_current(out: &mut [u8], at: usize, g: Setting, o: Outcome) -> usize
+pub(crate) fn put_current(out: &mut [u8], at: usize, g: Setting, o: Outcome) -> usize
     requires { ⌜ InRange g ⌝ }
     ensures { λ r. ⌜ Puts (now (out .entry)) at (streamOf (currentCommands g o)) (now (out .exit)) r ⌝ }
 {

@@ -14,14 +14,21 @@ ghost use Rattle.load.specs.Range.{InRange};
 ghost use Rattle.load.specs.Bytes.{fieldsBytes, wholeBytes, structsBytes};
 
 // Puts nothing.
-pub fn put_none(out: &mut [u8], at: usize) -> usize
+pub(crate) fn put_none(out: &mut [u8], at: usize) -> usize
     ensures { λ r. ⌜ Puts (now (out .entry)) at [] (now (out .exit)) r ⌝ }
 {
     at
 }
 
 // Puts n drawn fields, from a seed and an index on.
-pub fn put_fields(out: &mut [u8], at: usize, g: Setting, seed: u32, from: u32, n: u32) -> usize
+pub(crate) fn put_fields(
+    out: &mut [u8],
+    at: usize,
+    g: Setting,
+    seed: u32,
+    from: u32,
+    n: u32,
+) -> usize
     requires { ⌜ InRange g × (from + n ≤ 19) ⌝ }
     ensures { λ r. ⌜ Puts (now (out .entry)) at (fieldsBytes (fieldsFrom g seed from n)) (now (out .exit)) r ⌝ }
 {
@@ -54,7 +61,14 @@ fn put_plain(out: &mut [u8], at: usize, g: Setting, seed: u32, i: u32) -> usize
 }
 
 // Puts n structures without a slot, from a seed and an index on.
-pub fn put_structs(out: &mut [u8], at: usize, g: Setting, seed: u32, from: u32, n: u32) -> usize
+pub(crate) fn put_structs(
+    out: &mut [u8],
+    at: usize,
+    g: Setting,
+    seed: u32,
+    from: u32,
+    n: u32,
+) -> usize
     requires { ⌜ InRange g × (from + n ≤ 8) ⌝ }
     ensures { λ r. ⌜ Puts (now (out .entry)) at (structsBytes (structsFrom g seed from n)) (now (out .exit)) r ⌝ }
 {
