@@ -1,7 +1,7 @@
 -- The load call's answer, from what is measured and put. Assumes nothing.
-use mathlib.Core.Path.{_≡_, refl, sym, _∙_, ap, ap₂, subst}
-use mathlib.Core.List.{List, [], _∷_, _++_, append-assoc}
-use Prim.Native.Nat.{ℕ, _+_, _/_, _%_, _≤_, _<_}
+use mathlib.Core.Path.{_≡_, refl, sym, _∙_, ap}
+use mathlib.Core.List.{[], _++_, append-assoc}
+use Prim.Native.Nat.{ℕ, _+_, _≤_, _<_}
 use native.Mathlib.Omega.{arith}
 use lib.ListN.{length, length-append}
 use lib.Dec.{eqb, leb}
@@ -35,10 +35,6 @@ module _ (g : Setting) (i : InRange g) (out after : Str) (r : ℕ) where
 
   pub current-measured : (o : Outcome) → Puts out 0 (streamOf (currentCommands g o)) after r → (r ≡ length (streamOf (currentCommands g o))) × (r ≤ 32768)
   current-measured o p = measured out (streamOf (currentCommands g o)) after r (current-short g i o) p
-
-module _ (n a b c d : ℕ) (p : a ≡ n % 256) (q : b ≡ n / 256 % 256) (r : c ≡ n / 65536 % 256) (s : d ≡ n / 16777216) where
-  pub len-put : (a ∷ b ∷ c ∷ d ∷ []) ≡ w4 n []
-  len-put = λ i. p i ∷ q i ∷ r i ∷ s i ∷ []
 
 -- a part, and two
 part-is : (s : Str) (n : ℕ) → n ≡ length s → w4 n [] ++ s ≡ part s

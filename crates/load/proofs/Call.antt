@@ -1,26 +1,23 @@
 -- What the load call answers: two readable records with the wanted outcome, for every seed. 02, W-213. Assumes nothing.
-use mathlib.Core.Path.{_≡_, refl, sym, _∙_, ap, subst}
-use mathlib.Core.List.{List, [], _∷_, _++_}
-use mathlib.Core.Option.{Option, none, some}
-use mathlib.Core.Bool.{Bool, true, false, cond, false≢true}
-use Prim.Native.Nat.{ℕ, _+_, _≤_}
-use native.Mathlib.Omega.{arith}
+use mathlib.Core.Path.{_≡_, refl, sym, _∙_, ap}
+use mathlib.Core.Option.{none, some}
+use mathlib.Core.Bool.{Bool, true, false, cond}
+use Prim.Native.Nat.{ℕ, _≤_}
 use lib.Dec.{eqb, leb}
-use lib.ListN.{length, length-append}
 use borrow.Author.Tests.{eqb-true, le-leb}
-use Rattle.record.specs.Base.{Str, bytes}
+use Rattle.record.specs.Base.{Str}
 use Rattle.record.specs.Scalars.{builtIn}
-use Rattle.record.specs.Reading.{Rec, rec, read, reading}
+use Rattle.record.specs.Reading.{rec, read, reading}
 use Rattle.record.specs.Schema.{Schema}
 use Rattle.record.specs.declared.refusal.Side.the-variants.{Current, Released}
 use Rattle.record.proofs.Basics.{none≢some}
-use Rattle.layout.specs.Answer.{Answer, textOr}
+use Rattle.layout.specs.Answer.{textOr}
 use Rattle.definition.specs.Answer.{check}
 use Rattle.load.specs.Plan.{outcomeNumber, released, current}
 use Rattle.load.specs.Pool as W
 use Rattle.load.specs.Draws.{settingOf}
 use Rattle.load.specs.Generator.{planOf}
-use Rattle.load.specs.Load.{part, nowStream, wasStream, pairOf, outcomeAt, unfit, loadAs, load}
+use Rattle.load.specs.Load.{nowStream, wasStream, pairOf, outcomeAt, loadAs, load}
 use Rattle.load.proofs.Generated.{in-range}
 use Rattle.load.proofs.Pairs.{now-record, was-record, current-read, released-read}
 use Rattle.load.proofs.Messages.{pair-outcome}

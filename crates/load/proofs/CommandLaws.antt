@@ -1,35 +1,28 @@
 -- Commands and their bytes: what is written is read back, texts in the pool are without fault, fields and structures fit. Assumes nothing.
-use mathlib.Core.Path.{_≡_, refl, sym, _∙_, ap, subst}
-use mathlib.Core.List.{List, [], _∷_, _++_, List·Memᴰ, List·Memᴰ·head, List·Memᴰ·tail}
-use mathlib.Core.Option.{Option, none, some}
-use mathlib.Core.Bool.{Bool, true, false, cond, _||_, not}
+use mathlib.Core.Path.{_≡_, refl, ap}
+use mathlib.Core.List.{List, [], _∷_, List·Memᴰ, List·Memᴰ·head, List·Memᴰ·tail}
 use mathlib.Core.Logic.{_⊎_, inl, inr}
-use Prim.Native.Nat.{ℕ, zero, suc, _+_, _*_, _/_, _%_, _<_, _≤_}
+use Prim.Native.Nat.{ℕ, _+_, _*_, _/_, _%_, _<_, _≤_}
 use native.Mathlib.Omega.{arith}
-use native.Mathlib.Nat.{div-add-mod, mod-lt}
-use lib.Dec.{eqb, ltb, leb, lit<}
-use lib.ListN.{length, getD}
+use native.Mathlib.Nat.{div-add-mod}
+use lib.Dec.{eqb, ltb, leb}
 use borrow.Author.Tests.{ne-eqb, lt-ltb, le-leb}
-use Rattle.record.specs.Base.{Str, bytes, first}
-use Rattle.record.specs.Stretch.{textOf}
-use Rattle.record.specs.Le.{u16At, u32At, u64At}
-use Rattle.record.specs.Operands.{textAt, optText, optTextAt, flagAt, optNumberAt}
-use Rattle.record.specs.Commands.{operands, wide, widths, structAt, fieldAt}
-use Rattle.record.specs.Judge.{worseOf, ifAbsent, textFault, flagFault, operandFault, faultsFrom, follows, mayStand, parentAfter}
-use Rattle.record.specs.Lists.{optOf, numberOf, structOf, fieldOf}
+use Rattle.record.specs.Base.{Str, bytes}
+use Rattle.record.specs.Le.{u16At}
+use Rattle.record.specs.Operands.{textAt, optText, optTextAt}
+use Rattle.record.specs.Commands.{operands, wide, widths}
+use Rattle.record.specs.Judge.{ifAbsent, textFault, flagFault, operandFault, faultsFrom, mayStand, parentAfter}
 use Rattle.record.specs.Schema.{Field, Struct}
 use Rattle.record.specs.declared.text.Text.{Text}
 use Rattle.record.specs.declared.operands.OptText.the-variants.{Absent, Given}
-use Rattle.record.specs.declared.operands.OptNumber.{OptNumber}
-use Rattle.record.specs.declared.operands.OptNumber.the-variants.{Missing, Number}
 use Rattle.record.specs.declared.command.Parent.{Parent}
-use Rattle.record.specs.declared.command.Parent.the-variants.{NoParent, InStruct, InFamily}
+use Rattle.record.specs.declared.command.Parent.the-variants.{InStruct}
 use Rattle.record.specs.declared.refusal.Side.{Side}
 use Rattle.record.specs.declared.judge.Fault.{Fault}
 use Rattle.record.specs.declared.judge.Fault.the-variants.{Fine, Outside}
 use Rattle.load.specs.Pool as W
-use Rattle.load.specs.Commands.{t3, w4, n5, fieldBytes, StructCommand, structBytes, meantText, meantNumber, fieldMeant, fieldsMeant, structMeant, structsMeant}
-use Rattle.load.specs.Generator.{fieldCommands, structCommands, streamOf}
+use Rattle.load.specs.Commands.{fieldBytes, StructCommand, structBytes}
+use Rattle.load.specs.Generator.{fieldCommands, structCommands}
 use Rattle.load.specs.Written.{opcode, Fits, AllFit}
 use Rattle.load.specs.declared.commands.FieldCommand.{FieldCommand}
 

@@ -1,14 +1,13 @@
 -- Drawn rows: their texts lie in the pool, and their sizes are at most 256. Assumes nothing.
-use mathlib.Core.Path.{_≡_, refl, sym, _∙_, ap, subst}
-use mathlib.Core.List.{List, [], _∷_, _++_, List·Memᴰ, List·Memᴰ·head, List·Memᴰ·tail, List·Memᴰ·not-nil, List·Memᴰ·append-cases}
-use mathlib.Core.Option.{Option, none, some}
+use mathlib.Core.Path.{_≡_, refl, ap}
+use mathlib.Core.List.{List}
+use mathlib.Core.Option.{Option}
 use mathlib.Core.Bool.{Bool, true, false, cond}
-use mathlib.Core.Logic.{_⊎_, inl, inr}
-use Prim.Native.Nat.{ℕ, zero, suc, _+_, _-_, _*_, _/_, _%_, _<_, _≤_}
+use mathlib.Core.Logic.{inl, inr}
+use Prim.Native.Nat.{ℕ, _+_, _-_, _*_, _%_, _<_, _≤_}
 use native.Mathlib.Omega.{arith}
 use native.Mathlib.Nat.{mod-lt, mul-le-mul}
-use lib.Dec.{eqb, ltb, leb, lit<, lit≤}
-use lib.ListN.{length}
+use lib.Dec.{eqb, leb, lit<, lit≤}
 use borrow.Author.Tests.{leb-true}
 use Rattle.record.specs.Base.{Str, bytes, eqs, find, orElse, mapOption}
 use Rattle.record.specs.Stretch.{textOf}
@@ -20,20 +19,16 @@ use Rattle.record.specs.Shapes.{enumSize, aliasSize, bitfieldSize, sized, sizeA
 use Rattle.record.specs.declared.text.Text.{Text}
 use Rattle.record.specs.declared.kind.Kind.{Kind}
 use Rattle.record.specs.declared.kind.Kind.the-variants as K
-use Rattle.load.specs.Plan.{Plan, schemaWith, released}
+use Rattle.load.specs.Plan.{schemaWith, released}
 use Rattle.load.specs.Pool as W
-use Rattle.load.specs.Commands.{no, number, StructCommand, meantText, meantNumber, fieldMeant}
+use Rattle.load.specs.Commands.{no, meantText, meantNumber, fieldMeant}
 use Rattle.load.specs.Draws
-use Rattle.load.specs.Range.{InRange}
-use Rattle.load.specs.Generator.{planOf, enumList, aliasList, bitfieldList, rootStruct, allStructs, wholeFields, editedFields}
+use Rattle.load.specs.Generator.{planOf, enumList, aliasList, bitfieldList}
 use Rattle.load.proofs.Shared.{four}
-use Rattle.load.proofs.CommandLaws.{InPool, MayPool, FieldFits, StructFits}
+use Rattle.load.proofs.CommandLaws.{InPool, MayPool, FieldFits}
 use Rattle.load.specs.declared.settings.Setting.{Setting}
 
 -- texts by a number -------------------------------------------------------------------------------------------------------------------------------------------
-
-inPool-if : (t : Text) → leb (t .start + t .len) 971 ≡ true → InPool t
-inPool-if t h = leb-true (t .start + t .len) 971 h
 
 pub scalar-in : (n : ℕ) → InPool (Draws.scalarText n)
 unfolding Draws.scalarText

@@ -1,26 +1,23 @@
 -- What fields and structures mean is read back from their commands. Assumes nothing.
-use mathlib.Core.Path.{_≡_, refl, sym, _∙_, ap, ap₂, subst}
+use mathlib.Core.Path.{_≡_, refl, _∙_, ap, ap₂}
 use mathlib.Core.List.{List, [], _∷_, _++_}
-use mathlib.Core.Option.{Option, none, some}
-use mathlib.Core.Bool.{Bool, true, false, cond, _||_}
+use mathlib.Core.Option.{none, some}
+use mathlib.Core.Bool.{Bool, true, false, cond}
 use Prim.Native.Nat.{ℕ, _+_, _*_, _/_, _%_}
-use native.Mathlib.Omega.{arith}
 use lib.Dec.{eqb}
-use lib.ListN.{length, getD}
 use Rattle.record.specs.Base.{Str, first}
 use Rattle.record.specs.Stretch.{textOf}
-use Rattle.record.specs.Le.{u16At, u32At, u64At}
-use Rattle.record.specs.Operands.{textAt, optText, optTextAt, flagAt, optNumberAt}
+use Rattle.record.specs.Le.{u16At, u32At}
+use Rattle.record.specs.Operands.{textAt, optText, optTextAt, optNumberAt}
 use Rattle.record.specs.Commands.{structAt, fieldAt}
-use Rattle.record.specs.Lists.{optOf, numberOf, structOf, fieldOf, anything, nothing, aKey}
+use Rattle.record.specs.Lists.{optOf, numberOf, structOf, fieldOf, anything}
 use Rattle.record.specs.Schema.{Field, Struct, Key}
 use Rattle.record.specs.declared.text.Text.{Text}
-use Rattle.record.specs.declared.operands.OptNumber.{OptNumber}
 use Rattle.record.specs.declared.operands.OptNumber.the-variants.{Missing, Number}
 use Rattle.load.specs.Pool as W
-use Rattle.load.specs.Commands.{t3, w4, n5, fieldBytes, StructCommand, structBytes, meantText, meantNumber, fieldMeant, fieldsMeant, structMeant, structsMeant}
+use Rattle.load.specs.Commands.{fieldBytes, StructCommand, structBytes, meantText, meantNumber, fieldMeant, fieldsMeant, structMeant, structsMeant}
 use Rattle.load.specs.Generator.{fieldCommands, structCommands, streamOf}
-use Rattle.load.specs.Written.{listedIn, keysIn, fieldsIn, structsIn, openedIn}
+use Rattle.load.specs.Written.{listedIn, keysIn, fieldsIn, structsIn}
 use Rattle.load.proofs.CommandLaws.{four-bytes, back-is}
 use Rattle.load.specs.declared.commands.FieldCommand.{FieldCommand}
 use Rattle.load.specs.declared.commands.Num.{Num}

@@ -1,11 +1,10 @@
 -- Texts by a number, as the code's branches have them. Assumes nothing.
-use mathlib.Core.Path.{_≡_, refl, _∙_, ap}
-use Prim.Native.Nat.{ℕ, suc, _+_, _%_, _≤_, _<_}
+use mathlib.Core.Path.{_≡_, _∙_, ap}
+use Prim.Native.Nat.{ℕ, _+_, _%_, _≤_, _<_}
 use native.Mathlib.Omega.{arith}
 use native.Mathlib.Nat.{mod-lt}
 use mathlib.Core.List.{List, [], _∷_}
-use lib.ListN.{getD, length, List·getD-eq-default}
-use Rattle.record.specs.declared.kind.Kind.{Kind}
+use lib.ListN.{getD, List·getD-eq-default}
 use Rattle.record.specs.declared.kind.Kind.the-variants as K
 use lib.Dec.{eqb}
 use borrow.Author.Tests.{ne-eqb}

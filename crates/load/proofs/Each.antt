@@ -1,19 +1,16 @@
 -- Lists of verdicts, look-ups in joined lists, and a map by name of which one element is exchanged. Assumes nothing.
 use mathlib.Core.Path.{_≡_, refl, sym, _∙_, ap, subst}
-use mathlib.Core.List.{List, [], _∷_, _++_, map, List·Memᴰ, List·Memᴰ·head, List·Memᴰ·tail, List·Memᴰ·not-nil, List·Memᴰ·append-cases}
+use mathlib.Core.List.{List, [], _∷_, _++_, map, List·Memᴰ, List·Memᴰ·head, List·Memᴰ·tail, List·Memᴰ·not-nil}
 use mathlib.Core.Option.{Option, none, some}
-use mathlib.Core.Bool.{Bool, true, false, cond, false≢true}
+use mathlib.Core.Bool.{Bool, true, false, cond}
 use mathlib.Core.Logic.{_⊎_, inl, inr}
-use Prim.Native.Nat.{ℕ}
-use native.Mathlib.Omega.{arith}
 use Rattle.record.specs.Base.{Str, eqs, before, find, lastOr, findLast, filterB}
 use Rattle.layout.specs.Sorted.{sorted}
 use Rattle.definition.specs.Verdicts.{Verdict, pass, stop}
 use Rattle.definition.specs.Pass.{_then_, each}
 use Rattle.definition.specs.Chain.{NoDup}
-use Rattle.record.proofs.Basics.{eqs→eq, eqs-refl, find-some, find-only, none≢some}
-use Rattle.layout.proofs.Origin.{sorted-mem}
-use Rattle.layout.proofs.Order.{Sorted, sorted-sorted, sorted-last, before-irrefl}
+use Rattle.record.proofs.Basics.{eqs→eq, eqs-refl, find-only, none≢some}
+use Rattle.layout.proofs.Order.{Sorted, sorted-sorted, before-irrefl}
 use Rattle.definition.proofs.Passes.{each-pass}
 use Rattle.definition.proofs.Same.{key-only}
 

@@ -1,26 +1,25 @@
 -- The fields pass over a plan's two records: it is that of the root alone, and what it says for each outcome. Assumes nothing.
-use mathlib.Core.Path.{_≡_, refl, sym, _∙_, ap, ap₂, subst}
+use mathlib.Core.Path.{_≡_, refl, sym, _∙_, ap, subst}
 use mathlib.Core.List.{List, [], _∷_, _++_, map, List·Memᴰ, List·Memᴰ·head, List·Memᴰ·tail, List·Memᴰ·not-nil, Memᴰ·map, Memᴰ·append-left, Memᴰ·append-right, map-append}
-use mathlib.Core.Option.{Option, none, some}
-use mathlib.Core.Bool.{Bool, true, false, false≢true, _&&_, Bool·beq}
+use mathlib.Core.Option.{some}
+use mathlib.Core.Bool.{Bool, true, false, _&&_, Bool·beq}
 use mathlib.Core.Logic.{_⊎_, inl, inr}
-use Prim.Native.Nat.{ℕ, _+_, _<_}
+use Prim.Native.Nat.{ℕ, _+_}
 use native.Mathlib.Omega.{arith}
 use lib.Dec.{eqb}
 use borrow.Author.Tests.{eq-eqb, ne-eqb}
 use Rattle.record.specs.Base.{Str, eqs, find}
 use Rattle.record.specs.Schema.{Schema, Field}
-use Rattle.record.specs.Kind.{kindOf, isPadding}
 use Rattle.record.specs.Shapes.{Place, shapeSize, placeOf, places}
-use Rattle.layout.specs.Layout.{TypeLayout, typeIn, layStruct}
+use Rattle.layout.specs.Layout.{TypeLayout, layStruct}
 use Rattle.record.proofs.Basics.{eqs→eq, eqs-refl}
-use Rattle.definition.specs.Verdicts.{Verdict, pass, stop, fieldGone, moved, resized}
+use Rattle.definition.specs.Verdicts.{pass, fieldGone, moved, resized}
 use Rattle.definition.specs.Pass.{_then_, ensure, each, onFound}
 use Rattle.definition.specs.Fields.{placeIn, checkKept, checkPlace, checkPlaces, checkType, checkFields, eqPlace, eqPlaces}
 use Rattle.definition.specs.Chain.{NoDup}
 use Rattle.load.specs.Plan.{Plan, whole, released, root}
 use Rattle.load.specs.Wanted.{endOf}
-use Rattle.load.specs.Feasible.{Feasible, Apart, fieldNames}
+use Rattle.load.specs.Feasible.{Feasible, Apart}
 use Rattle.load.proofs.Each.{each-one, each-all, each-front, find-left, find-right, find-nowhere, find-keyed}
 use Rattle.load.proofs.Layouts.{laid, layouts, eqs-swap, place-names, root-found, other-found, self-found, root-member, layout-cases}
 
@@ -161,9 +160,6 @@ module _ (p : Plan) (g : Feasible p) where
       seam′ = endOf (released p) 0 (p .front)
 
   -- pushed on by the inserted
-  pushedPlace : Place
-  pushedPlace = placeOf (released p) (seam + shapeSize (released p) (p .inserted)) (p .target)
-
   pub pushed : checkPlaces (p .name) (places (released p) 0 (p .front ++ (p .inserted ∷ p .target ∷ p .back))) (places (released p) 0 (whole p))
       ≡ moved (p .name) (p .target .name) seam (seam + shapeSize (released p) (p .inserted))
   unfolding _then_ onFound placeIn checkKept ensure moved front rest seam targetPlace places placeOf find

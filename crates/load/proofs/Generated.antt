@@ -1,16 +1,15 @@
 -- A setting in range gives a feasible plan. Assumes nothing.
 use mathlib.Core.Path.{_≡_, refl, sym, _∙_, ap, subst}
 use mathlib.Core.List.{List, [], _∷_, _++_, map, List·Memᴰ, List·Memᴰ·head, List·Memᴰ·tail, List·Memᴰ·not-nil}
-use mathlib.Core.Option.{Option, none, some}
-use mathlib.Core.Bool.{Bool, true, false, _&&_, not, cond, Bool·beq, false≢true}
-use Prim.Native.Nat.{ℕ, zero, suc, _+_, _-_, _*_, _/_, _%_, _<_, _≤_, _^_}
+use mathlib.Core.Option.{none, some}
+use mathlib.Core.Bool.{Bool, true, false, _&&_, not, false≢true}
+use Prim.Native.Nat.{ℕ, zero, suc, _+_, _-_, _*_, _/_, _%_, _<_, _≤_}
 use native.Mathlib.Omega.{arith}
-use native.Mathlib.Numerals.{add-one}
 use lib.Dec.{eqb, ltb, lit<}
 use native.Mathlib.Nat.{mod-lt}
 use lib.ListN.{length, length-append}
 use borrow.Author.Tests.{not-true, eqb-false, ltb-true}
-use Rattle.record.specs.Base.{Str, bytes, eqs, any, find, orElse, mapOption, isSome}
+use Rattle.record.specs.Base.{Str, bytes, eqs, any, find, orElse}
 use Rattle.record.specs.Stretch.{textOf}
 use Rattle.record.specs.Operands.{optText}
 use Rattle.record.specs.Schema.{Field, Struct, Family}
@@ -21,16 +20,16 @@ use Rattle.record.specs.Shapes.{Place, sizeAs, scalarSize, shapeSize, placeOf, 
 use Rattle.record.specs.declared.text.Text.{Text}
 use Rattle.record.specs.declared.kind.Kind.{Kind}
 use Rattle.record.specs.declared.kind.Kind.the-variants as K
-use Rattle.record.proofs.Basics.{both, eqs→eq, eqs-refl, any-none}
+use Rattle.record.proofs.Basics.{both, eqs-refl, any-none}
 use Rattle.layout.specs.Layout.{TypeLayout, variantName, layFamily, layVariant, layFamilies}
-use Rattle.definition.specs.Verdicts.{Verdict, pass, stop, verdictNumber, constantGone, w·constant-gone}
+use Rattle.definition.specs.Verdicts.{pass}
 use Rattle.definition.specs.Compare.{compare}
 use Rattle.load.proofs.Outcome.{outcome-is}
 use Rattle.definition.specs.Pass.{ensure, onFound}
 use Rattle.definition.specs.Standalone.{variantNames, layoutsOf, checkStanding}
 use Rattle.definition.specs.Coverage.{standsAlone}
 use Rattle.definition.specs.Chain.{NoDup}
-use Rattle.load.specs.Plan.{Plan, outcomeNumber, whole, generationAt, constantsWith, constantsWithout, schemaWith, released, current}
+use Rattle.load.specs.Plan.{whole, generationAt, constantsWith, constantsWithout, schemaWith, released, current}
 use Rattle.load.specs.Wanted.{wanted}
 use Rattle.load.specs.Feasible.{Feasible, Other, Apart, Stands, Keyless, fieldNames}
 use Rattle.load.specs.Pool as W

@@ -1,11 +1,11 @@
 -- The layouts of a plan's two records: they differ in the root's alone. Assumes nothing.
 use mathlib.Core.Path.{_≡_, refl, sym, _∙_, ap, ap₂, subst}
 use mathlib.Core.List.{List, [], _∷_, _++_, map, map-append, append-assoc, List·Memᴰ, List·Memᴰ·head, List·Memᴰ·tail, List·Memᴰ·append-cases, Memᴰ·of-map}
-use mathlib.Core.Option.{Option, none, some}
+use mathlib.Core.Option.{some}
 use mathlib.Core.Bool.{Bool, true, false, false≢true}
 use mathlib.Core.Logic.{_⊎_, inl, inr}
 use Prim.Native.Nat.{ℕ, _+_}
-use Rattle.record.specs.Base.{Str, eqs, find, findLast}
+use Rattle.record.specs.Base.{Str, eqs, find}
 use Rattle.record.specs.Schema.{Schema, Const, Field, Struct, Family, Variant, Version}
 use Rattle.record.specs.Kind.{kindOf}
 use Rattle.record.specs.Shapes.{Place, sizeAs, scalarSize, shapeSize, placeOf, places, prefix}
@@ -74,9 +74,6 @@ module _ (p : Plan) (r : Str) (cs : List Const) (fs : List Field) (vs : List Ver
       (ap₂ _++_ (variants-same m (m .variants)) (families-same l))
 
 -- all layouts of a record: those before the root's, the root's, and those after it -----------------------------------------------------------
-
-pub layoutName : TypeLayout → Str
-layoutName t = t .name
 
 unfoldable pub laid : Plan → List Field → TypeLayout
 laid p fs = layStruct (released p) (root p fs)

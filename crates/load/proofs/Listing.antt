@@ -1,7 +1,7 @@
 -- The lists and the schema of a stream of commands are those of the commands. Assumes nothing.
 use mathlib.Core.Path.{_≡_, refl, sym, _∙_, ap, subst}
 use mathlib.Core.List.{List, [], _∷_, _++_, append-assoc}
-use mathlib.Core.Option.{Option, none, some}
+use mathlib.Core.Option.{none}
 use mathlib.Core.Bool.{Bool, true, false, _||_, _&&_, not, cond}
 use Prim.Native.Nat.{ℕ, _+_}
 use native.Mathlib.Omega.{arith}
@@ -12,10 +12,10 @@ use borrow.Author.Tests.{not-true}
 use Rattle.record.specs.Base.{Str, first, find, any}
 use Rattle.record.specs.Scalars.{builtIn}
 use Rattle.record.specs.Schema.{Schema, Field}
-use Rattle.record.specs.Shapes.{Place, places, prefix}
+use Rattle.record.specs.Shapes.{places, prefix}
 use Rattle.record.specs.Commands.{headAt, constantAt, aliasAt, enumAt, valueAt, bitfieldAt, memberAt, structAt, familyAt, variantAt, fieldAt, keyAt, versionAt}
 use Rattle.record.specs.Lists.{headOf, constantOf, aliasOf, enumOf, valueOf, bitfieldOf, memberOf, structOf, familyOf, variantOf, fieldOf, keyOf, versionOf, listed, anything, nothing, aKey, aField, heads, constants, aliases, values, enums, members, bitfields, keys, fields, structs, variants, families, unstored, versions}
-use Rattle.record.specs.Reading.{Rec, rec, releaseOf, unreleasedOf, schemaFrom, Opened, openedAt, opened, large, vast}
+use Rattle.record.specs.Reading.{rec, releaseOf, unreleasedOf, schemaFrom, Opened, openedAt, opened, large, vast}
 use Rattle.record.proofs.Basics.{both}
 use Rattle.load.specs.Generator.{streamOf}
 use Rattle.load.specs.Written.{placesFrom, listedIn, headsIn, constantsIn, aliasesIn, valuesIn, enumsIn, membersIn, bitfieldsIn, keysIn, fieldsIn, structsIn, variantsIn, familiesIn, unstoredIn, versionsIn, schemaIn, openedIn}

@@ -1,8 +1,8 @@
 -- The messages of a pair's verdicts are short, so the check program's buffer has room for them. Assumes nothing.
-use mathlib.Core.Path.{_≡_, refl, sym, _∙_, ap}
+use mathlib.Core.Path.{_≡_, refl, ap}
 use mathlib.Core.List.{List, [], _∷_, _++_}
 use mathlib.Core.Bool.{Bool, true, false, cond}
-use Prim.Native.Nat.{ℕ, zero, suc, _+_, _/_, _%_, _≤_, _<_, min}
+use Prim.Native.Nat.{ℕ, zero, suc, _+_, _/_, _%_, _≤_, _<_}
 use native.Mathlib.Omega.{arith}
 use native.Mathlib.Nat.{mod-lt}
 use lib.Dec.{ltb, lit<, lit≤}
@@ -11,7 +11,7 @@ use Rattle.record.specs.Base.{Str, bytes, digits, decimal}
 use Rattle.record.specs.Stretch.{textOf}
 use Rattle.record.specs.Fill.{joined}
 use Rattle.record.specs.declared.text.Text.{Text}
-use Rattle.definition.specs.Verdicts.{Verdict, messageOf, constantGone, fieldGone, moved, resized, unraised}
+use Rattle.definition.specs.Verdicts.{messageOf, constantGone, fieldGone, moved, resized, unraised}
 use Rattle.definition.specs.Answer.{check}
 use Rattle.load.specs.Plan.{outcomeNumber}
 use Rattle.load.specs.Wanted.{wanted}

@@ -1,8 +1,7 @@
 -- THE OUTCOME: a feasible plan's pair gets the wanted number. 02, W-213: the wanted outcome is met. Assumes nothing.
-use mathlib.Core.Path.{_≡_, refl, sym, _∙_, ap, subst}
+use mathlib.Core.Path.{_≡_, refl, _∙_, ap, subst}
 use mathlib.Core.List.{List, [], _∷_, _++_, List·Memᴰ, List·Memᴰ·head, List·Memᴰ·tail, List·Memᴰ·not-nil, List·Memᴰ·append-cases}
-use mathlib.Core.Option.{Option, none, some}
-use mathlib.Core.Bool.{Bool, true, false, cond}
+use mathlib.Core.Option.{none, some}
 use mathlib.Core.Logic.{_⊎_, inl, inr}
 use Prim.Native.Nat.{ℕ, _+_, _<_, _^_}
 use native.Mathlib.Omega.{arith}
@@ -13,7 +12,7 @@ use Rattle.record.specs.Schema.{Const, Key, Field, Struct, Version}
 use Rattle.record.specs.Keys.{fieldKeys, pluginKeys}
 use Rattle.record.proofs.Basics.{eqs-refl}
 use Rattle.layout.specs.Layout.{TypeLayout, types, layStruct}
-use Rattle.definition.specs.Verdicts.{Verdict, pass, stop, wordNumber, verdictNumber, constantGone, fieldGone, moved, resized, unraised}
+use Rattle.definition.specs.Verdicts.{Verdict, pass, wordNumber, verdictNumber, constantGone, fieldGone, moved, resized, unraised}
 use Rattle.definition.specs.Pass.{_then_, ensure, required, onFound}
 use Rattle.definition.specs.ReleaseOrder.{checkReleaseOrder}
 use Rattle.definition.specs.FirstReleases.{checkFirstReleases}
@@ -21,14 +20,13 @@ use Rattle.definition.specs.Constants.{checkConstants}
 use Rattle.definition.specs.Enums.{checkEnums}
 use Rattle.definition.specs.Bitfields.{checkBitfields}
 use Rattle.definition.specs.BitfieldReleases.{checkBitfieldReleases}
-use Rattle.definition.specs.Fields.{checkFields, checkPlaces, changed, eqPlaces}
+use Rattle.definition.specs.Fields.{checkFields, checkPlaces, changed}
 use Rattle.definition.specs.Standalone.{checkStandalone}
-use Rattle.definition.specs.Coverage.{firstUnder}
 use Rattle.definition.specs.Generations.{isListed, checkStill, checkRise, checkGenerations}
 use Rattle.definition.specs.Compare.{passList, firstOf, compare}
-use Rattle.load.specs.Plan.{Plan, outcomeNumber, whole, edited, root, structsWith, generationAt, generationNow, constantsWith, constantsWithout, constantsNow, entryAt, schemaWith, released, current}
+use Rattle.load.specs.Plan.{Plan, outcomeNumber, whole, edited, root, structsWith, generationNow, constantsWith, constantsWithout, constantsNow, entryAt, schemaWith, released, current}
 use Rattle.load.specs.Wanted.{targetOffset, wanted}
-use Rattle.load.specs.Feasible.{Feasible, Other, Keyless}
+use Rattle.load.specs.Feasible.{Feasible, Keyless}
 use Rattle.load.proofs.Layouts.{laid, layouts, types-are}
 use Rattle.load.proofs.Fields.{seam, fields-of-root, gone, pushed, widened, grown, grown-differs}
 use Rattle.load.proofs.Roots.{typesWith, is-generation, standalone-pass, root-touched, risen}

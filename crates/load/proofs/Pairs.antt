@@ -1,12 +1,12 @@
 -- THE LOAD: both records of every pair are readable, and the check's verdict is the wanted outcome. 02, W-213. Assumes nothing.
-use mathlib.Core.Path.{_≡_, refl, sym, _∙_, ap, ap₂, subst}
+use mathlib.Core.Path.{_≡_, refl, sym, _∙_, ap, subst}
 use mathlib.Core.List.{List, [], _∷_, _++_, List·Memᴰ, List·Memᴰ·head, List·Memᴰ·tail, List·Memᴰ·not-nil}
-use mathlib.Core.Option.{Option, none, some}
-use mathlib.Core.Bool.{Bool, true, false, cond, _||_, _&&_, not}
-use Prim.Native.Nat.{ℕ, zero, suc, _+_, _-_, _*_, _<_, _≤_}
+use mathlib.Core.Option.{Option, some}
+use mathlib.Core.Bool.{true, false, not}
+use Prim.Native.Nat.{ℕ, suc, _+_, _-_, _*_, _≤_}
 use native.Mathlib.Omega.{arith}
-use lib.Dec.{eqb, ltb, leb}
-use lib.ListN.{length, getD, length-append}
+use lib.Dec.{ltb, leb}
+use lib.ListN.{length, length-append}
 use borrow.Author.Tests.{le-ltb, le-leb}
 use Rattle.record.specs.Base.{Str, bytes, eqs, find, any, first, orElse, mapOption}
 use Rattle.record.specs.Stretch.{textOf}
@@ -16,36 +16,35 @@ use Rattle.record.specs.Scalars.{builtIn, scalarIn, primSize}
 use Rattle.record.specs.Steps.{enumIn, aliasIn}
 use Rattle.record.specs.Kind.{kindOf, words, meaning}
 use Rattle.record.specs.Schema.{Schema, Const, Field, Struct, Version}
-use Rattle.record.specs.Shapes.{Place, enumSize, aliasSize, sized, sizeAs, scalarSize, shapeSize, placeOf, places, plain, prefix}
+use Rattle.record.specs.Shapes.{enumSize, aliasSize, sized, sizeAs, scalarSize, shapeSize, placeOf, places, plain, prefix}
 use Rattle.record.specs.Reading.{Rec, rec, large, read, reading}
 use Rattle.record.specs.declared.text.Text.{Text}
 use Rattle.record.specs.declared.refusal.Side.{Side}
 use Rattle.record.specs.declared.refusal.Side.the-variants.{Current, Released}
 use Rattle.layout.specs.Answer.{Answer, textOr}
 use Rattle.definition.specs.Verdicts.{Verdict, pass, stop, verdictNumber, messageOf}
-use Rattle.definition.specs.Compare.{compare}
 use Rattle.definition.specs.Answer.{verdictOf, answered, check}
-use Rattle.load.specs.Plan.{Plan, outcomeNumber, whole, edited, root, structsWith, generationAt, generationNow, constantsWith, constantsWithout, constantsNow, entryAt, schemaWith, released, current}
-use Rattle.load.specs.Wanted.{targetOffset, wanted}
+use Rattle.load.specs.Plan.{outcomeNumber, whole, edited, root, structsWith, generationAt, generationNow, constantsWith, constantsWithout, constantsNow, entryAt, schemaWith, released, current}
+use Rattle.load.specs.Wanted.{wanted}
 use Rattle.load.specs.Pool as W
 use Rattle.load.specs.Commands.{fieldBytes, StructCommand, structBytes, meantText, fieldMeant, fieldsMeant, structMeant, structsMeant}
 use Rattle.load.specs.Draws
 use Rattle.load.specs.Draws.{settingOf}
 use Rattle.load.specs.Range.{InRange}
 use Rattle.load.specs.Generator.{planOf, spareAt, otherConstants, aliasList, enumList, bitfieldList, familyList, unstoredList, headBytes, integerBytes, vendorBytes, versionBytes, sharedCommands, fieldCommands, structCommands, rootStruct, allStructs, recordWith, spareCommand, wholeFields, editedFields, spareNow, releasedCommands, currentCommands, streamOf}
-use Rattle.load.specs.Written.{listedIn, keysIn, fieldsIn, schemaIn, openedIn}
+use Rattle.load.specs.Written.{listedIn, keysIn, fieldsIn, openedIn}
 use Rattle.load.proofs.Layouts.{size-same}
 use Rattle.load.proofs.Shared.{generationConst}
-use Rattle.load.proofs.Generated.{feasible, in-range, met}
+use Rattle.load.proofs.Generated.{in-range, met}
 use Rattle.load.proofs.Outcome.{wanted-number}
 use Rattle.load.proofs.Listing.{slim}
 use Rattle.load.proofs.RoundTrip.{reads}
-use Rattle.load.proofs.CommandLaws.{InPool, given, StructFits}
+use Rattle.load.proofs.CommandLaws.{InPool, given}
 use Rattle.load.proofs.CommandReading.{fields-back}
 use Rattle.load.proofs.CommandRange.{was-in, now-in, slot-in, struct-in}
 use Rattle.load.proofs.RecordFits.{fit-with, fit-without}
 use Rattle.load.proofs.RecordMeans.{target, means-with, means-without}
-use Rattle.load.proofs.RecordRange.{FieldGood, AllGood, StructGood, whole-good, edited-good, whole-count, edited-few, all-good, all-count}
+use Rattle.load.proofs.RecordRange.{AllGood, StructGood, whole-good, edited-good, whole-count, edited-few, all-good, all-count}
 use Rattle.load.specs.declared.outcomes.Outcome.{Outcome}
 use Rattle.load.specs.declared.outcomes.Outcome.the-variants as O
 use Rattle.load.specs.declared.settings.Setting.{Setting}

@@ -1,8 +1,6 @@
 -- A stream of commands each of which fits is judged without refusal, and its commands stand where they were put. Assumes nothing.
-use mathlib.Core.Path.{_≡_, refl, sym, _∙_, ap, subst}
+use mathlib.Core.Path.{_≡_, refl, ap, subst}
 use mathlib.Core.List.{List, [], _∷_, _++_, append-assoc}
-use mathlib.Core.Option.{Option, none, some}
-use mathlib.Core.Bool.{Bool, true, false, cond, not}
 use Prim.Native.Nat.{ℕ, zero, suc, _+_, _-_, _<_, _≤_}
 use native.Mathlib.Omega.{arith}
 use lib.Dec.{eqb, ltb}
@@ -11,10 +9,9 @@ use lib.Seq.{drop-append-seam, getD-append-add}
 use borrow.Author.Tests.{eq-eqb, ne-eqb, lt-ltb, le-ltb}
 use Rattle.record.specs.Base.{Str, bytes}
 use Rattle.record.specs.Commands.{operands, widths, commandOf}
-use Rattle.record.specs.Judge.{mayStand, parentAfter, moved, ready, faulted, faultsFrom, judgedWith, judgedAs, judgedAt}
-use Rattle.record.specs.Reading.{Parsed, ok, onto, continued, parse}
+use Rattle.record.specs.Judge.{mayStand, parentAfter, ready, faultsFrom, judgedWith, judgedAt}
+use Rattle.record.specs.Reading.{ok, onto, continued, parse}
 use Rattle.record.specs.declared.command.Parent.{Parent}
-use Rattle.record.specs.declared.command.Cursor.{Cursor}
 use Rattle.record.specs.declared.refusal.Side.{Side}
 use Rattle.record.specs.declared.judge.Judged.the-variants.{Next, Done}
 use Rattle.load.specs.Generator.{streamOf}

@@ -1,6 +1,6 @@
 -- Bytes put, in the form in which the code has them. Assumes nothing.
-use mathlib.Core.Path.{_≡_, refl, ap}
-use mathlib.Core.List.{List, [], _∷_, _++_}
+use mathlib.Core.Path.{_≡_, refl}
+use mathlib.Core.List.{[], _∷_, _++_}
 use Prim.Native.Nat.{ℕ, _/_, _%_}
 use Rattle.record.specs.declared.text.Text.{Text}
 use Rattle.record.specs.Base.{Str}

@@ -1,30 +1,24 @@
 -- A record of a pair: its commands fit, and are read as the plan's schema. Assumes nothing.
-use mathlib.Core.Path.{_≡_, refl, sym, _∙_, ap, ap₂, subst}
-use mathlib.Core.List.{List, [], _∷_, _++_, List·Memᴰ, List·Memᴰ·head, List·Memᴰ·tail}
-use mathlib.Core.Option.{Option, none, some}
-use mathlib.Core.Bool.{Bool, true, false, cond, _||_, _&&_, not}
-use Prim.Native.Nat.{ℕ, zero, suc, _+_, _*_, _/_, _%_, _<_, _≤_}
+use mathlib.Core.Path.{refl}
+use mathlib.Core.List.{List, [], _∷_, _++_, List·Memᴰ}
+use Prim.Native.Nat.{ℕ, _+_}
 use native.Mathlib.Omega.{arith}
-use lib.Dec.{eqb, ltb}
-use lib.ListN.{length, getD}
-use borrow.Author.Tests.{ne-eqb}
-use Rattle.record.specs.Base.{Str, bytes, first, orElse}
-use Rattle.record.specs.Stretch.{textOf}
-use Rattle.record.specs.Le.{u16At, u32At, u64At}
-use Rattle.record.specs.Operands.{textAt, optText, optTextAt, flagAt, optNumberAt}
+use Rattle.record.specs.Base.{Str, bytes}
+use Rattle.record.specs.Le.{u16At}
+use Rattle.record.specs.Operands.{textAt, optText, optTextAt, flagAt}
 use Rattle.record.specs.Commands.{operands, wide, widths}
-use Rattle.record.specs.Judge.{missingIn, ifAbsent, textFault, flagFault, operandFault, faultsFrom, follows, mayStand, parentAfter}
+use Rattle.record.specs.Judge.{missingIn, ifAbsent, flagFault, operandFault, faultsFrom, follows, mayStand, parentAfter}
 use Rattle.record.specs.declared.text.Text.{Text}
 use Rattle.record.specs.declared.command.Parent.{Parent}
 use Rattle.record.specs.declared.command.Parent.the-variants.{NoParent}
 use Rattle.record.specs.declared.refusal.Side.{Side}
-use Rattle.record.specs.declared.judge.Fault.the-variants.{Fine, Outside}
+use Rattle.record.specs.declared.judge.Fault.the-variants.{Outside}
 use Rattle.load.specs.Pool as W
-use Rattle.load.specs.Commands.{t3, w4, v8, n5, StructCommand, structBytes}
+use Rattle.load.specs.Commands.{StructCommand}
 use Rattle.load.specs.Draws
-use Rattle.load.specs.Generator.{headBytes, integerBytes, vendorBytes, versionBytes, sharedCommands, structCommands, allStructs, recordWith, spareCommand, streamOf}
+use Rattle.load.specs.Generator.{headBytes, integerBytes, vendorBytes, versionBytes, sharedCommands, structCommands}
 use Rattle.load.specs.Written.{opcode, Fits, AllFit}
-use Rattle.load.proofs.CommandLaws.{InPool, MayPool, text-fine, StructFits, structs-fit}
+use Rattle.load.proofs.CommandLaws.{InPool, text-fine, StructFits, structs-fit}
 use Rattle.load.specs.declared.settings.Setting.{Setting}
 
 -- the commands fit -----------------------------------------------------------------------------------------------------------------------------------------

@@ -1,25 +1,22 @@
 -- A record of a pair is read as the plan's schema: each section off its commands. Assumes nothing.
-use mathlib.Core.Path.{_≡_, refl, sym, _∙_, ap, ap₂, subst}
+use mathlib.Core.Path.{_≡_, refl, _∙_, ap, ap₂}
 use mathlib.Core.List.{List, [], _∷_, _++_}
-use mathlib.Core.Option.{Option, none, some}
-use mathlib.Core.Bool.{Bool, true, false, cond, _||_}
+use mathlib.Core.Option.{none, some}
+use mathlib.Core.Bool.{true, false}
 use Prim.Native.Nat.{ℕ, _+_, _*_, _/_, _%_}
 use native.Mathlib.Omega.{arith}
-use lib.Dec.{eqb}
-use lib.ListN.{length, getD, take, drop}
 use Rattle.record.specs.Base.{Str, bytes, first, orElse}
 use Rattle.record.specs.Scalars.{builtIn}
 use Rattle.record.specs.Stretch.{textOf}
 use Rattle.record.specs.Le.{u16At, u32At, u64At}
 use Rattle.record.specs.Operands.{textAt, optText, optTextAt, flagAt, optNumberAt}
-use Rattle.record.specs.Commands.{headAt, constantAt, aliasAt, enumAt, valueAt, bitfieldAt, memberAt, structAt, familyAt, variantAt, fieldAt, keyAt, versionAt}
-use Rattle.record.specs.Lists.{optOf, numberOf, headOf, constantOf, aliasOf, enumOf, valueOf, bitfieldOf, memberOf, structOf, familyOf, variantOf, fieldOf, keyOf, versionOf, anything, nothing, aKey, aField}
+use Rattle.record.specs.Commands.{headAt, constantAt, aliasAt, enumAt, bitfieldAt, familyAt, fieldAt, keyAt, versionAt}
+use Rattle.record.specs.Lists.{optOf, headOf, constantOf, aliasOf, enumOf, bitfieldOf, familyOf, fieldOf, keyOf, versionOf}
 use Rattle.record.specs.Reading.{releaseOf, unreleasedOf}
-use Rattle.record.specs.Schema.{Schema, Heading, integer, words, Const, Alias, Enum, BitField, Key, Field, Struct, Family, Version}
+use Rattle.record.specs.Schema.{Schema, integer, Const, Alias, Enum, BitField, Key, Field, Struct, Family}
 use Rattle.record.specs.declared.text.Text.{Text}
 use Rattle.load.specs.Pool as W
-use Rattle.load.specs.Commands.{t3, w4, v8, n5, StructCommand, structBytes, structsMeant}
-use Rattle.load.specs.Draws
+use Rattle.load.specs.Commands.{StructCommand, structsMeant}
 use Rattle.load.specs.Generator.{headBytes, integerBytes, vendorBytes, versionBytes, sharedCommands, structCommands, streamOf, spareAt, otherConstants, aliasList, enumList, bitfieldList, familyList, unstoredList}
 use Rattle.load.specs.Written.{listedIn, headsIn, constantsIn, aliasesIn, valuesIn, enumsIn, membersIn, bitfieldsIn, keysIn, fieldsIn, structsIn, variantsIn, familiesIn, unstoredIn, versionsIn, schemaIn}
 use Rattle.load.proofs.Shared.{generationConst}

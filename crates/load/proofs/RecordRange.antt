@@ -1,9 +1,9 @@
 -- The rows of a pair's records: all fit, all are small, and there are few. Assumes nothing.
-use mathlib.Core.Path.{_≡_, refl, sym, _∙_, ap, subst}
+use mathlib.Core.Path.{_≡_, refl, sym, ap, subst}
 use mathlib.Core.List.{List, [], _∷_, _++_, List·Memᴰ, List·Memᴰ·head, List·Memᴰ·tail, List·Memᴰ·not-nil, List·Memᴰ·append-cases}
-use mathlib.Core.Bool.{Bool, true, false}
+use mathlib.Core.Bool.{true}
 use mathlib.Core.Logic.{_⊎_, inl, inr}
-use Prim.Native.Nat.{ℕ, zero, suc, _+_, _-_, _*_, _/_, _%_, _<_, _≤_}
+use Prim.Native.Nat.{ℕ, zero, suc, _+_, _-_, _*_, _/_, _<_, _≤_}
 use native.Mathlib.Omega.{arith}
 use native.Mathlib.Nat.{mod-lt}
 use lib.Dec.{leb, lit<, lit≤}
@@ -23,7 +23,7 @@ use Rattle.load.specs.Range.{InRange}
 use Rattle.load.specs.Generator.{planOf, rootStruct, allStructs, wholeFields, editedFields}
 use Rattle.load.proofs.Shared.{four}
 use Rattle.load.proofs.Generated.{scalar-size}
-use Rattle.load.proofs.CommandLaws.{InPool, MayPool, FieldFits, StructFits}
+use Rattle.load.proofs.CommandLaws.{InPool, FieldFits, StructFits}
 use Rattle.load.proofs.CommandRange.{scalar-in, retyped-in, slot-in, struct-in, field-in, plain-fits, command-fits, command-small}
 use Rattle.load.specs.declared.outcomes.Outcome.{Outcome}
 use Rattle.load.specs.declared.outcomes.Outcome.the-variants as O

@@ -1,5 +1,5 @@
 -- The root's fields and all structures, in the form in which the code puts them. Assumes nothing.
-use mathlib.Core.Path.{_≡_, refl, sym, _∙_, ap, ap₂}
+use mathlib.Core.Path.{_≡_, sym, _∙_, ap, ap₂}
 use mathlib.Core.List.{List, [], _∷_, _++_, append-assoc, append-nil}
 use Prim.Native.Nat.{ℕ, _+_, _-_, _*_, _≤_, _<_}
 use native.Mathlib.Omega.{arith}
@@ -9,7 +9,7 @@ use Rattle.record.specs.Write.{Puts}
 use Rattle.record.specs.declared.text.Text.{Text}
 use Rattle.record.proofs.WriterLaws.{puts-then, puts-as}
 use Rattle.load.specs.Pool as W
-use Rattle.load.specs.Commands.{fieldBytes, StructCommand, structBytes}
+use Rattle.load.specs.Commands.{fieldBytes, structBytes}
 use Rattle.load.specs.Draws.{seedAfter, plainField, fieldName, structName, scalarText, retypedText, slotText, fieldsFrom, structsFrom, rootSeed, frontFields, backFields, beforeStructs, afterStructs, targetField, retypedField, insertedField, addedField}
 use Rattle.load.specs.Generator.{wholeFields, editedFields, rootStruct, allStructs}
 use Rattle.load.specs.Bytes.{fieldsBytes, wholeBytes, structsBytes, targetFields, lastFields}

@@ -1,32 +1,31 @@
 -- The root of a plan's records: it is the one in a slot, it holds the generation, it owns itself. The standalone pass and the generations pass. Assumes nothing.
 use mathlib.Core.Path.{_≡_, refl, sym, _∙_, ap, subst}
-use mathlib.Core.List.{List, [], _∷_, _++_, map, List·Memᴰ, List·Memᴰ·head, List·Memᴰ·tail, List·Memᴰ·not-nil, List·Memᴰ·append-cases}
+use mathlib.Core.List.{List, [], _∷_, map, List·Memᴰ, List·Memᴰ·head, List·Memᴰ·tail, List·Memᴰ·not-nil}
 use mathlib.Core.Option.{Option, none, some}
-use mathlib.Core.Bool.{Bool, true, false, false≢true, _&&_, _||_, not, cond}
+use mathlib.Core.Bool.{Bool, true, false, false≢true, not, cond}
 use mathlib.Core.Logic.{_⊎_, inl, inr}
-use Prim.Native.Nat.{ℕ, _+_, _<_, _^_}
-use native.Mathlib.Omega.{arith}
-use lib.Dec.{eqb, ltb}
-use borrow.Author.Tests.{eq-eqb, ne-eqb, lt-ltb, le-ltb, not-true}
-use Rattle.record.specs.Base.{Str, bytes, eqs, isText, find, any, mapOption, filterB}
-use Rattle.record.specs.Schema.{integer, Const, Field, Struct, Family, Version}
+use Prim.Native.Nat.{ℕ, _<_, _^_}
+use lib.Dec.{ltb}
+use borrow.Author.Tests.{lt-ltb, not-true}
+use Rattle.record.specs.Base.{Str, bytes, eqs, isText, find, any, mapOption}
+use Rattle.record.specs.Schema.{Const, Field, Struct, Family, Version}
 use Rattle.record.specs.Steps.{structIn, constantIn}
-use Rattle.record.specs.Generation.{Held, asGeneration, ofConstant, ofVersion, ofStruct, generationOf}
+use Rattle.record.specs.Generation.{asGeneration, ofConstant, ofVersion, ofStruct, generationOf}
 use Rattle.record.specs.Versioned.{slotOrder, versioned}
 use Rattle.record.specs.Owner.{Types, structInSlot, rootsIn, withName, ownershipOrder, roots, ownerOf, First, here, now}
-use Rattle.record.proofs.Basics.{eqs→eq, eqs-refl, find-any, find-some, filter-mem, none≢some}
+use Rattle.record.proofs.Basics.{eqs-refl, find-any, find-some, filter-mem}
 use Rattle.record.proofs.Walk.{owner-is-first}
 use Rattle.layout.specs.Layout.{TypeLayout, typeIn, layStruct}
-use Rattle.definition.specs.Verdicts.{Verdict, pass, stop, unraised}
+use Rattle.definition.specs.Verdicts.{pass}
 use Rattle.definition.specs.Pass.{_then_, ensure, each, onFound}
 use Rattle.definition.specs.Constants.{holdsIn, heldByAny, isGeneration}
 use Rattle.definition.specs.Fields.{eqPlaces, sameAs, changed}
 use Rattle.definition.specs.Standalone.{layoutsOf, checkSame, checkShipped, checkShippedAll, checkFamily, checkStandalone}
-use Rattle.definition.specs.Coverage.{owning, standsAlone, checkCovered, checkAllCovered, under, firstUnder}
-use Rattle.definition.specs.Generations.{isListed, checkStill, checkRise, checkFrom, checkAgainst, checkGeneration, checkRoots, checkGenerations}
+use Rattle.definition.specs.Coverage.{owning, checkCovered, checkAllCovered, under, firstUnder}
+use Rattle.definition.specs.Generations.{checkRise, checkFrom, checkAgainst, checkGeneration, checkRoots, checkGenerations}
 use Rattle.definition.proofs.Same.{owning-plain}
-use Rattle.load.specs.Plan.{Plan, root, structsWith, generationAt, constantsWith, constantsWithout, entryAt}
-use Rattle.load.specs.Feasible.{Feasible, Other, Apart, Stands}
+use Rattle.load.specs.Plan.{Plan, root, structsWith, generationAt}
+use Rattle.load.specs.Feasible.{Feasible, Apart}
 use Rattle.load.proofs.Each.{each-all, find-right, find-nowhere, filter-of}
 use Rattle.load.proofs.Layouts.{laid, layouts, eqs-swap, root-found, other-found, self-found, root-member, layout-cases}
 use Rattle.load.proofs.Fields.{same-places}

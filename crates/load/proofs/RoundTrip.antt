@@ -1,8 +1,7 @@
 -- THE ROUND TRIP, for any commands that fit beside the pool: the stream is read, as either side, as the commands' schema. Assumes nothing.
 use mathlib.Core.Path.{_≡_, refl, sym, _∙_, ap, subst}
-use mathlib.Core.List.{List, [], _∷_, _++_}
-use mathlib.Core.Option.{none}
-use mathlib.Core.Bool.{Bool, true, false, cond, _&&_}
+use mathlib.Core.List.{List, [], _∷_}
+use mathlib.Core.Bool.{true}
 use Prim.Native.Nat.{ℕ, _+_, _<_, _≤_}
 use native.Mathlib.Omega.{arith}
 use lib.Dec.{leb}
@@ -13,14 +12,14 @@ use Rattle.record.specs.Scalars.{builtIn}
 use Rattle.record.specs.Schema.{Schema}
 use Rattle.record.specs.Letters.{isLetter, oddLetter}
 use Rattle.record.specs.Commands.{start}
-use Rattle.record.specs.Reading.{Rec, rec, schemaFrom, opened, vast, read, ok, parse, parsed, streamLimit, poolLimit, vastOr, sizesOf, concluded, reading}
+use Rattle.record.specs.Reading.{rec, opened, vast, read, ok, parse, parsed, streamLimit, poolLimit, vastOr, sizesOf, concluded, reading}
 use Rattle.record.specs.declared.command.Parent.{Parent}
 use Rattle.record.specs.declared.command.Parent.the-variants.{NoParent}
 use Rattle.record.specs.declared.refusal.Side.{Side}
 use Rattle.record.specs.declared.letters.Letters.the-variants.{Good}
 use Rattle.load.specs.Pool as W
 use Rattle.load.specs.Generator.{streamOf}
-use Rattle.load.specs.Written.{placesFrom, Fits, AllFit, schemaIn, openedIn, opcode}
+use Rattle.load.specs.Written.{placesFrom, AllFit, schemaIn, openedIn, opcode}
 use Rattle.load.proofs.Parsing.{parse-written}
 use Rattle.load.proofs.Listing.{schema-written, slim, slim-written}
 

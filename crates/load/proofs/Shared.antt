@@ -1,12 +1,11 @@
 -- The sections that both records of a pair share pass beside themselves. Computed, for each pair of releases. Assumes nothing.
-use mathlib.Core.Path.{_≡_, refl, sym, _∙_, ap, subst}
-use mathlib.Core.List.{List, [], _∷_, map, List·Memᴰ, List·Memᴰ·head, List·Memᴰ·tail, List·Memᴰ·not-nil}
+use mathlib.Core.Path.{_≡_, refl, _∙_, ap}
+use mathlib.Core.List.{List, [], _∷_, map, List·Memᴰ, List·Memᴰ·head, List·Memᴰ·tail}
 use mathlib.Core.Option.{Option, none, some}
-use mathlib.Core.Bool.{Bool, true, false, _||_, _&&_, not}
+use mathlib.Core.Bool.{Bool, true, false, _||_}
 use Prim.Native.Nat.{ℕ, zero, suc, _<_}
 use native.Mathlib.Omega.{arith}
-use lib.Dec.{eqb, ltb}
-use Rattle.record.specs.Base.{Str, bytes, eqs, before, isSome, orElse, orOption, mapOption, find, lastOr, findLast, any, signed}
+use Rattle.record.specs.Base.{Str, bytes, eqs, before, isSome, orElse, orOption, mapOption, find, lastOr, findLast}
 use Rattle.record.specs.Stretch.{textOf}
 use Rattle.record.specs.Schema
 use Rattle.record.specs.Schema.{integer, Const, Struct}
@@ -15,7 +14,7 @@ use Rattle.record.specs.Release.{ontoHead, parts, digit, allDigits, isDecimal, 
 use Rattle.record.specs.Versioned.{slotOrder}
 use Rattle.record.proofs.Basics.{eqs-refl}
 use Rattle.layout.specs.Sorted.{insert, insertAll, sorted}
-use Rattle.definition.specs.Verdicts.{Verdict, pass, stop, constantGone, w·constant-gone}
+use Rattle.definition.specs.Verdicts.{Verdict, pass, constantGone}
 use Rattle.definition.specs.Pass.{_then_, ensure, required, each, onFound, empty}
 use Rattle.definition.specs.ReleaseOrder.{checkEarlier, checkCopy, checkReleaseOrder}
 use Rattle.definition.specs.FirstReleases.{constantRelease, apiEnum, enumRelease, valueRelease, keyRelease, checkArrival, checkConstantArrival, checkConstantArrivals, checkValueArrival, checkValueArrivals, checkEnumArrival, checkEnumArrivals, checkKeyArrival, checkKeyArrivals, checkFirstReleases}

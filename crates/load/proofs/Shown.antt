@@ -1,27 +1,24 @@
 -- What 02 says of the draws, computed on some seeds and proved for all: seeds, counts of structures and fields, all sixteen kinds; and the streams of
 -- three seeds beside those of the oracle's model. Assumes nothing.
-use mathlib.Core.Path.{_≡_, refl, sym, _∙_, ap, subst}
-use mathlib.Core.List.{List, [], _∷_, _++_, List·Memᴰ, List·Memᴰ·head, List·Memᴰ·tail, List·Memᴰ·not-nil, List·Memᴰ·append-cases}
-use mathlib.Core.Bool.{Bool, true, false, _&&_, cond}
+use mathlib.Core.Path.{_≡_, refl, _∙_, ap}
+use mathlib.Core.List.{List, [], _∷_, List·Memᴰ, List·Memᴰ·head, List·Memᴰ·tail, List·Memᴰ·not-nil, List·Memᴰ·append-cases}
+use mathlib.Core.Bool.{Bool, true, _&&_}
 use mathlib.Core.Logic.{_⊎_, inl, inr}
-use Prim.Native.Nat.{ℕ, zero, suc, _+_, _-_, _*_, _/_, _%_, _<_, _≤_}
+use Prim.Native.Nat.{ℕ, zero, suc, _+_, _-_, _*_, _%_}
 use native.Mathlib.Omega.{arith}
-use lib.Dec.{eqb}
-use lib.ListN.{length, length-append, getD}
+use lib.ListN.{length, length-append}
 use Rattle.record.specs.Base.{Str, bytes, eqs, any}
 use Rattle.record.specs.Stretch.{textOf}
 use Rattle.record.specs.Schema.{Field, Struct}
 use Rattle.record.specs.Kind.{words, kindWords}
-use Rattle.load.specs.Plan.{generationNow, Plan, whole, root, structsWith, schemaWith, released}
+use Rattle.load.specs.Plan.{generationNow, whole, root, structsWith, schemaWith, released}
 use Rattle.load.specs.Pool as W
-use Rattle.load.specs.Commands.{fieldBytes, structBytes, fieldMeant, fieldsMeant, structMeant, structsMeant, meantText, meantNumber}
+use Rattle.load.specs.Commands.{fieldBytes, structBytes, fieldMeant, fieldsMeant, structMeant, structsMeant}
 use Rattle.load.specs.Draws
 use Rattle.load.specs.Draws.{settingOf}
 use Rattle.load.specs.Range.{InRange}
 use Rattle.load.specs.Generator.{planOf, headBytes, integerBytes, vendorBytes, versionBytes, sharedCommands, fieldCommands, structCommands, rootStruct, allStructs, recordWith, spareCommand, wholeFields, editedFields, spareNow, releasedCommands, currentCommands, streamOf}
 use Rattle.load.proofs.Generated.{in-range}
-use Rattle.load.proofs.Pairs.{whole-plan}
-use Rattle.load.proofs.RecordRange.{fields-count, whole-count}
 use Rattle.load.specs.declared.outcomes.Outcome.the-variants as O
 use Rattle.load.specs.declared.settings.Setting.{Setting}
 

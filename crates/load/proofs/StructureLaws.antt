@@ -1,6 +1,6 @@
 -- Fields and structures put one after the other. Assumes nothing.
-use mathlib.Core.Path.{_≡_, refl, sym, _∙_, ap, subst}
-use mathlib.Core.List.{List, [], _∷_, _++_, append-assoc, append-nil}
+use mathlib.Core.Path.{_≡_, refl, sym, _∙_, ap}
+use mathlib.Core.List.{[], _++_, append-assoc, append-nil}
 use Prim.Native.Nat.{ℕ, zero, suc, _+_, _-_, _*_, _≤_, _<_}
 use native.Mathlib.Omega.{arith}
 use native.Mathlib.Numerals.{sub-one}
@@ -10,7 +10,7 @@ use Rattle.record.specs.Write.{largest, Puts}
 use Rattle.record.specs.declared.text.Text.{Text}
 use Rattle.record.proofs.WriterLaws.{puts-none, puts-then, puts-as}
 use Rattle.load.specs.Pool as W
-use Rattle.load.specs.Commands.{fieldBytes, StructCommand, structBytes}
+use Rattle.load.specs.Commands.{fieldBytes, structBytes}
 use Rattle.load.specs.Draws.{seedAfter, fieldDrawn, fieldsFrom, structName, plainStruct, structsFrom}
 use Rattle.load.specs.Bytes.{fieldsBytes, wholeBytes, structsBytes}
 use Rattle.load.specs.Commands.{structCommand}

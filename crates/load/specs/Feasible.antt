@@ -1,17 +1,16 @@
 -- What a plan must meet for its outcome to be met: the premises of the outcome theorem (proofs/Outcome). Assumes nothing.
 use mathlib.Core.Path.{_≡_}
-use mathlib.Core.List.{List, _∷_, map, List·Memᴰ}
+use mathlib.Core.List.{List, map, List·Memᴰ}
 use mathlib.Core.Option.{none, some}
 use mathlib.Core.Bool.{true, false}
-use mathlib.Core.Logic.{_⊎_}
 use Prim.Native.Nat.{ℕ, _+_, _^_, _<_}
-use Rattle.record.specs.Base.{Str, eqs, bytes}
+use Rattle.record.specs.Base.{Str, eqs}
 use Rattle.record.specs.Schema.{Field, Struct, Family}
 use Rattle.record.specs.Kind.{kindOf, isPadding}
 use Rattle.record.specs.Shapes.{Place, shapeSize}
 use Rattle.record.specs.Versioned.{slotOrder}
 use Rattle.layout.specs.Layout.{TypeLayout, layFamilies}
-use Rattle.definition.specs.Verdicts.{Verdict, pass, constantGone}
+use Rattle.definition.specs.Verdicts.{pass, constantGone}
 use Rattle.definition.specs.ReleaseOrder.{checkReleaseOrder}
 use Rattle.definition.specs.FirstReleases.{checkFirstReleases}
 use Rattle.definition.specs.Constants.{isGeneration, checkConstants}
@@ -22,7 +21,6 @@ use Rattle.definition.specs.Standalone.{layoutsOf, checkStanding}
 use Rattle.definition.specs.Coverage.{standsAlone}
 use Rattle.definition.specs.Chain.{NoDup, NoColon}
 use Rattle.load.specs.Plan.{Plan, whole, constantsWith, constantsWithout, released}
-use Rattle.load.specs.declared.outcomes.Outcome.{Outcome}
 
 abbrev pub fieldNames : List Field → List Str
 fieldNames fs = map (λ (f : Field). f .name) fs

@@ -2,11 +2,11 @@
 -- Assumes nothing.
 use mathlib.Core.List.{List, [], _∷_, _++_}
 use mathlib.Core.Option.{Option, none, some}
-use mathlib.Core.Bool.{Bool, true, false, cond}
+use mathlib.Core.Bool.{true, false}
 use Prim.Native.Nat.{ℕ, _+_, _-_, _^_}
 use Rattle.record.specs.Base.{Str, bytes}
 use Rattle.record.specs.Stretch.{textOf}
-use Rattle.record.specs.Schema.{integer, words, Const, Alias, Enum, EnumValue, BitField, Member, Key, Field, Family, Variant}
+use Rattle.record.specs.Schema.{integer, words, Const, Alias, Enum, BitField, Key, Field, Family}
 use Rattle.record.specs.declared.text.Text.{Text}
 use Rattle.load.specs.Plan.{Plan, generationNow}
 use Rattle.load.specs.Pool as W

@@ -3,7 +3,7 @@
 -- operand and is met". Assumes nothing.
 use mathlib.Core.List.{List, [], _∷_, _++_}
 use mathlib.Core.Option.{none, some}
-use mathlib.Core.Bool.{Bool, false}
+use mathlib.Core.Bool.{false}
 use Prim.Native.Nat.{ℕ, _+_}
 use Rattle.record.specs.Base.{Str}
 use Rattle.record.specs.Scalars.{builtIn}

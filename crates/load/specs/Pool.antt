@@ -1,6 +1,6 @@
 -- The pool of every record, and where its texts are: names of 16 bytes each, which their first three bytes tell apart, the kinds, 20 bytes each,
 -- then the words. Assumes nothing.
-use mathlib.Core.List.{List, [], _∷_, _++_}
+use mathlib.Core.List.{_++_}
 use Prim.Native.Nat.{ℕ, _+_, _*_, _%_}
 use Rattle.record.specs.Base.{Str, bytes}
 use Rattle.record.specs.declared.text.Text.{Text}
@@ -28,9 +28,6 @@ wordTexts =
 
 unfoldable pub pool : Str
 pool = structNames ++ (fieldNames ++ (kindTexts ++ wordTexts))
-
-unfoldable pub poolLength : ℕ
-poolLength = 971
 
 abbrev pub at : ℕ → ℕ → Text
 at s n = record { start = s; len = n }

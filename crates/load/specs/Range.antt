@@ -1,5 +1,5 @@
 -- The range of each draw, and of a setting. Assumes nothing.
-use Prim.Native.Nat.{ℕ, _+_, _≤_, _<_}
+use Prim.Native.Nat.{_≤_, _<_}
 use Rattle.load.specs.declared.settings.Setting.{Setting}
 
 pub record InRange (g : Setting) : Type 0 where

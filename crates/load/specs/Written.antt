@@ -1,7 +1,7 @@
 -- A record as a list of its commands: where they stand, and what the lists of a record are, read off the commands themselves. Assumes nothing.
 use mathlib.Core.Path.{_≡_}
 use mathlib.Core.List.{List, [], _∷_, _++_}
-use mathlib.Core.Option.{Option, some}
+use mathlib.Core.Option.{some}
 use mathlib.Core.Bool.{Bool, true, _||_, cond}
 use Prim.Native.Nat.{ℕ, _+_}
 use lib.Dec.{eqb}

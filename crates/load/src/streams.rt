@@ -14,7 +14,6 @@ ghost use mathlib.Core.Path.{_≡_};
 ghost use mathlib.Core.List.{[], _++_};
 ghost use Rattle.record.specs.Write.{Puts};
 ghost use Rattle.load.specs.Pool.{absent, t·GENERATION, t·TILE-LIMIT, t·0·8·0};
-ghost use Rattle.load.specs.Draws.{structName};
 ghost use Rattle.load.specs.Range.{InRange};
 ghost use Rattle.load.specs.Plan.{generationNow};
 ghost use Rattle.load.specs.Generator.{headBytes, integerBytes, versionBytes, editedFields, spareNow};

@@ -235,15 +235,20 @@ fn print_found(outcome: u32, found: Found, kinds: &[u64]) {
     io::write_all(1, b"\n");
 }
 
-// All pairs of an outcome.
-fn all_seeds(outcome: u32, lengths: &mut [u64]) {
-    let mut kinds = [0u64; 17];
+// Makes and judges all pairs of an outcome.
+fn all_seeds(outcome: u32, kinds: &mut [u64], lengths: &mut [u64]) -> Found {
     let mut found = Found { met: 0, sum: 0 };
     let mut seed = 0;
     while seed < SEEDS {
-        found = one(outcome, seed, found, &mut kinds, lengths);
+        found = one(outcome, seed, found, kinds, lengths);
         seed += 1;
     }
+    found
+}
+
+fn print_outcome(outcome: u32, lengths: &mut [u64]) {
+    let mut kinds = [0u64; 17];
+    let found = all_seeds(outcome, &mut kinds, lengths);
     print_found(outcome, found, &kinds);
 }
 
@@ -315,12 +320,12 @@ fn print_last(lengths: &[u64], wrong: u64) {
 
 fn main() {
     let mut lengths = [0u64; 16];
-    all_seeds(0, &mut lengths);
-    all_seeds(20, &mut lengths);
-    all_seeds(34, &mut lengths);
-    all_seeds(35, &mut lengths);
-    all_seeds(36, &mut lengths);
-    all_seeds(43, &mut lengths);
+    print_outcome(0, &mut lengths);
+    print_outcome(20, &mut lengths);
+    print_outcome(34, &mut lengths);
+    print_outcome(35, &mut lengths);
+    print_outcome(36, &mut lengths);
+    print_outcome(43, &mut lengths);
     let first = strange_outcomes(0, 0);
     let last = strange_outcomes(first, 2147483647);
     let wrong = late_all(last);

@@ -1,5 +1,4 @@
 use Rattle.load.proofs.DrawnLaws.{alias-0, alias-1}
-use borrow.Author.Needs.{needs}
 use Rattle.load.proofs.drawn.alias_text.Statement.{statement}
 use Rattle.load.proofs.drawn.alias_text.Tie as tie
 use Rattle.load.proofs.drawn.alias_text.Reads as reads

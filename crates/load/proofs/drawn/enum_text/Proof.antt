@@ -1,5 +1,4 @@
 use Rattle.load.proofs.DrawnLaws.{enum-0, enum-1}
-use borrow.Author.Needs.{needs}
 use Rattle.load.proofs.drawn.enum_text.Statement.{statement}
 use Rattle.load.proofs.drawn.enum_text.Tie as tie
 use Rattle.load.proofs.drawn.enum_text.Reads as reads

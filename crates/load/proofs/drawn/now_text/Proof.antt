@@ -1,5 +1,4 @@
 use Rattle.load.proofs.DrawnLaws.{now-0, now-1, now-2, now-3}
-use borrow.Author.Needs.{needs}
 use Rattle.load.proofs.drawn.now_text.Statement.{statement}
 use Rattle.load.proofs.drawn.now_text.Tie as tie
 use Rattle.load.proofs.drawn.now_text.Reads as reads

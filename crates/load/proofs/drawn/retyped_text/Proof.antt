@@ -1,5 +1,4 @@
 use Rattle.load.proofs.DrawnLaws.{retyped-0, retyped-1, retyped-2, retyped-3}
-use borrow.Author.Needs.{needs}
 use Rattle.load.proofs.drawn.retyped_text.Statement.{statement}
 use Rattle.load.proofs.drawn.retyped_text.Tie as tie
 use Rattle.load.proofs.drawn.retyped_text.Reads as reads

@@ -1,5 +1,4 @@
 use Rattle.load.proofs.DrawnLaws.{scalar-0, scalar-1, scalar-2, scalar-3}
-use borrow.Author.Needs.{needs}
 use Rattle.load.proofs.drawn.scalar_text.Statement.{statement}
 use Rattle.load.proofs.drawn.scalar_text.Tie as tie
 use Rattle.load.proofs.drawn.scalar_text.Reads as reads

@@ -1,5 +1,4 @@
 use Rattle.load.proofs.DrawnLaws.{slot-0, slot-1, slot-2}
-use borrow.Author.Needs.{needs}
 use Rattle.load.proofs.drawn.slot_text.Statement.{statement}
 use Rattle.load.proofs.drawn.slot_text.Tie as tie
 use Rattle.load.proofs.drawn.slot_text.Reads as reads

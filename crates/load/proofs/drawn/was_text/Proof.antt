@@ -1,5 +1,4 @@
 use Rattle.load.proofs.DrawnLaws.{was-0, was-1, was-2, was-3}
-use borrow.Author.Needs.{needs}
 use Rattle.load.proofs.drawn.was_text.Statement.{statement}
 use Rattle.load.proofs.drawn.was_text.Tie as tie
 use Rattle.load.proofs.drawn.was_text.Reads as reads

@@ -1,6 +1,5 @@
 use mathlib.Core.List.{[]}
 use Rattle.load.proofs.RootLaws.{seed-is, few-draws}
-use native.Mathlib.Omega.{arith}
 use borrow.Author.Needs.{needs}
 use Rattle.load.proofs.root.root_seed.Statement.{statement}
 use Rattle.load.proofs.root.root_seed.Tie as tie

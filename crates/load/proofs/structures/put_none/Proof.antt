@@ -1,6 +1,5 @@
 use Rattle.record.proofs.WriterLaws.{puts-none}
 use native.Mathlib.Omega.{arith}
-use borrow.Author.Needs.{needs}
 use Rattle.load.proofs.structures.put_none.Statement.{statement}
 use Rattle.load.proofs.structures.put_none.Tie as tie
 use Rattle.load.proofs.structures.put_none.Reads as reads
