@@ -172,6 +172,9 @@ pub fn run() {
 /// One call on one input so many times and nothing else, for a tool that counts what the code does; none where the words name
 /// no call or no input.
 pub fn repeat(call: &str, name: &str, turns: u64) -> Option<bool> {
+    if call == "load" {
+        return crate::load::repeat(name, turns);
+    }
     let full = 32 * 1_024;
     let hard = [inputs::fronted_variants, inputs::enums_last, inputs::owned_chain, inputs::owned_fan]
         .map(|input| input(full));

@@ -130,6 +130,21 @@ pub fn bench() {
     println!("| load, 61 | {:.1} | |", a_call(refused));
 }
 
+/// The pairs of the seeds 0 to 999 so many times and nothing else: "written", or "measured" where there is no room.
+pub fn repeat(name: &str, turns: u64) -> Option<bool> {
+    let room = match name {
+        "written" => ROOM,
+        "measured" => 0,
+        _ => return None,
+    };
+    let mut out = [0; ROOM];
+    for _ in 0..turns {
+        let lengths = (0..1_000).map(|seed| load(outcome(seed), seed, &mut out[..room]).len);
+        std::hint::black_box(lengths.sum::<usize>());
+    }
+    Some(true)
+}
+
 fn outcome(seed: u32) -> u32 {
     OUTCOMES[seed as usize % OUTCOMES.len()]
 }

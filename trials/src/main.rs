@@ -31,7 +31,7 @@ use std::path::Path;
 use std::process::ExitCode;
 
 const USAGE: &str = "usage: trials checks SEED COUNT [LEAST] | trials lists|owners|chains|load|memcheck SEED COUNT
-       trials fuzz SECONDS SEED [FOLDER] | trials stack | trials bench | trials repeat check|list|owner INPUT TURNS";
+       trials fuzz SECONDS SEED [FOLDER] | trials stack | trials bench | trials repeat check|list|owner|load INPUT TURNS";
 
 fn main() -> ExitCode {
     let words: Vec<String> = std::env::args().skip(1).collect();

@@ -5,12 +5,12 @@ use mathlib.Core.Option.{none, some}
 use mathlib.Core.Bool.{true, false}
 use Prim.Native.Nat.{ℕ, _+_, _^_, _<_}
 use Rattle.record.specs.Base.{Str, eqs}
-use Rattle.record.specs.Schema.{Field, Struct, Family}
+use Rattle.record.specs.Schema.{Const, Field, Struct, Family}
 use Rattle.record.specs.Kind.{kindOf, isPadding}
 use Rattle.record.specs.Shapes.{Place, shapeSize}
 use Rattle.record.specs.Versioned.{slotOrder}
 use Rattle.layout.specs.Layout.{TypeLayout, layFamilies}
-use Rattle.definition.specs.Verdicts.{pass, constantGone}
+use Rattle.definition.specs.Verdicts.{Verdict, pass, constantGone}
 use Rattle.definition.specs.ReleaseOrder.{checkReleaseOrder}
 use Rattle.definition.specs.FirstReleases.{checkFirstReleases}
 use Rattle.definition.specs.Constants.{isGeneration, checkConstants}
@@ -45,13 +45,15 @@ pub record Stands (p : Plan) (m : Family) : Type 0 where
   pub standing : checkStanding (p .families) (m .name) (m .standalone) ≡ pass
   pub apart : (k : Str) → List·Memᴰ k (layoutsOf m) → eqs (p .name) k ≡ false
 
+-- the first releases of the shared sections, with these current constants beside the released ones
+abbrev pub datedWith : Plan → List Const → ℕ → Verdict
+datedWith p cs n = checkFirstReleases (p .now) (some (p .was)) cs (constantsWith p n) (p .enums) (p .enums) (p .unstored) (p .unstored)
+
 pub record Feasible (p : Plan) : Type 0 where
   -- the sections that both records share pass beside themselves
   pub order : checkReleaseOrder (p .now) (some (p .was)) ≡ pass
-  pub dated : (m n : ℕ)
-      → checkFirstReleases (p .now) (some (p .was)) (constantsWith p m) (constantsWith p n) (p .enums) (p .enums) (p .unstored) (p .unstored) ≡ pass
-  pub dated-without : (m n : ℕ)
-      → checkFirstReleases (p .now) (some (p .was)) (constantsWithout p m) (constantsWith p n) (p .enums) (p .enums) (p .unstored) (p .unstored) ≡ pass
+  pub dated : (m n : ℕ) → datedWith p (constantsWith p m) n ≡ pass
+  pub dated-without : (m n : ℕ) → datedWith p (constantsWithout p m) n ≡ pass
   pub constants-kept : (ss : List Struct) (m n : ℕ)
       → isGeneration ss (constantsWith p m) (p .constant) ≡ true → checkConstants ss (constantsWith p m) (constantsWith p n) ≡ pass
   pub spare-gone : (ss : List Struct) (n : ℕ) → checkConstants ss (constantsWithout p n) (constantsWith p n) ≡ constantGone (p .spare .name)

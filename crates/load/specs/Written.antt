@@ -11,9 +11,11 @@ use Rattle.record.specs.Scalars.{builtIn}
 use Rattle.record.specs.Schema.{Schema, Heading, Const, Alias, Enum, EnumValue, BitField, Member, Key, Field, Struct, Variant, Family, Version}
 use Rattle.record.specs.Shapes.{prefix}
 use Rattle.record.specs.Commands.{operands, widths}
-use Rattle.record.specs.Commands.{headAt, constantAt, aliasAt, enumAt, valueAt, bitfieldAt, memberAt, structAt, familyAt, variantAt, fieldAt, keyAt, versionAt}
+use Rattle.record.specs.Commands.{headAt, constantAt, aliasAt, enumAt, valueAt, bitfieldAt, memberAt}
+use Rattle.record.specs.Commands.{structAt, familyAt, variantAt, fieldAt, keyAt, versionAt}
 use Rattle.record.specs.Judge.{mayStand, parentAfter, faultsFrom}
-use Rattle.record.specs.Lists.{headOf, constantOf, aliasOf, enumOf, valueOf, bitfieldOf, memberOf, structOf, familyOf, variantOf, fieldOf, keyOf, versionOf}
+use Rattle.record.specs.Lists.{headOf, constantOf, aliasOf, enumOf, valueOf, bitfieldOf, memberOf}
+use Rattle.record.specs.Lists.{structOf, familyOf, variantOf, fieldOf, keyOf, versionOf}
 use Rattle.record.specs.Lists.{anything, nothing, aKey, aField}
 use Rattle.record.specs.Reading.{releaseOf, unreleasedOf}
 use Rattle.record.specs.declared.command.Parent.{Parent}

@@ -1,4 +1,4 @@
-// The exported calls, for programs in C and Rust: include/menqachu.h declares them. They are the calls of compare, layout and load, and have their contracts.
+// The exported calls, for programs in C and Rust: include/menqachu.h declares them. They are calls of compare, layout and load, with their contracts.
 use compare::check::check;
 use layout::answer::Answer;
 use layout::list::list_layouts;

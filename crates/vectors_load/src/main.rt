@@ -1,6 +1,6 @@
-// Makes the pairs of the seeds 0 to 999 with each outcome, checks them, and prints what the oracle's model prints of its own pairs (stdout here): for
-// each outcome how many pairs had it, a sum over their bytes and how many fields of each kind their released records show; how long the pairs are; and
-// how many calls that must give 61 do not. Each pair is made in a buffer that is too long, in one just long enough and in one a byte short.
+// Makes the pairs of the seeds 0 to 999 with each outcome and checks them. It prints what `oracle load` prints of its own pairs (stdout here):
+// for each outcome how many pairs had it, a sum over their bytes, and how many fields of each kind their released records show; how long the pairs
+// are; and how many calls that must give 61 do not. Each pair is made in a buffer too long, in one just long enough, and in one a byte short.
 use layout::answer::Answer;
 use menqachu::menqachu_check;
 use menqachu::menqachu_load;
