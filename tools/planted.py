@@ -16,7 +16,8 @@ stdout = open(f'crates/{crate}/stdout').read()
 
 
 def tried(work):
-    """How many vectors the program says differ, none if it does not say, and what `rt try` prints."""
+    """How many vectors the program says differ (1 for a program that prints something else than its stdout), none if it does not say, and what `rt try`
+    prints."""
     run = subprocess.run(['rt', 'try', crate], cwd=work, capture_output=True, text=True)
     said = run.stdout + run.stderr
     if 'ok: the native program at -O0' in said:
@@ -24,7 +25,7 @@ def tried(work):
     # rt shows what the program printed from the first byte that is not its stdout's
     shown = re.search(r'at byte (\d+), expected ".*", found "(.*)\\n"', said)
     if not re.fullmatch(r'\d+ vectors, 0 differ\n', stdout):
-        return 1 if shown else None, said
+        return 1 if 'the native program at -O0 ended, but did not write what is expected' in said else None, said
     line = shown and re.fullmatch(r'\d+ vectors, (\d+) differ', stdout[:int(shown[1])] + shown[2])
     return int(line[1]) if line else None, said
 
