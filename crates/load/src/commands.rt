@@ -1,4 +1,4 @@
-// Commands put as commands.
+// The commands of a field and of a structure, put as bytes.
 use record::text::Text;
 use record::writer::put;
 ghost use mathlib.Core.Path.{_≡_};
@@ -12,7 +12,7 @@ pub struct Num {
     pub value: u32,
 }
 
-// A field's operands; an absent text is 65535 with length 0.
+// A field's operands; an absent text has start 65535 and length 0.
 pub struct FieldCommand {
     pub name: Text,
     pub kind: Text,

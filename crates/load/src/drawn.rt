@@ -57,7 +57,7 @@ pub(crate) fn struct_text(l: u32, i: u32) -> Text
     }
 }
 
-// A word of another size.
+// For 36, a scalar word of another size.
 pub(crate) fn retyped_text(n: u32) -> Text
     ensures { λ r. ⌜ r ≡ retypedText n ⌝ }
 {

@@ -1,4 +1,4 @@
-// The draws: 02, W-213.
+// The draws of 02, W-213.
 ghost use mathlib.Core.Path.{_≡_};
 ghost use Prim.Native.Nat.{_<_};
 ghost use Rattle.load.specs.Draws.{nextSeed, seedAfter, draw};
@@ -10,7 +10,7 @@ fn next_seed(seed: u32) -> u32
     ((seed as u64 * 1103515245 + 12345) % 2147483648) as u32
 }
 
-// The seed after k seedAfter.
+// The seed after k draws.
 pub(crate) fn seed_after(seed: u32, k: u32) -> u32
     ensures { λ r. ⌜ r ≡ seedAfter k seed ⌝ }
 {
@@ -23,7 +23,7 @@ pub(crate) fn seed_after(seed: u32, k: u32) -> u32
     s
 }
 
-// A draw below n, after k seedAfter.
+// The k-th draw from a seed, below n.
 pub(crate) fn draw(seed: u32, k: u32, n: u32) -> u32
     requires { ⌜ 0 < n ⌝ }
     ensures { λ r. ⌜ (r ≡ draw seed k n) × (r < n) ⌝ }

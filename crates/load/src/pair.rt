@@ -1,4 +1,4 @@
-// The load call: 02, W-213.
+// The load call of 02, W-213.
 use crate::outcomes::Outcome;
 use crate::settings::Setting;
 use crate::settings::draw_setting;

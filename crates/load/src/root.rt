@@ -43,7 +43,7 @@ fn put_scalar(out: &mut [u8], at: usize, g: Setting, j: u32, word: Text) -> usiz
     put_field(out, at, field)
 }
 
-// Puts the target field, the same with another size, the one before it that moves it, and the one that is added at the end.
+// Puts the target field; with another size; the inserted one, which moves it; and the one that is added at the end.
 fn put_target(out: &mut [u8], at: usize, g: Setting) -> usize
     requires { ⌜ InRange g ⌝ }
     ensures { λ r. ⌜ Puts (now (out .entry)) at (fieldBytes (targetField g)) (now (out .exit)) r ⌝ }
@@ -109,7 +109,7 @@ fn put_last(out: &mut [u8], at: usize, g: Setting, o: Outcome) -> usize
     }
 }
 
-// Puts the root's fields before the target one, and after it.
+// Puts the root's fields before the target, and after it.
 fn put_front(out: &mut [u8], at: usize, g: Setting) -> usize
     requires { ⌜ InRange g ⌝ }
     ensures { λ r. ⌜ Puts (now (out .entry)) at (fieldsBytes (frontFields g)) (now (out .exit)) r ⌝ }
