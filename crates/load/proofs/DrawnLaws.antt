@@ -1,5 +1,6 @@
--- Texts by a number, as the code's branches have them. Assumes nothing.
+-- Texts by a small number and fields by their kind, as the code's branches have them. Assumes nothing.
 use mathlib.Core.Path.{_≡_, _∙_, ap}
+use mathlib.Core.Bool.{cond}
 use Prim.Native.Nat.{ℕ, _+_, _%_, _≤_, _<_}
 use native.Mathlib.Omega.{arith}
 use native.Mathlib.Nat.{mod-lt}
@@ -7,105 +8,19 @@ use mathlib.Core.List.{List, [], _∷_}
 use lib.ListN.{getD, List·getD-eq-default}
 use Rattle.record.specs.declared.kind.Kind.the-variants as K
 use lib.Dec.{eqb}
-use borrow.Author.Tests.{ne-eqb}
+use borrow.Author.Tests.{eq-eqb, ne-eqb}
 use Rattle.record.specs.declared.text.Text.{Text}
 use Rattle.load.specs.Pool as W
 use Rattle.load.specs.Pool.{structText}
-use Rattle.load.specs.Draws.{scalarText, retypedText, enumText, aliasText, slotText, nowText, wasText, kindAt, plainField, arrayField, gridField, paddingField, fieldAs}
+use Rattle.load.specs.Draws.{scalarText, enumText, aliasText, kindAt, plainField, arrayField, gridField, paddingField, fieldAs}
 use Rattle.load.specs.declared.commands.FieldCommand.{FieldCommand}
 
-module _ (n : ℕ) where
-  pub scalar-0 : n ≡ 0 → W.t·u8 ≡ scalarText n
-  unfolding scalarText
-  scalar-0 e = rw e
+-- the first of two texts where a number is the one tested for, and what the rest of the chain gives where it is not
+pub picked : (n k : ℕ) (a b : Text) → n ≡ k → a ≡ cond (eqb n k) a b
+picked n k a b e = rw (eq-eqb n k e)
 
-  pub scalar-1 : n ≡ 1 → W.t·u16 ≡ scalarText n
-  unfolding scalarText
-  scalar-1 e = rw e
-
-  pub scalar-2 : n ≡ 2 → W.t·u32 ≡ scalarText n
-  unfolding scalarText
-  scalar-2 e = rw e
-
-  pub scalar-3 : (n ≡ 0 → ⊥) → (n ≡ 1 → ⊥) → (n ≡ 2 → ⊥) → W.t·char ≡ scalarText n
-  unfolding scalarText
-  scalar-3 a b c = rw (ne-eqb n 0 a, ne-eqb n 1 b, ne-eqb n 2 c)
-
-  pub enum-0 : n ≡ 0 → W.t·filter ≡ enumText n
-  unfolding enumText
-  enum-0 e = rw e
-
-  pub enum-1 : (n ≡ 0 → ⊥) → W.t·mode ≡ enumText n
-  unfolding enumText
-  enum-1 a = rw (ne-eqb n 0 a)
-
-  pub alias-0 : n ≡ 0 → W.t·ticks ≡ aliasText n
-  unfolding aliasText
-  alias-0 e = rw e
-
-  pub alias-1 : (n ≡ 0 → ⊥) → W.t·well ≡ aliasText n
-  unfolding aliasText
-  alias-1 a = rw (ne-eqb n 0 a)
-
-  pub retyped-0 : n ≡ 0 → W.t·u16 ≡ retypedText n
-  unfolding retypedText
-  retyped-0 e = rw e
-
-  pub retyped-1 : n ≡ 1 → W.t·u32 ≡ retypedText n
-  unfolding retypedText
-  retyped-1 e = rw e
-
-  pub retyped-2 : n ≡ 2 → W.t·char ≡ retypedText n
-  unfolding retypedText
-  retyped-2 e = rw e
-
-  pub retyped-3 : (n ≡ 0 → ⊥) → (n ≡ 1 → ⊥) → (n ≡ 2 → ⊥) → W.t·u32 ≡ retypedText n
-  unfolding retypedText
-  retyped-3 a b c = rw (ne-eqb n 0 a, ne-eqb n 1 b, ne-eqb n 2 c)
-
-  pub slot-0 : n ≡ 0 → W.t·metadata ≡ slotText n
-  unfolding slotText
-  slot-0 e = rw e
-
-  pub slot-1 : n ≡ 1 → W.t·runtime ≡ slotText n
-  unfolding slotText
-  slot-1 e = rw e
-
-  pub slot-2 : (n ≡ 0 → ⊥) → (n ≡ 1 → ⊥) → W.t·info ≡ slotText n
-  unfolding slotText
-  slot-2 a b = rw (ne-eqb n 0 a, ne-eqb n 1 b)
-
-  pub now-0 : n ≡ 0 → W.t·0·9·0 ≡ nowText n
-  unfolding nowText
-  now-0 e = rw e
-
-  pub now-1 : n ≡ 1 → W.t·0·10·0 ≡ nowText n
-  unfolding nowText
-  now-1 e = rw e
-
-  pub now-2 : n ≡ 2 → W.t·1·0·0 ≡ nowText n
-  unfolding nowText
-  now-2 e = rw e
-
-  pub now-3 : (n ≡ 0 → ⊥) → (n ≡ 1 → ⊥) → (n ≡ 2 → ⊥) → W.t·1·10·0 ≡ nowText n
-  unfolding nowText
-  now-3 a b c = rw (ne-eqb n 0 a, ne-eqb n 1 b, ne-eqb n 2 c)
-
-  pub was-0 : n ≡ 0 → W.t·0·8·0 ≡ wasText n
-  unfolding wasText
-  was-0 e = rw e
-
-  pub was-1 : n ≡ 1 → W.t·0·9·0 ≡ wasText n
-  unfolding wasText
-  was-1 e = rw e
-
-  pub was-2 : n ≡ 2 → W.t·0·10·0 ≡ wasText n
-  unfolding wasText
-  was-2 e = rw e
-
-  pub was-3 : (n ≡ 0 → ⊥) → (n ≡ 1 → ⊥) → (n ≡ 2 → ⊥) → W.t·1·9·9 ≡ wasText n
-  unfolding wasText
-  was-3 a b c = rw (ne-eqb n 0 a, ne-eqb n 1 b, ne-eqb n 2 c)
+pub skipped : (n k : ℕ) (a b x : Text) → (n ≡ k → ⊥) → x ≡ b → x ≡ cond (eqb n k) a b
+skipped n k a b x h q = rw (ne-eqb n k h) q
 
 pub mod-below : (t a : ℕ) → 0 < a → a ≤ 8 → t % a < 8
 mod-below t a h j = let q : t % a < a = mod-lt t h in omega arith

@@ -29,6 +29,7 @@ use Rattle.definition.specs.Pass.{ensure, onFound}
 use Rattle.definition.specs.Standalone.{variantNames, layoutsOf, checkStanding}
 use Rattle.definition.specs.Coverage.{standsAlone}
 use Rattle.definition.specs.Chain.{NoDup}
+use Rattle.definition.proofs.Described.{allB, allB-mem}
 use Rattle.load.specs.Plan.{whole, generationAt, constantsWith, constantsWithout, schemaWith, released, current}
 use Rattle.load.specs.Wanted.{wanted}
 use Rattle.load.specs.Feasible.{Feasible, Other, Apart, Stands, Keyless, fieldNames}
@@ -198,16 +199,6 @@ onceB-is (x ∷ xs) h =
     let k = both (not (any (λ (y : Str). eqs y x) xs)) (onceB xs) h in
     (λ m. any-none (λ (y : Str). eqs y x) xs (not-true (any (λ (y : Str). eqs y x) xs) (k .0)) m (eqs-refl x), onceB-is xs (k .1))
 
-allB : {A : Type 0} → (A → Bool) → List A → Bool
-allB q [] = true
-allB q (x ∷ xs) = q x && allB q xs
-
-allB-at : {A : Type 0} (q : A → Bool) (l : List A) → allB q l ≡ true → {x : A} → List·Memᴰ x l → q x ≡ true
-unfolding allB
-allB-at q [] h m = absurd (List·Memᴰ·not-nil m)
-allB-at q (y ∷ l) h (List·Memᴰ·head e) = ap q e ∙ both (q y) (allB q l) h .0
-allB-at q (y ∷ l) h (List·Memᴰ·tail m) = allB-at q l (both (q y) (allB q l) h .1) m
-
 apartB : Str → TypeLayout → Bool
 apartB n t = not (eqs (t .name) n) && onceB (map (λ (f : Place). f .name) (t .fields))
 
@@ -225,7 +216,7 @@ module _ (g : Setting) (r : InRange g) where
   apart : (t : TypeLayout) → List·Memᴰ t (layFamilies (released (planOf g)) familyList) → Apart (structSpelt (g .lengths) (g .root)) t
   unfolding apartB
   apart t m =
-      let a = allB-at (apartB (115 ∷ structRest (g .lengths) (g .root))) (layFamilies (released (planOf g)) familyList) (families-test (structRest (g .lengths) (g .root))) m in
+      let a = allB-mem (apartB (115 ∷ structRest (g .lengths) (g .root))) (layFamilies (released (planOf g)) familyList) (families-test (structRest (g .lengths) (g .root))) m in
       let k = both (not (eqs (t .name) (115 ∷ structRest (g .lengths) (g .root)))) (onceB (map (λ (f : Place). f .name) (t .fields))) a in
       record {
         named = ap (eqs (t .name)) starts ∙ not-true (eqs (t .name) (115 ∷ structRest (g .lengths) (g .root))) (k .0);
@@ -248,8 +239,8 @@ module _ (g : Setting) (r : InRange g) where
     standing = standing-is m i;
     apart = λ k j. ap (λ (x : Str). eqs x k) starts
         ∙ not-true (eqs (115 ∷ structRest (g .lengths) (g .root)) k)
-        (allB-at (λ (k : Str). not (eqs (115 ∷ structRest (g .lengths) (g .root)) k)) (layoutsOf m)
-        (allB-at (λ (m : Family). allB (λ (k : Str). not (eqs (115 ∷ structRest (g .lengths) (g .root)) k)) (layoutsOf m)) familyList (apart-test (structRest (g .lengths) (g .root))) i) j);
+        (allB-mem (λ (k : Str). not (eqs (115 ∷ structRest (g .lengths) (g .root)) k)) (layoutsOf m)
+        (allB-mem (λ (m : Family). allB (λ (k : Str). not (eqs (115 ∷ structRest (g .lengths) (g .root)) k)) (layoutsOf m)) familyList (apart-test (structRest (g .lengths) (g .root))) i) j);
   }
 
   alone-test : (x : Str) → standsAlone familyList (115 ∷ x) ≡ false

@@ -6,13 +6,13 @@ use Prim.Native.Nat.{ℕ, zero, suc, _+_, _/_, _%_, _≤_, _<_}
 use native.Mathlib.Omega.{arith}
 use native.Mathlib.Nat.{mod-lt}
 use lib.Dec.{ltb, lit<, lit≤}
-use lib.ListN.{length, take, drop, length-append, length-take}
+use lib.ListN.{length, length-append}
 use Rattle.record.specs.Base.{Str, bytes, digits, decimal}
-use Rattle.record.specs.Stretch.{textOf}
 use Rattle.record.specs.Fill.{joined}
 use Rattle.record.specs.declared.text.Text.{Text}
 use Rattle.definition.specs.Verdicts.{messageOf, constantGone, fieldGone, moved, resized, unraised}
 use Rattle.definition.specs.Answer.{check}
+use Rattle.record.proofs.WriterLaws.{text-short}
 use Rattle.load.specs.Plan.{outcomeNumber}
 use Rattle.load.specs.Wanted.{wanted}
 use Rattle.load.specs.Pool as W
@@ -68,18 +68,14 @@ module _ (o n : Str) (h : length o ≤ 16) (k : length n ≤ 16) where
   unfolding messageOf unraised bytes summed
   unraised-short a b = let x = decimal-short a in let y = decimal-short b in rw joined-length (omega arith)
 
-text-short : (t : Text) → length (textOf W.pool t) ≤ t .len
-unfolding textOf
-text-short t = let a = length-take (t .len) (drop (t .start) W.pool) in omega arith
-
 module _ (g : Setting) where
   name-short : length (planOf g .name) ≤ 16
   unfolding planOf Draws.structName W.structText
-  name-short = let a = text-short (W.structText (g .lengths) (g .root)) in let b : (g .lengths + g .root) % 14 < 14 = mod-lt (g .lengths + g .root) (lit< tt) in omega arith
+  name-short = let a = text-short _ W.pool (W.structText (g .lengths) (g .root)) refl in let b : (g .lengths + g .root) % 14 < 14 = mod-lt (g .lengths + g .root) (lit< tt) in omega arith
 
   target-short : length (planOf g .target .name) ≤ 16
   unfolding planOf fieldMeant Draws.targetField Draws.fieldName W.fieldText
-  target-short = let a = text-short (W.fieldText (g .lengths) (g .target)) in let b : (g .lengths + g .target) % 14 < 14 = mod-lt (g .lengths + g .target) (lit< tt) in omega arith
+  target-short = let a = text-short _ W.pool (W.fieldText (g .lengths) (g .target)) refl in let b : (g .lengths + g .target) % 14 < 14 = mod-lt (g .lengths + g .target) (lit< tt) in omega arith
 
   spare-short : length (planOf g .spare .name) ≤ 16
   unfolding planOf spareAt bytes

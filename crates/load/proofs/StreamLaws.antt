@@ -65,30 +65,9 @@ module _ (g : Setting) (out : Str) (at : ℕ) (o : Outcome) (after : Str) (r : �
   unfolding spareNow
   spare-unraised e w = rw e (spare-put w)
 
-module _ (g : Setting) (o : Outcome) (r : ℕ) where
-  pub number-accepted : o ≡ O.Accepted → r ≡ g .generation + 1 → r ≡ generationNow o (g .generation)
-  unfolding generationNow
-  number-accepted e q = rw e q
-
-  pub number-constant : o ≡ O.ConstantGone → r ≡ g .generation → r ≡ generationNow o (g .generation)
-  unfolding generationNow
-  number-constant e q = rw e q
-
-  pub number-gone : o ≡ O.FieldGone → r ≡ g .generation → r ≡ generationNow o (g .generation)
-  unfolding generationNow
-  number-gone e q = rw e q
-
-  pub number-moved : o ≡ O.FieldMoved → r ≡ g .generation → r ≡ generationNow o (g .generation)
-  unfolding generationNow
-  number-moved e q = rw e q
-
-  pub number-resized : o ≡ O.FieldResized → r ≡ g .generation → r ≡ generationNow o (g .generation)
-  unfolding generationNow
-  number-resized e q = rw e q
-
-  pub number-unraised : o ≡ O.Unraised → r ≡ g .generation → r ≡ generationNow o (g .generation)
-  unfolding generationNow
-  number-unraised e q = rw e q
+pub raised : (g : Setting) (o : Outcome) (r : ℕ) → o ≡ O.Accepted → r ≡ g .generation + 1 → r ≡ generationNow o (g .generation)
+unfolding generationNow
+raised g o r e q = rw e q
 
 -- a record in three stretches
 record-three : (g : Setting) (release : Text) (spare : List Str) (n : ℕ) (fs : List FieldCommand)

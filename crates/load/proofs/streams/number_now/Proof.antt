@@ -1,4 +1,5 @@
-use Rattle.load.proofs.StreamLaws.{number-accepted, number-constant, number-gone, number-moved, number-resized, number-unraised}
+use Rattle.load.proofs.StreamLaws.{raised}
+use Rattle.load.specs.Plan.{generationNow}
 use borrow.Author.Needs.{needs}
 use Rattle.load.proofs.streams.number_now.Statement.{statement}
 use Rattle.load.proofs.streams.number_now.Tie as tie
@@ -27,22 +28,27 @@ enum-told-6 : tie.Need-enum-told-6
 enum-told-6 c = search needs
 
 returns : tie.Need-returns
-returns c = search number-accepted
+returns c = search raised
 
 returns-2 : tie.Need-returns-2
-returns-2 c = search number-constant
+unfolding generationNow
+returns-2 c = rw (c .enum-told2 .given .1)
 
 returns-3 : tie.Need-returns-3
-returns-3 c = search number-gone
+unfolding generationNow
+returns-3 c = rw (c .enum-told3 .given .1)
 
 returns-4 : tie.Need-returns-4
-returns-4 c = search number-moved
+unfolding generationNow
+returns-4 c = rw (c .enum-told4 .given .1)
 
 returns-5 : tie.Need-returns-5
-returns-5 c = search number-resized
+unfolding generationNow
+returns-5 c = rw (c .enum-told5 .given .1)
 
 returns-6 : tie.Need-returns-6
-returns-6 c = search number-unraised
+unfolding generationNow
+returns-6 c = rw (c .enum-told6 .given .1)
 
 pub number-now-spec : {M : Type 1} → statement M
 number-now-spec =
