@@ -159,7 +159,7 @@ module _ (p : Plan) (g : Feasible p) where
       seam′ : ℕ
       seam′ = endOf (released p) 0 (p .front)
 
-  -- pushed on by the inserted
+  -- moved by the inserted field
   pub pushed : checkPlaces (p .name) (places (released p) 0 (p .front ++ (p .inserted ∷ p .target ∷ p .back))) (places (released p) 0 (whole p))
       ≡ moved (p .name) (p .target .name) seam (seam + shapeSize (released p) (p .inserted))
   unfolding _then_ onFound placeIn checkKept ensure moved front rest seam targetPlace places placeOf find

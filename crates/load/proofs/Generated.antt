@@ -247,7 +247,7 @@ module _ (g : Setting) (r : InRange g) where
   unfolding standsAlone any familyList eqs bytes
   alone-test x = refl
 
-  -- A SETTING IN RANGE GIVES A SOUND PLAN
+  -- a setting in range gives a feasible plan
   pub feasible : Feasible (planOf g)
   unfolding planOf generationAt constantsWith constantsWithout generationConst nowSpelt wasSpelt Draws.structName structSpelt Draws.frontFields Draws.backFields
       Draws.beforeStructs Draws.afterStructs Draws.targetField Draws.retypedField Draws.insertedField Draws.addedField Draws.fieldName fieldSpelt wordSize fieldMeant spareAt
@@ -300,6 +300,6 @@ in-range seed = record {
   fresh = mod-lt (Draws.seedAfter 11 seed / 65536) (lit< tt);
 }
 
--- THE OUTCOME OF EVERY SEED, over schemas
+-- the outcome of every seed, over schemas
 pub met : (seed : ℕ) (o : Outcome) → compare (current o (planOf (Draws.settingOf seed))) (released (planOf (Draws.settingOf seed))) ≡ wanted o (planOf (Draws.settingOf seed))
 met seed o = outcome-is (planOf (Draws.settingOf seed)) (feasible (Draws.settingOf seed) (in-range seed)) o

@@ -94,6 +94,6 @@ module _ (g : Setting) where
   message-short O.FieldResized = resized-short (planOf g .name) (planOf g .target .name) name-short target-short _ _
   message-short O.Unraised = unraised-short (planOf g .name) (planOf g .constant) name-short constant-short _ _
 
--- THE LOAD IS MET, for every seed and outcome and every buffer of 1,024 bytes and more
+-- the check of a pair gives its outcome, for every seed and outcome and every buffer of 1,024 bytes and more
 pub pair-outcome : (seed : ℕ) (o : Outcome) (room : ℕ) → 1024 ≤ room → check room (now-record seed o) (was-record seed) .number ≡ outcomeNumber o
 pair-outcome seed o room h = pair-number seed o room (let a = message-short (settingOf seed) o in omega arith)

@@ -1,4 +1,4 @@
--- THE OUTCOME: a feasible plan's pair gets the wanted number. 02, W-213: the wanted outcome is met. Assumes nothing.
+-- A feasible plan's pair gets the wanted verdict, pass by pass: 02's "the wanted outcome .. is met", over schemas. Assumes nothing.
 use mathlib.Core.Path.{_≡_, refl, _∙_, ap, subst}
 use mathlib.Core.List.{List, [], _∷_, _++_, List·Memᴰ, List·Memᴰ·head, List·Memᴰ·tail, List·Memᴰ·not-nil, List·Memᴰ·append-cases}
 use mathlib.Core.Option.{none, some}

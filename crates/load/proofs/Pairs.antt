@@ -1,4 +1,4 @@
--- THE LOAD: both records of every pair are readable, and the check's verdict is the wanted outcome. 02, W-213. Assumes nothing.
+-- Both records of every pair can be read, and the check of their bytes gives the wanted verdict. Assumes nothing.
 use mathlib.Core.Path.{_≡_, refl, sym, _∙_, ap, subst}
 use mathlib.Core.List.{List, [], _∷_, _++_, List·Memᴰ, List·Memᴰ·head, List·Memᴰ·tail, List·Memᴰ·not-nil}
 use mathlib.Core.Option.{Option, some}
@@ -312,7 +312,7 @@ unfolding verdictOf verdictNumber messageOf textOr
 numbered room pass h = refl
 numbered room (stop w m) h = rw (le-leb (length m) room h)
 
--- FOR EVERY SEED AND OUTCOME: both records are read, and the check answers the wanted verdict
+-- for every seed and outcome the check answers the wanted verdict, with its message
 pub pair-checked : (seed : ℕ) (o : Outcome) (room : ℕ) → check room (now-record seed o) (was-record seed) ≡ verdictOf room (wanted o (planOf (settingOf seed)))
 unfolding check answered now-record was-record
 pair-checked seed o room = rw (current-read (settingOf seed) (in-range seed) o, released-read (settingOf seed) (in-range seed), met seed o)

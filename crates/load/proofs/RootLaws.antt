@@ -156,6 +156,6 @@ module _ (g : Setting) (out : Str) (at : ℕ) (o : Outcome) where
       puts-as (puts-then p (puts-then q s))
       (ap (λ (z : Str). structsBytes (beforeStructs g) ++ z) (structs-cons (rootStruct g (editedFields g o)) (afterStructs g)) ∙ sym (structs-append (beforeStructs g) (rootStruct g (editedFields g o) ∷ afterStructs g)))
 
--- so many seedAfter are a number of the machine
+-- so many draws are a number of the machine
 pub few-draws : (a b : ℕ) → a ≤ 51 → b ≤ 8 → a * b < 4294967296
 few-draws a b h k = let m : a * b ≤ 51 * 8 = mul-le-mul h k in omega arith

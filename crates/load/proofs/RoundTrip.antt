@@ -1,4 +1,4 @@
--- THE ROUND TRIP, for any commands that fit beside the pool: the stream is read, as either side, as the commands' schema. Assumes nothing.
+-- The round trip, for any commands that fit beside the pool: the stream is read, as either side, as the commands' schema. Assumes nothing.
 use mathlib.Core.Path.{_≡_, refl, sym, _∙_, ap, subst}
 use mathlib.Core.List.{List, [], _∷_}
 use mathlib.Core.Bool.{true}

@@ -12,7 +12,7 @@ use Rattle.load.proofs.Generated.{in-range}
 use Rattle.load.specs.declared.settings.Setting.{Setting}
 use Rattle.load.specs.declared.commands.FieldCommand.{FieldCommand}
 
--- one nextSeed of those left
+-- one draw of those left
 seed-after-one : (s n : ℕ) → 0 < n → seedAfter n s ≡ seedAfter (n - 1) (nextSeed s)
 unfolding seedAfter
 seed-after-one s zero h = absurd (omega arith)
