@@ -48,6 +48,7 @@ step "owners, seed 103, $(of 100000) records" "$trials" owners 103 "$(of 100000)
 step "chains, seed 104, $(of 8000) chains" "$trials" chains 104 "$(of 8000)"
 step "load, seed 109, $(of 1000000) pairs" "$trials" load 109 "$(of 1000000)"
 step "memcheck, seed 105, $(of 3000) pairs" valgrind -q --error-exitcode=1 "$trials" memcheck 105 "$(of 3000)"
+step "load under memcheck, seed 110, $(of 3000) pairs" valgrind -q --error-exitcode=1 "$trials" load 110 "$(of 3000)"
 step "stack" "$trials" stack
 step "fuzz, seed 106, $(of 1500) seconds" "$searching/cargo/release/trials" fuzz "$(of 1500)" 106 "$searching/found"
 echo "scale: nothing amiss; $report"
