@@ -8,4 +8,5 @@ pub mod Generator
 pub mod Range
 pub mod Written
 pub mod Load
+pub mod Met
 pub mod Bytes

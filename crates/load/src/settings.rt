@@ -27,7 +27,6 @@ pub struct Setting {
 }
 
 // The setting of a seed.
-
 pub(crate) fn draw_setting(seed: u32) -> Setting
     ensures { λ r. ⌜ (r ≡ settingOf seed) × InRange r ⌝ }
 {
