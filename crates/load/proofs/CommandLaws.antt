@@ -5,16 +5,14 @@ use mathlib.Core.Logic.{_⊎_, inl, inr}
 use Prim.Native.Nat.{ℕ, _+_, _*_, _/_, _%_, _<_, _≤_}
 use native.Mathlib.Omega.{arith}
 use native.Mathlib.Nat.{div-add-mod}
-use lib.Dec.{eqb, ltb, leb}
 use borrow.Author.Tests.{ne-eqb, lt-ltb, le-leb}
 use Rattle.record.specs.Base.{Str, bytes}
 use Rattle.record.specs.Le.{u16At}
 use Rattle.record.specs.Operands.{textAt, optText, optTextAt}
 use Rattle.record.specs.Commands.{operands, wide, widths}
 use Rattle.record.specs.Judge.{ifAbsent, textFault, flagFault, operandFault, faultsFrom, mayStand, parentAfter}
-use Rattle.record.specs.Schema.{Field, Struct}
 use Rattle.record.specs.declared.text.Text.{Text}
-use Rattle.record.specs.declared.operands.OptText.the-variants.{Absent, Given}
+use Rattle.record.specs.declared.operands.OptText.the-variants.{Given}
 use Rattle.record.specs.declared.command.Parent.{Parent}
 use Rattle.record.specs.declared.command.Parent.the-variants.{InStruct}
 use Rattle.record.specs.declared.refusal.Side.{Side}

@@ -1,7 +1,5 @@
 -- Drawn rows: their texts lie in the pool, and their sizes are at most 256. Assumes nothing.
-use mathlib.Core.Path.{_≡_, refl, ap}
-use mathlib.Core.List.{List}
-use mathlib.Core.Option.{Option}
+use mathlib.Core.Path.{_≡_, refl}
 use mathlib.Core.Bool.{Bool, true, false, cond}
 use mathlib.Core.Logic.{inl, inr}
 use Prim.Native.Nat.{ℕ, _+_, _-_, _*_, _%_, _<_, _≤_}
@@ -9,7 +7,7 @@ use native.Mathlib.Omega.{arith}
 use native.Mathlib.Nat.{mod-lt, mul-le-mul}
 use lib.Dec.{eqb, leb, lit<, lit≤}
 use borrow.Author.Tests.{leb-true}
-use Rattle.record.specs.Base.{Str, bytes, eqs, find, orElse, mapOption}
+use Rattle.record.specs.Base.{bytes, eqs, find, orElse, mapOption}
 use Rattle.record.specs.Stretch.{textOf}
 use Rattle.record.specs.Operands.{optText}
 use Rattle.record.specs.Scalars.{builtIn, scalarIn, primSize}
@@ -21,7 +19,7 @@ use Rattle.record.specs.declared.kind.Kind.{Kind}
 use Rattle.record.specs.declared.kind.Kind.the-variants as K
 use Rattle.load.specs.Plan.{schemaWith, released}
 use Rattle.load.specs.Pool as W
-use Rattle.load.specs.Commands.{no, meantText, meantNumber, fieldMeant}
+use Rattle.load.specs.Commands.{meantText, meantNumber, fieldMeant}
 use Rattle.load.specs.Draws
 use Rattle.load.specs.Generator.{planOf, enumList, aliasList, bitfieldList}
 use Rattle.load.proofs.Shared.{four}

@@ -11,8 +11,7 @@ use Rattle.record.specs.Le.{u16At, u32At}
 use Rattle.record.specs.Operands.{textAt, optText, optTextAt, optNumberAt}
 use Rattle.record.specs.Commands.{structAt, fieldAt}
 use Rattle.record.specs.Lists.{optOf, numberOf, structOf, fieldOf, anything}
-use Rattle.record.specs.Schema.{Field, Struct, Key}
-use Rattle.record.specs.declared.text.Text.{Text}
+use Rattle.record.specs.Schema.{Field, Key}
 use Rattle.record.specs.declared.operands.OptNumber.the-variants.{Missing, Number}
 use Rattle.load.specs.Pool as W
 use Rattle.load.specs.Commands.{fieldBytes, StructCommand, structBytes, meantText, meantNumber, fieldMeant, fieldsMeant, structMeant, structsMeant}

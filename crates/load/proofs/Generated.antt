@@ -1,7 +1,7 @@
 -- A setting in range gives a feasible plan. Assumes nothing.
 use mathlib.Core.Path.{_≡_, refl, sym, _∙_, ap, subst}
 use mathlib.Core.List.{List, [], _∷_, _++_, map, List·Memᴰ, List·Memᴰ·head, List·Memᴰ·tail, List·Memᴰ·not-nil}
-use mathlib.Core.Option.{none, some}
+use mathlib.Core.Option.{none}
 use mathlib.Core.Bool.{Bool, true, false, _&&_, not, false≢true}
 use Prim.Native.Nat.{ℕ, zero, suc, _+_, _-_, _*_, _/_, _%_, _<_, _≤_}
 use native.Mathlib.Omega.{arith}
@@ -39,7 +39,7 @@ use Rattle.load.specs.Draws
 use Rattle.load.specs.Range.{InRange}
 use Rattle.load.specs.Generator.{planOf, familyList, spareAt}
 use Rattle.load.proofs.Names.{fieldSpelt, structSpelt, structRest, fields-apart, structs-apart, struct-starts, struct-colons}
-use Rattle.load.proofs.Shared.{four, is, nowSpelt, wasSpelt, generationConst, order-releases, dated-releases, dated-without-releases, enums-pass, bits-pass, bits-dated-releases, kept-constants, gone-constant, slot-known}
+use Rattle.load.proofs.Shared.{four, nowSpelt, wasSpelt, generationConst, order-releases, dated-releases, dated-without-releases, enums-pass, bits-pass, bits-dated-releases, kept-constants, gone-constant, slot-known}
 use Rattle.load.specs.declared.outcomes.Outcome.{Outcome}
 use Rattle.load.specs.declared.settings.Setting.{Setting}
 use Rattle.load.specs.declared.commands.FieldCommand.{FieldCommand}

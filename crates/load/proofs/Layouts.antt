@@ -5,7 +5,7 @@ use mathlib.Core.Option.{some}
 use mathlib.Core.Bool.{Bool, true, false, false≢true}
 use mathlib.Core.Logic.{_⊎_, inl, inr}
 use Prim.Native.Nat.{ℕ, _+_}
-use Rattle.record.specs.Base.{Str, eqs, find}
+use Rattle.record.specs.Base.{Str, eqs}
 use Rattle.record.specs.Schema.{Schema, Const, Field, Struct, Family, Variant, Version}
 use Rattle.record.specs.Kind.{kindOf}
 use Rattle.record.specs.Shapes.{Place, sizeAs, scalarSize, shapeSize, placeOf, places, prefix}

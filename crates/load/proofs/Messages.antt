@@ -1,5 +1,5 @@
 -- The messages of a pair's verdicts are short, so the check program's buffer has room for them. Assumes nothing.
-use mathlib.Core.Path.{_≡_, refl, ap}
+use mathlib.Core.Path.{_≡_, refl}
 use mathlib.Core.List.{List, [], _∷_, _++_}
 use mathlib.Core.Bool.{Bool, true, false, cond}
 use Prim.Native.Nat.{ℕ, zero, suc, _+_, _/_, _%_, _≤_, _<_}
@@ -9,7 +9,6 @@ use lib.Dec.{ltb, lit<, lit≤}
 use lib.ListN.{length, length-append}
 use Rattle.record.specs.Base.{Str, bytes, digits, decimal}
 use Rattle.record.specs.Fill.{joined}
-use Rattle.record.specs.declared.text.Text.{Text}
 use Rattle.definition.specs.Verdicts.{messageOf, constantGone, fieldGone, moved, resized, unraised}
 use Rattle.definition.specs.Answer.{check}
 use Rattle.record.proofs.WriterLaws.{text-short}

@@ -5,13 +5,12 @@ use mathlib.Core.Option.{none, some}
 use mathlib.Core.Logic.{_⊎_, inl, inr}
 use Prim.Native.Nat.{ℕ, _+_, _<_, _^_}
 use native.Mathlib.Omega.{arith}
-use lib.Dec.{eqb, ltb}
 use borrow.Author.Tests.{eq-eqb, ne-eqb, le-ltb}
-use Rattle.record.specs.Base.{Str, eqs, any, orElse, withSome}
+use Rattle.record.specs.Base.{Str, any, orElse, withSome}
 use Rattle.record.specs.Schema.{Const, Key, Field, Struct, Version}
 use Rattle.record.specs.Keys.{fieldKeys, pluginKeys}
 use Rattle.record.proofs.Basics.{eqs-refl}
-use Rattle.layout.specs.Layout.{TypeLayout, types, layStruct}
+use Rattle.layout.specs.Layout.{TypeLayout, layStruct}
 use Rattle.definition.specs.Verdicts.{Verdict, pass, wordNumber, verdictNumber, constantGone, fieldGone, moved, resized, unraised}
 use Rattle.definition.specs.Pass.{_then_, ensure, required, onFound}
 use Rattle.definition.specs.ReleaseOrder.{checkReleaseOrder}

@@ -1,11 +1,10 @@
 -- Both records of every pair can be read, and the check of their bytes gives the wanted verdict. Assumes nothing.
 use mathlib.Core.Path.{_≡_, refl, sym, _∙_, ap, subst}
 use mathlib.Core.List.{List, [], _∷_, _++_, List·Memᴰ, List·Memᴰ·head, List·Memᴰ·tail, List·Memᴰ·not-nil}
-use mathlib.Core.Option.{Option, some}
-use mathlib.Core.Bool.{true, false, not}
+use mathlib.Core.Option.{some}
+use mathlib.Core.Bool.{true, false}
 use Prim.Native.Nat.{ℕ, suc, _+_, _-_, _*_, _≤_}
 use native.Mathlib.Omega.{arith}
-use lib.Dec.{ltb, leb}
 use lib.ListN.{length, length-append}
 use borrow.Author.Tests.{le-ltb, le-leb}
 use Rattle.record.specs.Base.{Str, bytes, eqs, find, any, first, orElse, mapOption}

@@ -9,7 +9,6 @@ use Rattle.record.specs.Operands.{textAt, optText, optTextAt, flagAt}
 use Rattle.record.specs.Commands.{operands, wide, widths}
 use Rattle.record.specs.Judge.{missingIn, ifAbsent, flagFault, operandFault, faultsFrom, follows, mayStand, parentAfter}
 use Rattle.record.specs.declared.text.Text.{Text}
-use Rattle.record.specs.declared.command.Parent.{Parent}
 use Rattle.record.specs.declared.command.Parent.the-variants.{NoParent}
 use Rattle.record.specs.declared.refusal.Side.{Side}
 use Rattle.record.specs.declared.judge.Fault.the-variants.{Outside}

@@ -10,10 +10,10 @@ use Rattle.record.specs.Scalars.{builtIn}
 use Rattle.record.specs.Stretch.{textOf}
 use Rattle.record.specs.Le.{u16At, u32At, u64At}
 use Rattle.record.specs.Operands.{textAt, optText, optTextAt, flagAt, optNumberAt}
-use Rattle.record.specs.Commands.{headAt, constantAt, aliasAt, enumAt, bitfieldAt, familyAt, fieldAt, keyAt, versionAt}
-use Rattle.record.specs.Lists.{optOf, headOf, constantOf, aliasOf, enumOf, bitfieldOf, familyOf, fieldOf, keyOf, versionOf}
+use Rattle.record.specs.Commands.{headAt, constantAt, aliasAt, enumAt, bitfieldAt, familyAt, keyAt, versionAt}
+use Rattle.record.specs.Lists.{optOf, headOf, constantOf, aliasOf, enumOf, bitfieldOf, familyOf, keyOf, versionOf}
 use Rattle.record.specs.Reading.{releaseOf, unreleasedOf}
-use Rattle.record.specs.Schema.{Schema, integer, Const, Alias, Enum, BitField, Key, Field, Struct, Family}
+use Rattle.record.specs.Schema.{Schema, integer, Const, Alias, Enum, BitField, Key, Family}
 use Rattle.record.specs.declared.text.Text.{Text}
 use Rattle.load.specs.Pool as W
 use Rattle.load.specs.Commands.{StructCommand, structsMeant}

@@ -9,7 +9,7 @@ use native.Mathlib.Nat.{mod-lt}
 use lib.Dec.{leb, lit<, lit≤}
 use lib.ListN.{length, length-append}
 use borrow.Author.Tests.{leb-true}
-use Rattle.record.specs.Base.{Str, bytes, eqs, find, orElse}
+use Rattle.record.specs.Base.{bytes, eqs, find, orElse}
 use Rattle.record.specs.Stretch.{textOf}
 use Rattle.record.specs.Operands.{optText}
 use Rattle.record.specs.Scalars.{builtIn, scalarIn, primSize}

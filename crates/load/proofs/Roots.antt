@@ -1,11 +1,10 @@
 -- The root of a plan's records: it is the one in a slot, it holds the generation, it owns itself. The standalone pass and the generations pass. Assumes nothing.
 use mathlib.Core.Path.{_≡_, refl, sym, _∙_, ap, subst}
-use mathlib.Core.List.{List, [], _∷_, map, List·Memᴰ, List·Memᴰ·head, List·Memᴰ·tail, List·Memᴰ·not-nil}
+use mathlib.Core.List.{List, [], _∷_, List·Memᴰ, List·Memᴰ·head, List·Memᴰ·tail, List·Memᴰ·not-nil}
 use mathlib.Core.Option.{Option, none, some}
 use mathlib.Core.Bool.{Bool, true, false, false≢true, not, cond}
 use mathlib.Core.Logic.{_⊎_, inl, inr}
 use Prim.Native.Nat.{ℕ, _<_, _^_}
-use lib.Dec.{ltb}
 use borrow.Author.Tests.{lt-ltb, not-true}
 use Rattle.record.specs.Base.{Str, bytes, eqs, isText, find, any, mapOption}
 use Rattle.record.specs.Schema.{Const, Field, Struct, Family, Version}
@@ -21,7 +20,7 @@ use Rattle.definition.specs.Pass.{_then_, ensure, each, onFound}
 use Rattle.definition.specs.Constants.{holdsIn, heldByAny, isGeneration}
 use Rattle.definition.specs.Fields.{eqPlaces, sameAs, changed}
 use Rattle.definition.specs.Standalone.{layoutsOf, checkSame, checkShipped, checkShippedAll, checkFamily, checkStandalone}
-use Rattle.definition.specs.Coverage.{owning, checkCovered, checkAllCovered, under, firstUnder}
+use Rattle.definition.specs.Coverage.{checkCovered, checkAllCovered, under, firstUnder}
 use Rattle.definition.specs.Generations.{checkRise, checkFrom, checkAgainst, checkGeneration, checkRoots, checkGenerations}
 use Rattle.definition.proofs.Same.{owning-plain}
 use Rattle.load.specs.Plan.{Plan, root, structsWith, generationAt}
