@@ -99,7 +99,7 @@ fn w213_6_parts_and_room() {
     }
 }
 
-/// The same outcome and seed give the same bytes, and the released record is the same for every outcome.
+/// A pair that is made again has the same bytes, and every outcome has the same released record.
 #[test]
 fn w213_7_the_same_again() {
     for seed in 0..50 {
@@ -202,6 +202,8 @@ fn what_burn_in_refuses() {
     }
     assert!(run(&["burn-in"]).complained(3).contains("expected --seeds A..B"));
     assert!(run(&["burn-in", "--seeds"]).complained(3).contains("--seeds takes a value"));
+    let twice = run(&["burn-in", "--seeds", "0..1", "--outcome", "0", "--outcome=20"]);
+    assert!(twice.complained(3).contains("--outcome is given twice"));
     assert!(run(&["burn-in", "--seedsx", "0..1"]).complained(3).contains("there is no option --seedsx"));
     assert!(run(&["burn-in", "--seeds", "0..1", "--outcome", "11"]).complained(3).contains("61 unfit: "));
     assert!(run(&["burn-in", "0..1"]).complained(3).contains("expected 0 operands, found 1"));

@@ -24,9 +24,9 @@ pub struct Args {
 }
 
 impl Args {
-    /// The value of an option, the last where it is given more than once.
+    /// The value of an option.
     pub fn value(&self, option: &str) -> Option<&OsStr> {
-        self.values.iter().rfind(|(name, _)| *name == option).map(|(_, value)| value.as_os_str())
+        self.values.iter().find(|(name, _)| *name == option).map(|(_, value)| value.as_os_str())
     }
 }
 
@@ -50,6 +50,9 @@ pub fn parse(rule: &Rule, words: &[OsString]) -> Result<Asked, Stop> {
         } else if let Some((name, given)) = with_value(rule, word) {
             let missing = || wrong(rule, &format!("{name} takes a value"));
             let value = given.or_else(|| words.next().cloned()).ok_or_else(missing)?;
+            if args.value(name).is_some() {
+                return Err(wrong(rule, &format!("{name} is given twice")));
+            }
             args.values.push((name, value));
         } else if !rule.options.iter().any(|option| word == option) {
             return Err(wrong(rule, &format!("there is no option {}", shown(word))));

@@ -30,7 +30,9 @@ pub fn run(args: &Args) -> Done {
     };
     // Lines are for people: with --json the summary is all that is printed.
     let lines = !args.json;
-    let burnt = burn(seeds, &outcomes, made, &mut |burnt| progress(burnt, lines))?;
+    let burnt = burn(seeds, &outcomes, made, &mut |burnt| progress(burnt, lines));
+    draw("");
+    let burnt = burnt?;
     print_line(&if args.json { burnt.json().to_string() } else { burnt.line() })?;
     Ok(if burnt.difference.is_none() { DONE } else { STOPPED })
 }
@@ -128,19 +130,24 @@ impl Burnt<'_> {
     }
 }
 
-/// A line for each thousand seeds, and the bar where standard error is a terminal.
+/// A line for each thousand seeds, and the bar below it.
 fn progress(burnt: &Burnt, lines: bool) -> Result<(), Stop> {
     if burnt.done % LINE != 0 {
         return Ok(());
     }
-    if stderr().is_terminal() {
-        let end = if burnt.done as usize == burnt.seeds.len() { '\n' } else { '\r' };
-        let _ = write!(stderr(), "{}{end}", burnt.bar());
-    }
+    draw("");
     if lines {
         print_line(&format!("{} seeds, {} pairs, {} bytes", burnt.done, burnt.pairs, burnt.bytes))?;
     }
+    draw(&burnt.bar());
     Ok(())
+}
+
+/// Puts a bar in place of the one before, where standard error is a terminal: an empty one leaves the line free for a text.
+fn draw(bar: &str) {
+    if stderr().is_terminal() {
+        let _ = write!(stderr(), "\r\x1b[K{bar}");
+    }
 }
 
 /// Seeds from one up to another, which is not among them.
