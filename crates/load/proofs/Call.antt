@@ -22,6 +22,7 @@ use Rattle.load.specs.Met.{Met}
 use Rattle.load.proofs.RoundTrip.{pool-long}
 use Rattle.load.proofs.Generated.{in-range}
 use Rattle.load.proofs.Pairs.{now-record, was-record, current-read, released-read, current-short, released-short}
+use Rattle.load.proofs.Shown.{as-drawn, each-as-drawn}
 use Rattle.load.proofs.Messages.{pair-outcome}
 use Rattle.load.specs.declared.outcomes.Outcome.{Outcome}
 use Rattle.load.specs.declared.outcomes.Outcome.the-variants as O
@@ -45,7 +46,7 @@ outcome-number n o h = go (eqb n 0) refl (eqb n 20) refl (eqb n 34) refl (eqb n 
     go false q false q2 false q3 false q4 false q5 false q6 h = absurd (none≢some h)
 
 -- the pair of every seed and each outcome, with the schemas of its plan
-pub pair-met : (seed : ℕ) (o : Outcome) → Met (outcomeNumber o) (pairOf seed o)
+pub pair-met : (seed : ℕ) (o : Outcome) → Met (outcomeNumber o) seed (pairOf seed o)
 unfolding pairOf nowStream wasStream now-record was-record
 pair-met seed o = record {
   stream = nowStream seed o;
@@ -59,6 +60,8 @@ pair-met seed o = record {
   now-read = current-read (settingOf seed) (in-range seed) o;
   was-read = released-read (settingOf seed) (in-range seed);
   number = pair-outcome seed o;
+  structs = as-drawn seed;
+  fields = each-as-drawn seed;
 }
   where
     pool-short : length W.pool ≤ 32768
@@ -73,16 +76,16 @@ roomless m = record { number = 10; side = 0; place = 0; len = length m; text = [
 
 -- 02: "0 giving their length": with 0 the definition's text is a pair with the outcome that was asked for, and the length is the text's
 pub text-met : (room outcome seed : ℕ) → load room outcome seed .number ≡ 0
-    → Met outcome (load room outcome seed .text) × (load room outcome seed .len ≡ length (load room outcome seed .text))
+    → Met outcome seed (load room outcome seed .text) × (load room outcome seed .len ≡ length (load room outcome seed .text))
 unfolding load loadAs unfit textOr
 text-met room outcome seed h = go (leb seed 2147483647) (outcomeAt outcome) refl h
   where
     Good : Answer → Type 0
-    Good a = Met outcome (a .text) × (a .len ≡ length (a .text))
+    Good a = Met outcome seed (a .text) × (a .len ≡ length (a .text))
 
     in-room : (o : Outcome) → outcomeAt outcome ≡ some o → (b : Bool) → cond b (given (pairOf seed o)) (roomless (pairOf seed o)) .number ≡ 0
         → Good (cond b (given (pairOf seed o)) (roomless (pairOf seed o)))
-    in-room o e true h = (subst (λ (n : ℕ). Met n (pairOf seed o)) (outcome-number outcome o e) (pair-met seed o), refl)
+    in-room o e true h = (subst (λ (n : ℕ). Met n seed (pairOf seed o)) (outcome-number outcome o e) (pair-met seed o), refl)
     in-room o e false h = absurd (omega (arith, h))
 
     go : (b : Bool) (x : Option Outcome) → outcomeAt outcome ≡ x → cond b (loadAs room seed x) unfit .number ≡ 0 → Good (cond b (loadAs room seed x) unfit)
@@ -96,7 +99,7 @@ front-taken (b ∷ x) y = ap (λ (l : Str). b ∷ l) (front-taken x y)
 
 -- 02: "the two records are always readable, and the wanted outcome .. is met", of the bytes in the buffer: by the call's contract, whenever it answers 0
 pub load-met : (out after : Str) (outcome seed : ℕ) (r : A.Answer) → Answered out after (load (length out) outcome seed) r → r .number ≡ 0
-    → Met outcome (take (r .len) after)
+    → Met outcome seed (take (r .len) after)
 unfolding fronted
 load-met out after outcome seed r a h =
     let t = text-met (length out) outcome seed (sym (a .number) ∙ h) in

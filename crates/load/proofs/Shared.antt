@@ -98,11 +98,6 @@ unfolding ensure
 same-value true t v = refl
 same-value false t v = rw (eqs-refl t)
 
-or-true : (b : Bool) (v : Verdict) → ensure (b || true) v ≡ pass
-unfolding ensure
-or-true true v = refl
-or-true false v = refl
-
 four-pass : (a b c d : Verdict) → a ≡ pass → b ≡ pass → c ≡ pass → d ≡ pass → (a then (b then (c then (d then pass)))) ≡ pass
 unfolding _then_
 four-pass a b c d p q r s = rw (p, q, r, s)

@@ -49,7 +49,7 @@ fn w213_4_5_6_judged() {
     }
 }
 
-/// The same numbers, the same bytes.
+/// A pair that is made again has the same bytes.
 #[test]
 fn w213_7_again() {
     for seed in 0..50 {
