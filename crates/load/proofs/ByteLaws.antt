@@ -8,7 +8,7 @@ use Rattle.load.specs.Pool as W
 use Rattle.load.specs.Commands.{fieldBytes, StructCommand, structBytes}
 use Rattle.load.specs.Draws
 use Rattle.load.specs.Generator.{headBytes, integerBytes, vendorBytes, versionBytes, sharedCommands, fieldCommands, structCommands, allStructs, recordWith, streamOf}
-use Rattle.load.specs.Bytes.{fieldsBytes, structsBytes, commandsBytes, wholeBytes}
+use Rattle.load.specs.Bytes.{fieldsBytes, structsBytes, commandsBytes, structWithFields}
 use Rattle.load.specs.declared.settings.Setting.{Setting}
 use Rattle.load.specs.declared.commands.FieldCommand.{FieldCommand}
 
@@ -26,8 +26,8 @@ structs-append (s ∷ l) k =
     ∙ sym (append-assoc (structBytes s) (fieldsBytes (s .fields) ++ structsBytes l) (structsBytes k))
 
 -- a structure and those after it
-pub structs-cons : (s : StructCommand) (l : List StructCommand) → wholeBytes s ++ structsBytes l ≡ structsBytes (s ∷ l)
-unfolding wholeBytes structsBytes
+pub structs-cons : (s : StructCommand) (l : List StructCommand) → structWithFields s ++ structsBytes l ≡ structsBytes (s ∷ l)
+unfolding structWithFields structsBytes
 structs-cons s l = append-assoc (structBytes s) (fieldsBytes (s .fields)) (structsBytes l)
 
 stream-fields : (fs : List FieldCommand) (cs : List Str) → streamOf (fieldCommands fs cs) ≡ fieldsBytes fs ++ streamOf cs

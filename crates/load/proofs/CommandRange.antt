@@ -1,4 +1,4 @@
--- Drawn rows: their texts lie in the pool, and their sizes are at most 256. Assumes nothing.
+-- Drawn fields: their texts lie in the pool, and their sizes are at most 256. Assumes nothing.
 use mathlib.Core.Path.{_≡_, refl}
 use mathlib.Core.Bool.{Bool, true, false, cond}
 use mathlib.Core.Logic.{inl, inr}

@@ -1,4 +1,4 @@
--- A record of a pair: its commands fit, and are read as the plan's schema. Assumes nothing.
+-- A record of a pair: its commands fit. Assumes nothing.
 use mathlib.Core.Path.{refl}
 use mathlib.Core.List.{List, [], _∷_, _++_, List·Memᴰ}
 use Prim.Native.Nat.{ℕ, _+_}

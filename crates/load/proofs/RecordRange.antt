@@ -1,4 +1,4 @@
--- The rows of a pair's records: all fit, all are small, and there are few. Assumes nothing.
+-- The fields and structures of a pair's records: all fit, all are small, and there are few. Assumes nothing.
 use mathlib.Core.Path.{_≡_, refl, sym, ap, subst}
 use mathlib.Core.List.{List, [], _∷_, _++_, List·Memᴰ, List·Memᴰ·head, List·Memᴰ·tail, List·Memᴰ·not-nil, List·Memᴰ·append-cases}
 use mathlib.Core.Bool.{true}

@@ -12,7 +12,7 @@ use Rattle.load.specs.Pool as W
 use Rattle.load.specs.Commands.{fieldBytes, structBytes}
 use Rattle.load.specs.Draws.{seedAfter, plainField, fieldName, structName, scalarText, retypedText, slotText, fieldsFrom, structsFrom, rootSeed, frontFields, backFields, beforeStructs, afterStructs, targetField, retypedField, insertedField, addedField}
 use Rattle.load.specs.Generator.{wholeFields, editedFields, rootStruct, allStructs}
-use Rattle.load.specs.Bytes.{fieldsBytes, wholeBytes, structsBytes, targetFields, lastFields}
+use Rattle.load.specs.Bytes.{fieldsBytes, structWithFields, structsBytes, targetFields, lastFields}
 use Rattle.load.specs.Commands.{structCommand}
 use Rattle.load.proofs.ByteLaws.{fields-append, structs-append, structs-cons}
 use Rattle.load.specs.declared.outcomes.Outcome.{Outcome}
@@ -145,11 +145,11 @@ module _ (g : Setting) (out : Str) (at : ℕ) (o : Outcome) where
       (fields-four (frontFields g) (targetFields g o) (backFields g) (lastFields g o) ∙ ap fieldsBytes (edited-four g o))
 
   pub root-put : (name slot : Text) (mid after : Str) (q r : ℕ) → name ≡ W.structText (g .lengths) (g .root) → slot ≡ slotText (g .slot) → Puts out at (structBytes (structCommand name slot W.t·GENERATION)) mid q
-      → Puts mid q (fieldsBytes (editedFields g o)) after r → Puts out at (wholeBytes (rootStruct g (editedFields g o))) after r
-  unfolding wholeBytes rootStruct structName structBytes
+      → Puts mid q (fieldsBytes (editedFields g o)) after r → Puts out at (structWithFields (rootStruct g (editedFields g o))) after r
+  unfolding structWithFields rootStruct structName structBytes
   root-put name slot mid after q r e s a b = puts-then (puts-as a (ap₂ (λ (t k : Text). structBytes (structCommand t k W.t·GENERATION)) e s)) b
 
-  pub all-put : (x y after : Str) (a b r : ℕ) → Puts out at (structsBytes (beforeStructs g)) x a → Puts x a (wholeBytes (rootStruct g (editedFields g o))) y b
+  pub all-put : (x y after : Str) (a b r : ℕ) → Puts out at (structsBytes (beforeStructs g)) x a → Puts x a (structWithFields (rootStruct g (editedFields g o))) y b
       → Puts y b (structsBytes (afterStructs g)) after r → Puts out at (structsBytes (allStructs g (editedFields g o))) after r
   unfolding allStructs
   all-put x y after a b r p q s =

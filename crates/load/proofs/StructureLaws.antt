@@ -12,7 +12,7 @@ use Rattle.record.proofs.WriterLaws.{puts-none, puts-then, puts-as}
 use Rattle.load.specs.Pool as W
 use Rattle.load.specs.Commands.{fieldBytes, structBytes}
 use Rattle.load.specs.Draws.{seedAfter, fieldDrawn, fieldsFrom, structName, plainStruct, structsFrom}
-use Rattle.load.specs.Bytes.{fieldsBytes, wholeBytes, structsBytes}
+use Rattle.load.specs.Bytes.{fieldsBytes, structWithFields, structsBytes}
 use Rattle.load.specs.Commands.{structCommand}
 use Rattle.load.proofs.ByteLaws.{structs-cons}
 use Rattle.load.specs.declared.settings.Setting.{Setting}
@@ -43,10 +43,10 @@ module _ (g : Setting) (out : Str) (at : ℕ) (xs mid : Str) (q s j : ℕ) where
   fields-one zero h = absurd (omega arith)
   fields-one (suc n) h = rw sub-one
 
-  pub fields-on : (n t : ℕ) (row : FieldCommand) (after : Str) (r : ℕ) → Putting out at xs mid q (fieldsBytes (fieldsFrom g s j n)) → 0 < n → row ≡ fieldDrawn g s j
-      → Puts mid q (fieldBytes row) after r → t ≡ seedAfter 3 s → Putting out at xs after r (fieldsBytes (fieldsFrom g t (j + 1) (n - 1)))
+  pub fields-on : (n t : ℕ) (field : FieldCommand) (after : Str) (r : ℕ) → Putting out at xs mid q (fieldsBytes (fieldsFrom g s j n)) → 0 < n → field ≡ fieldDrawn g s j
+      → Puts mid q (fieldBytes field) after r → t ≡ seedAfter 3 s → Putting out at xs after r (fieldsBytes (fieldsFrom g t (j + 1) (n - 1)))
   unfolding fieldBytes
-  fields-on n t row after r p h e w k =
+  fields-on n t field after r p h e w k =
       rw k (putting-next out at xs mid q (fieldsBytes (fieldsFrom g s j n)) (fieldBytes (fieldDrawn g s j)) (fieldsBytes (fieldsFrom g (seedAfter 3 s) (j + 1) (n - 1))) after r p (fields-one n h) (puts-as w (ap fieldBytes e)))
 
   pub fields-end : (n : ℕ) → Putting out at xs mid q (fieldsBytes (fieldsFrom g s j n)) → n ≤ 0 → Puts out at xs mid q
@@ -54,15 +54,15 @@ module _ (g : Setting) (out : Str) (at : ℕ) (xs mid : Str) (q s j : ℕ) where
   fields-end zero p h = putting-end out at xs mid q [] p refl
   fields-end (suc n) p h = absurd (omega arith)
 
-  structs-one : (n : ℕ) → 0 < n → structsBytes (structsFrom g s j n) ≡ wholeBytes (plainStruct g s j) ++ structsBytes (structsFrom g (seedAfter (3 * g .fields) s) (j + 1) (n - 1))
+  structs-one : (n : ℕ) → 0 < n → structsBytes (structsFrom g s j n) ≡ structWithFields (plainStruct g s j) ++ structsBytes (structsFrom g (seedAfter (3 * g .fields) s) (j + 1) (n - 1))
   unfolding structsFrom
   structs-one zero h = absurd (omega arith)
   structs-one (suc n) h = rw sub-one (sym (structs-cons (plainStruct g s j) (structsFrom g (seedAfter (3 * g .fields) s) (j + 1) n)))
 
   pub structs-on : (n t : ℕ) (after : Str) (r : ℕ) → Putting out at xs mid q (structsBytes (structsFrom g s j n)) → 0 < n
-      → Puts mid q (wholeBytes (plainStruct g s j)) after r → t ≡ seedAfter (3 * g .fields) s → Putting out at xs after r (structsBytes (structsFrom g t (j + 1) (n - 1)))
+      → Puts mid q (structWithFields (plainStruct g s j)) after r → t ≡ seedAfter (3 * g .fields) s → Putting out at xs after r (structsBytes (structsFrom g t (j + 1) (n - 1)))
   structs-on n t after r p h w k =
-      rw k (putting-next out at xs mid q (structsBytes (structsFrom g s j n)) (wholeBytes (plainStruct g s j)) (structsBytes (structsFrom g (seedAfter (3 * g .fields) s) (j + 1) (n - 1))) after r p (structs-one n h) w)
+      rw k (putting-next out at xs mid q (structsBytes (structsFrom g s j n)) (structWithFields (plainStruct g s j)) (structsBytes (structsFrom g (seedAfter (3 * g .fields) s) (j + 1) (n - 1))) after r p (structs-one n h) w)
 
   pub structs-end : (n : ℕ) → Putting out at xs mid q (structsBytes (structsFrom g s j n)) → n ≤ 0 → Puts out at xs mid q
   unfolding structsBytes structsFrom
@@ -71,6 +71,6 @@ module _ (g : Setting) (out : Str) (at : ℕ) (xs mid : Str) (q s j : ℕ) where
 
   -- a structure, and its fields
   pub plain-put : (name : Text) (after : Str) (r i : ℕ) (end : Str) (k : ℕ) → name ≡ W.structText (g .lengths) i → Puts mid q (structBytes (structCommand name W.absent W.absent)) after r
-      → Puts after r (fieldsBytes (fieldsFrom g s 0 (g .fields))) end k → Puts mid q (wholeBytes (plainStruct g s i)) end k
-  unfolding wholeBytes plainStruct structName structBytes
+      → Puts after r (fieldsBytes (fieldsFrom g s 0 (g .fields))) end k → Puts mid q (structWithFields (plainStruct g s i)) end k
+  unfolding structWithFields plainStruct structName structBytes
   plain-put name after r i end k e a b = puts-then (puts-as a (ap (λ (t : Text). structBytes (structCommand t W.absent W.absent)) e)) b

@@ -25,8 +25,8 @@ commandsBytes [] = []
 commandsBytes (c ∷ cs) = c ++ commandsBytes cs
 
 -- a structure's command and those of its fields
-unfoldable pub wholeBytes : StructCommand → Str
-wholeBytes s = structBytes s ++ fieldsBytes (s .fields)
+unfoldable pub structWithFields : StructCommand → Str
+structWithFields s = structBytes s ++ fieldsBytes (s .fields)
 
 -- what an outcome makes of the target field, and what it adds at the root's end
 unfoldable pub targetFields : Setting → Outcome → List FieldCommand

@@ -23,7 +23,7 @@ ghost use Rattle.load.specs.Draws.{plainField, fieldName, rootSeed, fron
 ghost use Rattle.load.specs.Draws.{targetField, retypedField, insertedField, addedField};
 ghost use Rattle.load.specs.Range.{InRange};
 ghost use Rattle.load.specs.Generator.{rootStruct, allStructs, editedFields};
-ghost use Rattle.load.specs.Bytes.{fieldsBytes, wholeBytes, structsBytes, targetFields, lastFields};
+ghost use Rattle.load.specs.Bytes.{fieldsBytes, structWithFields, structsBytes, targetFields, lastFields};
 
 // The seed at the root's fields.
 fn root_seed(g: Setting) -> u32
@@ -141,7 +141,7 @@ fn put_edited(out: &mut [u8], at: usize, g: Setting, o: Outcome) -> usize
 // Puts the root.
 fn put_root(out: &mut [u8], at: usize, g: Setting, o: Outcome) -> usize
     requires { ⌜ InRange g ⌝ }
-    ensures { λ r. ⌜ Puts (now (out .entry)) at (wholeBytes (rootStruct g (editedFields g o))) (now (out .exit)) r ⌝ }
+    ensures { λ r. ⌜ Puts (now (out .entry)) at (structWithFields (rootStruct g (editedFields g o))) (now (out .exit)) r ⌝ }
 {
     let name = struct_text(g.lengths, g.root);
     let slot = slot_text(g.slot);

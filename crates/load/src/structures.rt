@@ -11,7 +11,7 @@ ghost use Prim.Native.Nat.{_+_, _≤_, _<_};
 ghost use Rattle.record.specs.Write.{Puts};
 ghost use Rattle.load.specs.Draws.{fieldsFrom, plainStruct, structsFrom};
 ghost use Rattle.load.specs.Range.{InRange};
-ghost use Rattle.load.specs.Bytes.{fieldsBytes, wholeBytes, structsBytes};
+ghost use Rattle.load.specs.Bytes.{fieldsBytes, structWithFields, structsBytes};
 
 // Puts nothing.
 pub(crate) fn put_none(out: &mut [u8], at: usize) -> usize
@@ -37,8 +37,8 @@ pub(crate) fn put_fields(
     let mut j = from;
     let mut left = n;
     while 0 < left {
-        let row = field_drawn(g, s, j);
-        next = put_field(out, next, row);
+        let field = field_drawn(g, s, j);
+        next = put_field(out, next, field);
         s = seed_after(s, 3);
         j += 1;
         left -= 1;
@@ -49,7 +49,7 @@ pub(crate) fn put_fields(
 // Puts a structure without a slot.
 fn put_plain(out: &mut [u8], at: usize, g: Setting, seed: u32, i: u32) -> usize
     requires { ⌜ InRange g × (i < 8) ⌝ }
-    ensures { λ r. ⌜ Puts (now (out .entry)) at (wholeBytes (plainStruct g seed i)) (now (out .exit)) r ⌝ }
+    ensures { λ r. ⌜ Puts (now (out .entry)) at (structWithFields (plainStruct g seed i)) (now (out .exit)) r ⌝ }
 {
     let name = struct_text(g.lengths, i);
     let none = Text {
