@@ -10,7 +10,7 @@
 
 /* Number 0: accepted, or the list is written. 1 to 9: a record is refused, with its side (0 current, 1 released) and the place.
    10: no room, with the length needed. 11 to 46: a verdict, with its message of that length. 59, 60: a pointer that names neither a structure
-   nor a family, or only the other of the two, with the place of its field. */
+   nor a family, or only the other of the two, with the place of its field. 61: an outcome or a seed that no pair has. */
 typedef struct {
     uint32_t number;
     uint32_t side;
@@ -42,5 +42,9 @@ menqachu_owner_answer menqachu_owner(const uint8_t *stream, size_t stream_len, c
 
 /* Whether the pointers of a current record name what they must: 0, 1 to 9, 59 or 60. */
 menqachu_answer menqachu_pointers(const uint8_t *stream, size_t stream_len, const uint8_t *pool, size_t pool_len);
+
+/* A pair of records for a burn-in: current stream, current pool, released stream, released pool, each a length of four bytes (little-endian) and its
+   bytes. Its check gives the wanted outcome: 0, 20, 34, 35, 36 or 43. The seed is at most 2147483647; the same two numbers give the same pair. */
+menqachu_answer menqachu_load(uint32_t outcome, uint32_t seed, uint8_t *out, size_t out_len);
 
 #endif

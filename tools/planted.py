@@ -1,8 +1,8 @@
 #!/usr/bin/env python3
 """planted.py CRATE: for each row of tools/planted-CRATE.txt, plants the mistake in a copy of the repository, runs the program CRATE
-unproved (`rt try`), and sees that it prints `N vectors, M differ` with M above 0. A row is NUMBER ~ FILE ~ OLD ~ NEW, OLD a text that stands once
-in FILE; other lines are passed over. A mistake that does not compile, or with which the program prints no such line, is not caught. Run from the
-repository's top, outside the gate; it ends with how many were caught."""
+unproved (`rt try`), and sees that it prints `N vectors, M differ` with M above 0, or, where its stdout is no such line, anything but its stdout.
+A row is NUMBER ~ FILE ~ OLD ~ NEW, OLD a text that stands once in FILE; other lines are passed over. A mistake that does not compile, or with which
+the program prints nothing of the kind, is not caught. Run from the repository's top, outside the gate; it ends with how many were caught."""
 import os
 import re
 import shutil
@@ -16,13 +16,16 @@ stdout = open(f'crates/{crate}/stdout').read()
 
 
 def tried(work):
-    """How many vectors the program says differ, none if it does not say, and what `rt try` prints."""
+    """How many vectors the program says differ (1 for a program that prints something else than its stdout), none if it does not say,
+    and what `rt try` prints."""
     run = subprocess.run(['rt', 'try', crate], cwd=work, capture_output=True, text=True)
     said = run.stdout + run.stderr
     if 'ok: the native program at -O0' in said:
         return 0, said
     # rt shows what the program printed from the first byte that is not its stdout's
     shown = re.search(r'at byte (\d+), expected ".*", found "(.*)\\n"', said)
+    if not re.fullmatch(r'\d+ vectors, 0 differ\n', stdout):
+        return 1 if 'the native program at -O0 ended, but did not write what is expected' in said else None, said
     line = shown and re.fullmatch(r'\d+ vectors, (\d+) differ', stdout[:int(shown[1])] + shown[2])
     return int(line[1]) if line else None, said
 

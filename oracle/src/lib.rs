@@ -11,6 +11,7 @@ pub mod generate;
 mod items;
 pub mod json;
 pub mod keys_gen;
+pub mod load;
 pub mod model;
 pub mod operands;
 pub mod parts;

@@ -5,7 +5,7 @@ use std::io::{self, Read, Write};
 use std::process::ExitCode;
 
 use oracle::parts::Parts;
-use oracle::{Answer, Side, answers, samples, stats, vectors};
+use oracle::{Answer, Side, answers, load, samples, stats, vectors};
 
 const USAGE: &str = "\
 oracle stats --seed S --pairs N
@@ -14,6 +14,8 @@ oracle vectors-owner --seed S --count N OUT
 oracle vectors-list --seed S --count N OUT
 oracle vectors-check --seed S --count N OUT
 oracle vectors-pointers --seed S --count N OUT
+oracle load --from A --to B
+oracle load-pair --outcome N --seed S OUT
 oracle samples --seed S --per-number K
 oracle samples-list --seed S --per-number K
 oracle samples-owner --seed S --per-number K
@@ -49,6 +51,14 @@ fn run(args: &Args) -> Option<String> {
         "vectors-list" => args.write(&vectors::lists(args.seed()?, args.count()?)),
         "vectors-check" => args.write(&vectors::checks(args.seed()?, args.count()?)),
         "vectors-pointers" => args.write(&vectors::pointers(args.seed()?, args.count()?)),
+        "load" => Some(load_summary(args.number("--from")?, args.number("--to")?)),
+        "load-pair" => {
+            let outcome = u32::try_from(args.number("--outcome")?).ok()?;
+            args.write(&load::pair(
+                outcome,
+                u32::try_from(args.number("--seed")?).ok()?,
+            )?)
+        }
         "samples" => lines(samples::pairs(args.seed()?, args.per_number()?)),
         "samples-list" => lines(samples::lists(args.seed()?, args.per_number()?)),
         "samples-owner" => lines(samples::owners(args.seed()?, args.per_number()?)),
@@ -58,6 +68,13 @@ fn run(args: &Args) -> Option<String> {
         "answer-pointers" => Some(answer_pointers()),
         _ => None,
     }
+}
+
+/// What the pairs of the seeds from one up to another come to; the first that is
+/// amiss ends it.
+fn load_summary(from: usize, to: usize) -> String {
+    let summary = load::summary(from as u32..to as u32);
+    summary.unwrap_or_else(|amiss| panic!("{amiss}"))
 }
 
 fn lines(lines: Vec<String>) -> Option<String> {

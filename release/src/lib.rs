@@ -78,6 +78,7 @@ unsafe extern "C" {
         name_len: usize,
     ) -> OwnerAnswer;
     fn menqachu_pointers(stream: *const u8, stream_len: usize, pool: *const u8, pool_len: usize) -> Answer;
+    fn menqachu_load(outcome: u32, seed: u32, out: *mut u8, out_len: usize) -> Answer;
 }
 
 /// Checks a current record against a released one; a verdict's message stands at the front of `out`.
@@ -138,4 +139,11 @@ pub fn pointers(record: Record) -> Answer {
     let (stream, pool) = (record.stream, record.pool);
     // SAFETY: each pointer comes with the length of its slice, and nothing is written to.
     unsafe { menqachu_pointers(stream.as_ptr(), stream.len(), pool.as_ptr(), pool.len()) }
+}
+
+/// A pair of records whose check gives the wanted outcome, at the front of `out` as the check program's four parts;
+/// 61 for an outcome other than those of `record::pair::OUTCOMES`, or a seed above 2147483647.
+pub fn load(outcome: u32, seed: u32, out: &mut [u8]) -> Answer {
+    // SAFETY: the pointer comes with the length of its slice.
+    unsafe { menqachu_load(outcome, seed, out.as_mut_ptr(), out.len()) }
 }

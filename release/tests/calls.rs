@@ -9,7 +9,8 @@ use std::thread;
 
 use common::top;
 use common::vectors::{pairs, Vectors};
-use menqachu::{check, list, owner, pointers, Answer, Owner, Side};
+use menqachu::record::pair::OUTCOMES;
+use menqachu::{check, list, load, owner, pointers, Answer, Owner, Side};
 
 const STACK: usize = 512 * 1024;
 const MARK: u8 = 0xa5;
@@ -57,6 +58,28 @@ fn list_answers_as_the_oracle() {
             count += 1;
         }
         assert!(count >= 600);
+    });
+}
+
+/// The sums over the pairs of the seeds 0 to 999 are those that the oracle prints of its model.
+#[test]
+fn load_writes_as_the_oracle() {
+    let printed =
+        std::fs::read_to_string(top().join("crates/vectors_load/stdout")).expect("the oracle's lines");
+    on_small_stack(move || {
+        for outcome in OUTCOMES {
+            let mut sum = 0;
+            for seed in 0..1000 {
+                let room = load(outcome, seed, &mut []).len;
+                let mut out = vec![MARK; room].into_boxed_slice();
+                assert_eq!((load(outcome, seed, &mut out).number, out.len()), (0, room), "seed {seed}");
+                sum = out.iter().fold(sum, |sum, &byte| (sum * 257 + u64::from(byte) + 1) % 4_294_967_291);
+            }
+            assert!(
+                printed.contains(&format!("outcome {outcome}: 1000 pairs met, sum {sum}, kinds ")),
+                "{sum}"
+            );
+        }
     });
 }
 

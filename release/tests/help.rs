@@ -6,8 +6,19 @@ use std::os::unix::ffi::OsStringExt;
 
 use common::run;
 
-const COMMANDS: [&str; 9] =
-    ["check", "chain", "list", "owner", "pointers", "diff", "reordered", "assemble", "show"];
+const COMMANDS: [&str; 11] = [
+    "check",
+    "chain",
+    "list",
+    "owner",
+    "pointers",
+    "diff",
+    "reordered",
+    "assemble",
+    "show",
+    "load",
+    "burn-in",
+];
 
 #[test]
 fn help_of_the_whole() {
@@ -38,8 +49,8 @@ fn help_of_each_command() {
 
 #[test]
 fn no_command_and_unknown_commands() {
-    let commands =
-        "the commands are check, chain, list, owner, pointers, diff, reordered, assemble and show\n\
+    let commands = "the commands are check, chain, list, owner, pointers, diff, reordered, assemble, show,\n\
+                    load and burn-in\n\
                     `release --help` says what each does\n";
     assert_eq!(run::<&str>(&[]).complained(3), format!("release: expected a command\n{commands}"));
     let unknown = format!("release: expected a command, found chek\n{commands}");

@@ -11,6 +11,7 @@ use oracle::values;
 use crate::clock::{least, timed};
 use crate::differ::record;
 use crate::inputs::{self, Input};
+use crate::load;
 use crate::pointers;
 use crate::table::grouped;
 
@@ -233,4 +234,5 @@ pub fn run() {
         println!("{row}");
     }
     pointers::bench();
+    load::bench();
 }

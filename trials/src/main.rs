@@ -6,6 +6,7 @@
 //!     trials pointers SEED COUNT         records drawn, their pointers judged
 //!     trials chains SEED COUNT           chains of offers, and what the last keeps of the first
 //!     trials sections SEED COUNT         pairs in another order of their sections, accepted as before
+//!     trials load SEED COUNT             pairs of the load call, checked, and a share held to the model
 //!     trials memcheck SEED COUNT         the calls on blocks of exact lengths, to be run under valgrind
 //!     trials stack                       the smallest thread that suffices for the largest records
 //!     trials fuzz SECONDS SEED [FOLDER]  a search for pairs that differ; they are written to the folder
@@ -23,6 +24,7 @@ mod differ;
 mod fuzz;
 mod inputs;
 mod kept;
+mod load;
 mod memcheck;
 mod mutate;
 mod other;
@@ -37,9 +39,9 @@ use std::path::Path;
 use std::process::ExitCode;
 
 const USAGE: &str =
-    "usage: trials checks SEED COUNT [LEAST] | trials lists|owners|pointers|chains|sections|memcheck SEED COUNT
+    "usage: trials checks SEED COUNT [LEAST] | trials lists|owners|pointers|chains|sections|load|memcheck SEED COUNT
        trials fuzz SECONDS SEED [FOLDER] | trials stack | trials bench [--against FOLDER]
-       trials repeat check|list|owner|pointers INPUT TURNS | trials repeat check|list|owner INPUT TURNS --against FOLDER";
+       trials repeat check|list|owner|pointers|load INPUT TURNS | trials repeat check|list|owner INPUT TURNS --against FOLDER";
 
 fn main() -> ExitCode {
     let words: Vec<String> = std::env::args().skip(1).collect();
@@ -75,6 +77,11 @@ fn run(words: &[&str]) -> Option<bool> {
             println!("{sections}");
             Some(sections.hold())
         }
+        ("load", 3) => {
+            let load = load::run(number(1)?, number(2)?);
+            println!("{load}");
+            Some(load.tally.differ() == 0)
+        }
         ("fuzz", 3 | 4) => {
             let folder = words.get(3).unwrap_or(&"found");
             let fuzz = fuzz::run(number(1)?, number(2)?, Path::new(folder));
@@ -106,6 +113,7 @@ fn measure(words: &[&str]) -> Option<bool> {
             Some(others) => against::run(&others),
             None => return Some(false),
         },
+        ["repeat", "load", input, turns] => load::repeat(input, turns.parse().ok()?)?,
         ["repeat", "pointers", input, turns] => pointers::repeat(input, turns.parse().ok()?)?,
         ["repeat", call, input, turns] => against::repeat(&other::OURS, call, input, turns.parse().ok()?)?,
         ["repeat", call, input, turns, "--against", folder] => match other::others(folder) {

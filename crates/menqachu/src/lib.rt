@@ -1,10 +1,11 @@
-// The exported calls, for programs in C and Rust: include/menqachu.h declares them. They are the calls of compare, layout and pointers, and have their
-// contracts.
+// The exported calls, for programs in C and Rust: include/menqachu.h declares them. They are the calls of compare, layout, pointers and load, and have
+// their contracts.
 use compare::check::check;
 use layout::answer::Answer;
 use layout::list::list_layouts;
 use layout::owner::OwnerFields;
 use layout::owner::ask_owner;
+use load::pair::load;
 use pointers::check::check_pointers;
 use record::refusal::Side;
 ghost use mathlib.Core.Path.{_≡_};
@@ -16,6 +17,7 @@ ghost use Rattle.record.specs.declared.refusal.Side.the-variants.{Current, Rele
 ghost use Rattle.layout.specs.Answer.{list, Answered};
 ghost use Rattle.layout.specs.OwnerCall.{ownerFields, ownerAsked};
 ghost use Rattle.definition.specs.Answer.{check};
+ghost use Rattle.load.specs.Load.{load};
 ghost use Rattle.pointers.specs.Pointers.{pointers, Answers};
 
 // A current record against a released one.
@@ -62,4 +64,12 @@ pub extern "C" fn menqachu_pointers(stream: &[u8], pool: &[u8]) -> Answer
     ensures { λ r. ⌜ Answers (pointers (rec (now (stream .entry)) (now (pool .entry)) builtIn)) r ⌝ }
 {
     check_pointers(stream, pool)
+}
+
+// A pair of records for a burn-in, whose check gives the wanted outcome.
+#[no_mangle]
+pub extern "C" fn menqachu_load(outcome: u32, seed: u32, out: &mut [u8]) -> Answer
+    ensures { λ r. ⌜ Answered (now (out .entry)) (now (out .exit)) (load (length (now (out .entry))) outcome seed) r ⌝ }
+{
+    load(outcome, seed, out)
 }

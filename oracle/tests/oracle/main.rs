@@ -5,6 +5,7 @@ mod common;
 mod files;
 mod generator;
 mod lists;
+mod load;
 mod passes;
 mod pointers;
 mod reader;

@@ -1,6 +1,6 @@
 //! The words behind a command's name: operands and options.
 
-use std::ffi::OsString;
+use std::ffi::{OsStr, OsString};
 
 use super::files::shown;
 use super::{help, Stop};
@@ -11,6 +11,7 @@ pub struct Rule {
     pub help: &'static str,
     pub least: usize,
     pub most: usize,
+    /// One that takes a value ends with `=`.
     pub options: &'static [&'static str],
 }
 
@@ -19,6 +20,14 @@ pub struct Args {
     pub operands: Vec<OsString>,
     pub json: bool,
     pub released: bool,
+    values: Vec<(&'static str, OsString)>,
+}
+
+impl Args {
+    /// The value of an option.
+    pub fn value(&self, option: &str) -> Option<&OsStr> {
+        self.values.iter().find(|(name, _)| *name == option).map(|(_, value)| value.as_os_str())
+    }
 }
 
 pub enum Asked {
@@ -30,13 +39,21 @@ pub enum Asked {
 pub fn parse(rule: &Rule, words: &[OsString]) -> Result<Asked, Stop> {
     let mut args = Args::default();
     let mut options = true;
-    for word in words {
+    let mut words = words.iter();
+    while let Some(word) = words.next() {
         if !options || word == "-" || !word.as_encoded_bytes().starts_with(b"-") {
             args.operands.push(word.clone());
         } else if word == "--" {
             options = false;
         } else if word == "--help" || word == "-h" {
             return Ok(Asked::Help);
+        } else if let Some((name, given)) = with_value(rule, word) {
+            let missing = || wrong(rule, &format!("{name} takes a value"));
+            let value = given.or_else(|| words.next().cloned()).ok_or_else(missing)?;
+            if args.value(name).is_some() {
+                return Err(wrong(rule, &format!("{name} is given twice")));
+            }
+            args.values.push((name, value));
         } else if !rule.options.iter().any(|option| word == option) {
             return Err(wrong(rule, &format!("there is no option {}", shown(word))));
         } else {
@@ -49,6 +66,16 @@ pub fn parse(rule: &Rule, words: &[OsString]) -> Result<Asked, Stop> {
         return Err(wrong(rule, &format!("expected {}, found {given}", counted(rule))));
     }
     Ok(Asked::Run(args))
+}
+
+/// The option that takes a value and that a word names, with the value where it follows after `=`.
+fn with_value(rule: &Rule, word: &OsStr) -> Option<(&'static str, Option<OsString>)> {
+    let names = rule.options.iter().filter_map(|option| option.strip_suffix('='));
+    let text = word.to_str();
+    names.into_iter().find_map(|name| match text?.strip_prefix(name)? {
+        "" => Some((name, None)),
+        rest => Some((name, Some(rest.strip_prefix('=')?.into()))),
+    })
 }
 
 fn counted(rule: &Rule) -> String {

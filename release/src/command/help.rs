@@ -6,7 +6,8 @@ pub fn usage(help: &str) -> &str {
 }
 
 pub const COMMANDS: &str = "\
-the commands are check, chain, list, owner, pointers, diff, reordered, assemble and show
+the commands are check, chain, list, owner, pointers, diff, reordered, assemble, show,
+load and burn-in
 `release --help` says what each does";
 
 pub const WHOLE: &str = "\
@@ -23,6 +24,8 @@ Checks the record of a scan-record schema against the record of the last release
   release reordered ONE OTHER [--json]       whether only the order of sections differs
   release assemble TEXT > RECORD             a record from its text form
   release show RECORD                        the text form of a record
+  release load OUTCOME SEED > PAIR           a pair of records with a wanted outcome
+  release burn-in --seeds A..B [--outcome N] [--json]  the pairs of many seeds, checked
   release COMMAND --help                     more about a command
 
 A record file holds the command stream and then the text pool, each as a length of
@@ -33,8 +36,9 @@ where it is given more than once, the records follow each other there. Words aft
 Exit status:
   0  accepted, or done
   1  a verdict (check), an offered record dropped (chain), a pointer that does not name
-     what it must (pointers), or records of which it is not proved that they are
-     accepted alike (reordered)
+     what it must (pointers), records of which it is not proved that they are accepted
+     alike (reordered), or a pair whose check gives another number than its outcome
+     (burn-in)
   2  a damaged record, or a text that cannot be assembled
   3  a usage error, or a file that cannot be read or written
 ";
@@ -199,4 +203,33 @@ Prints the text form of a record, of which `release assemble` makes a record wit
 the same answers. `release assemble --help` and docs/TEXT-FORM.md describe the form.
 
 Exit status: 0 shown, 2 a damaged record, 3 a usage or file error.
+";
+
+pub const LOAD: &str = "\
+usage: release load OUTCOME SEED > PAIR
+
+Writes a pair of records to standard output, as the check program reads it: current
+stream, current pool, released stream, released pool, each a length of four bytes
+(little-endian) and its bytes. The check of the pair gives OUTCOME, which is 0, 20,
+34, 35, 36 or 43; SEED is a number up to 2147483647. The same two numbers give the
+same pair always. docs/LOAD.md says what is in it.
+
+Exit status: 0 written, 3 another outcome or seed, a usage or file error.
+";
+
+pub const BURN_IN: &str = "\
+usage: release burn-in --seeds A..B [--outcome N] [--json]
+
+Makes the pair of each seed from A up to B, B not among them, with each of the six
+outcomes or with one, checks it, and stops at the first whose check gives another
+number. A line is printed for each thousand seeds, a line for the whole at the end,
+and a bar on standard error where that is a terminal.
+
+  --seeds A..B  the seeds; B is at most 2147483648
+  --outcome N   one outcome: 0, 20, 34, 35, 36 or 43
+  --json        only the summary: an object with the keys from, to, outcomes, pairs,
+                bytes and difference, which is null or has seed, outcome and number
+
+Exit status: 0 each pair has its outcome, 1 one has not, 3 another outcome or seed,
+a usage or file error.
 ";

@@ -3,6 +3,7 @@
 mod answer;
 mod args;
 mod assemble;
+mod burn_in;
 mod chain;
 mod check;
 mod diff;
@@ -10,6 +11,7 @@ mod files;
 mod help;
 mod json;
 mod list;
+mod load;
 mod output;
 mod owner;
 mod pointers;
@@ -58,9 +60,10 @@ struct Entry {
 }
 
 const JSON: &[&str] = &["--json"];
+const BURN_IN: &[&str] = &["--json", "--seeds=", "--outcome="];
 const MANY: usize = usize::MAX;
 
-static ENTRIES: [Entry; 9] = [
+static ENTRIES: [Entry; 11] = [
     Entry { rule: rule("check", help::CHECK, 2, 2, JSON), run: check::run },
     Entry { rule: rule("chain", help::CHAIN, 2, MANY, JSON), run: chain::run },
     Entry { rule: rule("list", help::LIST, 1, 1, &["--json", "--released"]), run: list::run },
@@ -70,6 +73,8 @@ static ENTRIES: [Entry; 9] = [
     Entry { rule: rule("reordered", help::REORDERED, 2, 2, JSON), run: reordered::run },
     Entry { rule: rule("assemble", help::ASSEMBLE, 1, 1, &[]), run: assemble::run },
     Entry { rule: rule("show", help::SHOW, 1, 1, &[]), run: show::run },
+    Entry { rule: rule("load", help::LOAD, 2, 2, &[]), run: load::run },
+    Entry { rule: rule("burn-in", help::BURN_IN, 0, 0, BURN_IN), run: burn_in::run },
 ];
 
 const fn rule(

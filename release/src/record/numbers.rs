@@ -11,7 +11,7 @@ pub fn reason(number: u32) -> Option<&'static str> {
     REASONS.get(index).copied()
 }
 
-const WORDS: [(u32, &str); 49] = [
+const WORDS: [(u32, &str); 50] = [
     (0, "accepted"),
     (1, "cut"),
     (2, "unknown"),
@@ -61,6 +61,7 @@ const WORDS: [(u32, &str); 49] = [
     (46, "fell"),
     (59, "names neither"),
     (60, "names the other"),
+    (61, "unfit"),
 ];
 
 const REASONS: [&str; 9] = [

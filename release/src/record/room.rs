@@ -1,6 +1,6 @@
 //! The proved calls with all the room that their text needs.
 
-use crate::{check, list, Answer, Record, Side};
+use crate::{check, list, load, Answer, Record, Side};
 
 /// The room that document 01's programs lend.
 const ROOM: usize = 65_536;
@@ -14,6 +14,11 @@ pub fn check_whole(current: Record, released: Record) -> (Answer, Vec<u8>) {
 /// The answer of the list call, and the list.
 pub fn list_whole(record: Record, side: Side) -> (Answer, Vec<u8>) {
     in_room(|out| list(record, side, out))
+}
+
+/// The answer of the load call, and the pair.
+pub fn load_whole(outcome: u32, seed: u32) -> (Answer, Vec<u8>) {
+    in_room(|out| load(outcome, seed, out))
 }
 
 /// Makes a call, and once more with the length that answer 10 asks for.

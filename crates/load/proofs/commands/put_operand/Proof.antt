@@ -1,0 +1,33 @@
+use Rattle.record.proofs.WriterLaws.{puts-as}
+use Rattle.load.proofs.PutLaws.{operand-put}
+use borrow.Author.Needs.{needs}
+use Rattle.load.proofs.commands.put_operand.Statement.{statement}
+use Rattle.load.proofs.commands.put_operand.Tie as tie
+use Rattle.load.proofs.commands.put_operand.Reads as reads
+use Rattle.load.proofs.commands.put_operand.Lts as lts
+use Rattle.load.proofs.commands.high.Reads as high-reads
+use Rattle.load.proofs.commands.low.Reads as low-reads
+use Rattle.record.proofs.writer.put.Reads as put-reads
+
+low-requires : tie.Need-low-requires
+low-requires c κs = search needs
+
+high-requires : tie.Need-high-requires
+high-requires c κs = search needs
+
+slice-aggregate-put : tie.Need-slice-aggregate-put
+slice-aggregate-put c = search needs
+
+put-requires : tie.Need-put-requires
+put-requires c κs = search needs
+
+same-length : tie.Need-same-length
+same-length c = search needs
+
+returns : tie.Need-returns
+returns c = search (puts-as, operand-put)
+
+pub put-operand-spec : {M : Type 1} → statement M
+put-operand-spec =
+    tie.close
+    (tie.spec low-requires high-requires slice-aggregate-put put-requires same-length returns)

@@ -1,0 +1,12 @@
+pub mod Plan
+pub mod Wanted
+pub mod Feasible
+pub mod Pool
+pub mod Commands
+pub mod Draws
+pub mod Generator
+pub mod Range
+pub mod Written
+pub mod Load
+pub mod Met
+pub mod Bytes

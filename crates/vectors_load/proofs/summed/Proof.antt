@@ -1,0 +1,49 @@
+use Prim.Native.Nat.{_≤_, _-_}
+use lib.ListN.{length}
+use borrow.Author.Needs.{needs}
+use Rattle.vectors_load.proofs.summed.Statement.{statement}
+use Rattle.vectors_load.proofs.summed.Tie as tie
+use Rattle.vectors_load.proofs.summed.Reads as reads
+use Rattle.vectors_load.proofs.summed.Lts as lts
+use Rattle.vectors_load.proofs.mixed.Reads as mixed-reads
+
+abbrev Inv-loop : tie.InvT-loop
+Inv-loop sum bytes s₀ i₀ s i = i ≤ length bytes
+
+abbrev μ-loop : tie.MeasureT-loop
+μ-loop sum bytes s₀ i₀ s i = length bytes - i
+
+loop-holds : tie.Need-loop-holds Inv-loop μ-loop
+loop-holds c = search needs
+
+shared-slice-read-mixed : tie.Need-shared-slice-read-mixed Inv-loop μ-loop
+shared-slice-read-mixed c = search needs
+
+mixed-requires : tie.Need-mixed-requires Inv-loop μ-loop
+mixed-requires c κs = search needs
+
+add-i : tie.Need-add-i Inv-loop μ-loop
+add-i c = search needs
+
+loop-less : tie.Need-loop-less Inv-loop μ-loop
+loop-less c = search needs
+
+loop-again : tie.Need-loop-again Inv-loop μ-loop
+loop-again c = search needs
+
+returns : tie.Need-returns Inv-loop μ-loop
+returns c = search needs
+
+pub summed-spec : {M : Type 1} → statement M
+summed-spec =
+    tie.close
+    (tie.spec
+    Inv-loop
+    μ-loop
+    loop-holds
+    shared-slice-read-mixed
+    mixed-requires
+    add-i
+    loop-less
+    loop-again
+    returns)
