@@ -203,7 +203,7 @@ pub(crate) fn both_bare(stream: &[u8], is: SpotCursor, past: &[u8], was: SpotCur
 }
 
 // Whether two types have the same fields in the same order, padding included.
-pub(crate) fn same_fields(
+pub fn same_fields(
     rows: &[u8],
     stream: &[u8],
     pool: &[u8],

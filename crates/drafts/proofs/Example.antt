@@ -1,0 +1,118 @@
+-- A draft, its edits and its counts on bytes, computed. Assumes nothing.
+use mathlib.Core.Path.{_≡_, refl}
+use mathlib.Core.List.{List, [], _∷_, _++_}
+use Prim.Native.Nat.{ℕ}
+use Rattle.record.specs.Base.{Str, bytes}
+use Rattle.record.specs.Fill.{fronted}
+use Rattle.record.specs.Scalars.{builtIn}
+use Rattle.record.specs.Reading.{Rec, rec}
+use Rattle.drafts.specs.Parts.{partsOf}
+use Rattle.drafts.specs.Edits.{Edited, noRoom, done, adding, removing, edit, count, Kept, series}
+use Rattle.record.specs.Base as Base
+use Rattle.record.specs.Le as Le
+use Rattle.record.specs.Stretch as Stretch
+use Rattle.record.specs.Operands as Operands
+use Rattle.record.specs.Commands as Commands
+use Rattle.record.specs.Lists as Lists
+use Rattle.record.specs.Judge as Judge
+use Rattle.record.specs.Letters as Letters
+use Rattle.record.specs.Reading as Reading
+use Rattle.record.specs.Shapes as Shapes
+use Rattle.record.specs.Kind as Kind
+use Rattle.record.specs.Scalars as Scalars
+use Rattle.record.specs.Fill as Fill
+use Rattle.layout.specs.Layout as Layout
+use Rattle.layout.specs.Sorted as Sorted
+use Rattle.definition.specs.Fields as Fields
+use Rattle.drafts.specs.Content as Content
+use Rattle.drafts.specs.Packing as Packing
+use Rattle.drafts.specs.Parts as Parts
+use Rattle.drafts.specs.Addition as Addition
+use Rattle.drafts.specs.Count as Count
+use Rattle.drafts.specs.Edits as Edits
+use Rattle.drafts.proofs.Series.{Right}
+
+-- a text's place and length, an absent text, and no number
+unfoldable pub t : ℕ → ℕ → Str
+t start len = start ∷ 0 ∷ len ∷ []
+
+unfoldable pub o : Str
+o = 255 ∷ 255 ∷ 0 ∷ []
+
+unfoldable pub no : Str
+no = 0 ∷ 0 ∷ 0 ∷ 0 ∷ 0 ∷ []
+
+-- the head, and the structure t with one field n; blanks stand between the texts, and no text covers them
+unfoldable pub stream : Str
+unfolding t o no
+stream = 1 ∷ t 0 1 ++ 0 ∷ 8 ∷ t 13 1 ++ o ++ o ++ 11 ∷ t 15 1 ++ t 2 6 ++ t 9 3 ++ o ++ no ++ no ++ no ++ no ++ 15 ∷ []
+
+unfoldable pub record-of : Rec
+unfolding stream
+record-of = rec stream (bytes "9 scalar u16 t n  ") builtIn
+
+-- the structure m without fields
+unfoldable pub more : Rec
+unfolding t o
+more = rec (1 ∷ t 0 1 ++ 0 ∷ 8 ∷ t 1 1 ++ o ++ o ++ 15 ∷ []) (bytes "9m") []
+
+-- both structures, with the bytes that texts cover
+unfoldable pub both : Rec
+unfolding t o no
+both =
+    rec (1 ∷ t 0 1 ++ 0 ∷ 8 ∷ t 10 1 ++ o ++ o ++ 11 ∷ t 11 1 ++ t 1 6 ++ t 7 3 ++ o ++ no ++ no ++ no ++ no ++ 8 ∷ t 12 1 ++ o ++ o ++ 15 ∷ [])
+    (bytes "9scalaru16tnm") builtIn
+
+-- m alone
+unfoldable pub one : Rec
+unfolding t o
+one = rec (1 ∷ t 0 1 ++ 0 ∷ 8 ∷ t 1 1 ++ o ++ o ++ 15 ∷ []) (bytes "9m") builtIn
+
+-- just the room that both structures need, and a byte less
+unfoldable pub lent : Str
+unfolding partsOf record-of
+lent = partsOf record-of ++ bytes "room!"
+
+unfoldable pub less : Str
+unfolding partsOf record-of
+less = partsOf record-of ++ bytes "room"
+
+-- what 02 asks for, in this order: the draft equals its copy, and the count is 0; an addition fits into the room to the byte; with a byte less it is 10;
+-- a series of an addition, the same again, which is 55, and the first structure taken out
+pub record Computed : Type 0 where
+  pub begins : _≡_ {A = Edited} (count builtIn record-of lent) (done 0 lent)
+  pub added : _≡_ {A = Edited} (edit builtIn record-of 0 lent (adding more)) (done 1 (fronted lent (partsOf both)))
+  pub no-room : _≡_ {A = Edited} (edit builtIn record-of 0 less (adding more)) (noRoom 80 0 less)
+  pub three : _≡_ {A = Kept} (series builtIn record-of (record { changed = 0; buffer = lent }) (adding more ∷ adding more ∷ removing (bytes "t") ∷ []))
+      (record { changed = 2; buffer = fronted (fronted lent (partsOf both)) (partsOf one) })
+
+pub computed : Computed
+unfolding Base.bytes Base.eqs Base.isText Base.isSome Base.before Base.decimal Base.signed Base.orElse Base.orOption Base.mapOption
+    Base.withSome Base.first Base.find Base.lastOr Base.findLast Base.any Base.filterB Le.u16At Le.u32At Le.u64At Stretch.textOf
+    Operands.textAt Operands.optText Operands.optTextAt Operands.flagAt Operands.optNumberAt Commands.operands Commands.wide Commands.widths
+    Commands.widthWith Commands.widthOf Commands.commandOf Commands.stepAt Commands.commandsFrom Commands.commandsAt Lists.listed
+    Lists.heads Lists.constants Lists.aliases Lists.values Lists.enums Lists.members Lists.bitfields Lists.keys Lists.fields Lists.structs
+    Lists.variants Lists.families Lists.unstored Lists.versions Judge.ifAbsent Judge.flagFault Judge.operandFault Judge.faultsFrom
+    Judge.faultsOf Judge.follows Judge.mayStand Judge.rowAt Judge.parentAfter Judge.ready Judge.judgedWith Judge.judgedAt Letters.isLetter
+    Letters.allLetters Letters.oddLetter Reading.releaseOf Reading.unreleasedOf Reading.schemaFrom Reading.schemaOf Reading.openedAt
+    Reading.opened Reading.large Reading.vast Reading.onto Reading.continued Reading.parse Reading.parsed Reading.streamLimit
+    Reading.poolLimit Reading.vastOr Reading.sizesOf Reading.concluded Reading.reading Shapes.enumSize Shapes.aliasSize Shapes.bitfieldSize
+    Shapes.sized Shapes.scalarSize Shapes.sizeAs Shapes.shapeSize Shapes.spaced Shapes.named Shapes.restAs Shapes.shapeType Shapes.placeOf
+    Shapes.places Shapes.plain Shapes.prefix Shapes.capped Kind.words Kind.kindWords Kind.meaning Kind.ofLength Kind.kindOf
+    Scalars.beforeZero Scalars.scalarAt Scalars.scalarsFrom Scalars.scalarsAt Scalars.scalarsOf Scalars.scalarIn Scalars.primSize
+    Scalars.builtIn Scalars.builtInRows Fill.joined Fill.placed Fill.fronted Layout.variantName Layout.layStruct Layout.layFamily
+    Layout.layVariant Layout.layFamilies Layout.flattened Layout.types Layout.typeIn Sorted.insert Sorted.insertAll Sorted.sorted
+    Fields.placeIn Fields.checkKept Fields.checkPlace Fields.checkPlaces Fields.checkType Fields.checkFields Fields.eqPlace Fields.eqPlaces
+    Fields.sameAs Fields.changed Content.bytesAt Content.isPlain Content.operandAt Content.operandsAt Content.operandsWith Content.contentAs
+    Content.contentAt Content.contentsOf Packing.textsFrom Packing.textsWith Packing.textsAt Packing.textsOf Packing.covers Packing.covered
+    Packing.kept Packing.keptBefore Packing.le2 Packing.operandBytes Packing.rowBytes Packing.rowWith Packing.writtenAt Packing.written
+    Packing.movedTo Packing.packedPool Packing.packedCommands Packing.streamOf Parts.stated Parts.part Parts.afterPart Parts.heldRec
+    Parts.readHeld Parts.le4 Parts.partsOf Addition.isType Addition.isPart Addition.mayAdd Addition.additionAs Addition.additionAt
+    Addition.parseAddition Addition.concludedAddition Addition.addition Count.gone Count.countChanged Edits.refused Edits.declined
+    Edits.noRoom Edits.done Edits.named Edits.afterParts Edits.without Edits.removed Edits.tail Edits.nameAfter Edits.added Edits.settled
+    Edits.addedOr Edits.removedOr Edits.editing Edits.edited Edits.edit Edits.counted Edits.count Edits.series lent less more both one record-of stream t o no
+computed = record { begins = refl; added = refl; no-room = refl; three = refl }
+
+-- the premise of series-right holds of this draft
+pub right : Right builtIn record-of (record { changed = 0; buffer = lent })
+right = record { afresh = computed .begins }

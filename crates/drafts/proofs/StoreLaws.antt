@@ -1,0 +1,13 @@
+-- A record put as its two parts. Assumes nothing.
+use mathlib.Core.List.{[]}
+use Prim.Native.Nat.{ℕ}
+use lib.ListN.{length}
+use Rattle.record.specs.Base.{Str}
+use Rattle.record.specs.Write.{Puts}
+use Rattle.record.specs.Reading.{rec}
+use Rattle.record.proofs.WriterLaws.{puts-then}
+use Rattle.drafts.specs.Parts.{le4, partsOf}
+
+pub parts-put : {s p out a b c d : Str} {i j k r : ℕ} → Puts out 0 (le4 (length s)) a i → Puts a i s b j → Puts b j (le4 (length p)) c k → Puts c k p d r → Puts out 0 (partsOf (rec s p [])) d r
+unfolding partsOf
+parts-put w x y z = puts-then w (puts-then x (puts-then y z))

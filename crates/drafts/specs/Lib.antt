@@ -1,0 +1,16 @@
+pub mod Content
+pub mod Packing
+pub mod Parts
+pub mod Addition
+pub mod Count
+pub mod Edits
+pub mod Effects
+pub mod Code
+pub mod Packed
+pub mod Found
+pub mod Judging
+pub mod Counted
+pub mod Answering
+pub mod Building
+pub mod Summing
+pub mod Finishing
