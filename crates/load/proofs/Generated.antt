@@ -25,11 +25,11 @@ use Rattle.layout.specs.Layout.{TypeLayout, variantName, layFamily, layVariant,
 use Rattle.definition.specs.Verdicts.{pass}
 use Rattle.definition.specs.Compare.{compare}
 use Rattle.load.proofs.Outcome.{outcome-is}
-use Rattle.definition.specs.Pass.{ensure, onFound}
+use Rattle.definition.specs.Pass.{ensure, onFound, allOf}
 use Rattle.definition.specs.Standalone.{variantNames, layoutsOf, checkStanding}
 use Rattle.definition.specs.Coverage.{standsAlone}
 use Rattle.definition.specs.Chain.{NoDup}
-use Rattle.definition.proofs.Described.{allB, allB-mem}
+use Rattle.definition.proofs.Lists.{all-of}
 use Rattle.load.specs.Plan.{whole, generationAt, constantsWith, constantsWithout, schemaWith, released, current}
 use Rattle.load.specs.Wanted.{wanted}
 use Rattle.load.specs.Feasible.{Feasible, Other, Apart, Stands, Keyless, fieldNames}
@@ -209,22 +209,22 @@ module _ (g : Setting) (r : InRange g) where
   starts : structSpelt (g .lengths) (g .root) ≡ 115 ∷ structRest (g .lengths) (g .root)
   starts = struct-starts (g .lengths) (r .lengths) (g .root) root-low
 
-  families-test : (x : Str) → allB (apartB (115 ∷ x)) (layFamilies (released (planOf g)) familyList) ≡ true
-  unfolding allB apartB onceB any familyList layFamilies layFamily layVariant variantName prefix plain places placeOf eqs bytes
+  families-test : (x : Str) → allOf (apartB (115 ∷ x)) (layFamilies (released (planOf g)) familyList) ≡ true
+  unfolding allOf apartB onceB any familyList layFamilies layFamily layVariant variantName prefix plain places placeOf eqs bytes
   families-test x = refl
 
   apart : (t : TypeLayout) → List·Memᴰ t (layFamilies (released (planOf g)) familyList) → Apart (structSpelt (g .lengths) (g .root)) t
   unfolding apartB
   apart t m =
-      let a = allB-mem (apartB (115 ∷ structRest (g .lengths) (g .root))) (layFamilies (released (planOf g)) familyList) (families-test (structRest (g .lengths) (g .root))) m in
+      let a = all-of (apartB (115 ∷ structRest (g .lengths) (g .root))) (layFamilies (released (planOf g)) familyList) (families-test (structRest (g .lengths) (g .root))) m in
       let k = both (not (eqs (t .name) (115 ∷ structRest (g .lengths) (g .root)))) (onceB (map (λ (f : Place). f .name) (t .fields))) a in
       record {
         named = ap (eqs (t .name)) starts ∙ not-true (eqs (t .name) (115 ∷ structRest (g .lengths) (g .root))) (k .0);
         once = onceB-is (map (λ (f : Place). f .name) (t .fields)) (k .1);
       }
 
-  apart-test : (x : Str) → allB (λ (m : Family). allB (λ (k : Str). not (eqs (115 ∷ x) k)) (layoutsOf m)) familyList ≡ true
-  unfolding allB familyList layoutsOf variantNames variantName eqs bytes
+  apart-test : (x : Str) → allOf (λ (m : Family). allOf (λ (k : Str). not (eqs (115 ∷ x) k)) (layoutsOf m)) familyList ≡ true
+  unfolding allOf familyList layoutsOf variantNames variantName eqs bytes
   apart-test x = refl
 
   standing-is : (m : Family) → List·Memᴰ m familyList → checkStanding familyList (m .name) (m .standalone) ≡ pass
@@ -239,8 +239,8 @@ module _ (g : Setting) (r : InRange g) where
     standing = standing-is m i;
     apart = λ k j. ap (λ (x : Str). eqs x k) starts
         ∙ not-true (eqs (115 ∷ structRest (g .lengths) (g .root)) k)
-        (allB-mem (λ (k : Str). not (eqs (115 ∷ structRest (g .lengths) (g .root)) k)) (layoutsOf m)
-        (allB-mem (λ (m : Family). allB (λ (k : Str). not (eqs (115 ∷ structRest (g .lengths) (g .root)) k)) (layoutsOf m)) familyList (apart-test (structRest (g .lengths) (g .root))) i) j);
+        (all-of (λ (k : Str). not (eqs (115 ∷ structRest (g .lengths) (g .root)) k)) (layoutsOf m)
+        (all-of (λ (m : Family). allOf (λ (k : Str). not (eqs (115 ∷ structRest (g .lengths) (g .root)) k)) (layoutsOf m)) familyList (apart-test (structRest (g .lengths) (g .root))) i) j);
   }
 
   alone-test : (x : Str) → standsAlone familyList (115 ∷ x) ≡ false
