@@ -1,6 +1,7 @@
 /* The calls of the release check. A slice is a pointer and a length: the pointer is good for that many bytes, and a length of 0 may come with any
    pointer that is not null. The buffer shares no byte with a record. No call changes a byte of a record; text is written at the front of the lent
-   buffer and nothing after it. */
+   buffer and nothing after it. A draft is a record in a buffer, in two parts: the length of its stream (four bytes, little-endian) and the stream,
+   the length of its pool and the pool. */
 #ifndef MENQACHU_H
 #define MENQACHU_H
 
@@ -27,6 +28,14 @@ typedef struct {
     uint32_t len;
 } menqachu_owner_answer;
 
+/* What the calls of a draft answer, with the number of layouts in which the draft and the released record differ. Number 0: done. 1 to 9: a record
+   is refused, with its side (0 the draft or what would become of it, 1 the released record, 2 the addition) and the place. 10: no room, with the
+   length needed. 55: the draft has a structure or a family of the name. 56: it has none. */
+typedef struct {
+    menqachu_answer answer;
+    size_t changed;
+} menqachu_draft_answer;
+
 /* A current record against a released one. */
 menqachu_answer menqachu_check(const uint8_t *stream, size_t stream_len, const uint8_t *pool, size_t pool_len,
                                const uint8_t *past, size_t past_len, const uint8_t *old, size_t old_len,
@@ -46,5 +55,19 @@ menqachu_answer menqachu_pointers(const uint8_t *stream, size_t stream_len, cons
 /* A pair of records for a burn-in: current stream, current pool, released stream, released pool, each a length of four bytes (little-endian) and its
    bytes. Its check gives the wanted outcome: 0, 20, 34, 35, 36 or 43. The seed is at most 2147483647; the same two numbers give the same pair. */
 menqachu_answer menqachu_load(uint32_t outcome, uint32_t seed, uint8_t *out, size_t out_len);
+
+/* The number of layouts in which a draft and a released record differ, found afresh. */
+menqachu_draft_answer menqachu_draft_count(const uint8_t *draft, size_t draft_len, const uint8_t *past, size_t past_len,
+                                           const uint8_t *old, size_t old_len);
+
+/* Adds the one structure or family of a record (more, texts) to a draft. changed is the number that the last call gave. A refused edit changes no
+   byte of the draft's buffer and gives changed back. */
+menqachu_draft_answer menqachu_draft_add(size_t changed, uint8_t *draft, size_t draft_len, const uint8_t *more, size_t more_len,
+                                         const uint8_t *texts, size_t texts_len, const uint8_t *past, size_t past_len,
+                                         const uint8_t *old, size_t old_len);
+
+/* Takes the first structure or family of a name out of a draft, with all its parts. */
+menqachu_draft_answer menqachu_draft_remove(size_t changed, uint8_t *draft, size_t draft_len, const uint8_t *name, size_t name_len,
+                                            const uint8_t *past, size_t past_len, const uint8_t *old, size_t old_len);
 
 #endif

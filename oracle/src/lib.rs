@@ -6,6 +6,8 @@ include!(concat!(env!("OUT_DIR"), "/metadata_gen.rs"));
 
 pub mod answers;
 pub mod commands;
+pub mod draft_vectors;
+pub mod edits;
 pub mod extent;
 pub mod generate;
 mod items;

@@ -20,37 +20,37 @@ pub const LONGS: usize = 12;
 
 /// A file being packed, with a count of its cases by number and side.
 #[derive(Default)]
-struct Packer {
-    bytes: Vec<u8>,
-    cases: usize,
+pub(crate) struct Packer {
+    pub(crate) bytes: Vec<u8>,
+    pub(crate) cases: usize,
     counts: BTreeMap<(u32, u32), usize>,
 }
 
 impl Packer {
-    fn byte(&mut self, byte: u8) {
+    pub(crate) fn byte(&mut self, byte: u8) {
         self.bytes.push(byte);
     }
 
-    fn word(&mut self, word: u32) {
+    pub(crate) fn word(&mut self, word: u32) {
         self.bytes.extend_from_slice(&word.to_le_bytes());
     }
 
-    fn part(&mut self, part: &[u8]) {
+    pub(crate) fn part(&mut self, part: &[u8]) {
         self.word(part.len().try_into().expect("a part has 32 bits"));
         self.bytes.extend_from_slice(part);
     }
 
-    fn record(&mut self, record: &Encoded) {
+    pub(crate) fn record(&mut self, record: &Encoded) {
         self.part(&record.stream);
         self.part(&record.pool);
     }
 
-    fn count(&mut self, number: u32, side: u32) {
+    pub(crate) fn count(&mut self, number: u32, side: u32) {
         self.cases += 1;
         *self.counts.entry((number, side)).or_default() += 1;
     }
 
-    fn has(&self, number: u32, side: u32) -> usize {
+    pub(crate) fn has(&self, number: u32, side: u32) -> usize {
         self.counts.get(&(number, side)).copied().unwrap_or(0)
     }
 }

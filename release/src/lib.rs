@@ -38,6 +38,14 @@ pub enum Owner {
     Refused { number: u32, place: usize },
 }
 
+/// What a call of a draft answers, with the number of layouts in which draft and copy differ.
+#[repr(C)]
+#[derive(Clone, Copy, Debug, Default, PartialEq, Eq)]
+pub struct DraftAnswer {
+    pub answer: Answer,
+    pub changed: usize,
+}
+
 #[repr(C)]
 struct OwnerAnswer {
     number: u32,
@@ -79,6 +87,38 @@ unsafe extern "C" {
     ) -> OwnerAnswer;
     fn menqachu_pointers(stream: *const u8, stream_len: usize, pool: *const u8, pool_len: usize) -> Answer;
     fn menqachu_load(outcome: u32, seed: u32, out: *mut u8, out_len: usize) -> Answer;
+    fn menqachu_draft_count(
+        draft: *const u8,
+        draft_len: usize,
+        past: *const u8,
+        past_len: usize,
+        old: *const u8,
+        old_len: usize,
+    ) -> DraftAnswer;
+    fn menqachu_draft_add(
+        changed: usize,
+        draft: *mut u8,
+        draft_len: usize,
+        more: *const u8,
+        more_len: usize,
+        texts: *const u8,
+        texts_len: usize,
+        past: *const u8,
+        past_len: usize,
+        old: *const u8,
+        old_len: usize,
+    ) -> DraftAnswer;
+    fn menqachu_draft_remove(
+        changed: usize,
+        draft: *mut u8,
+        draft_len: usize,
+        name: *const u8,
+        name_len: usize,
+        past: *const u8,
+        past_len: usize,
+        old: *const u8,
+        old_len: usize,
+    ) -> DraftAnswer;
 }
 
 /// Checks a current record against a released one; a verdict's message stands at the front of `out`.
@@ -146,4 +186,53 @@ pub fn pointers(record: Record) -> Answer {
 pub fn load(outcome: u32, seed: u32, out: &mut [u8]) -> Answer {
     // SAFETY: the pointer comes with the length of its slice.
     unsafe { menqachu_load(outcome, seed, out.as_mut_ptr(), out.len()) }
+}
+
+/// The number of layouts in which a draft and a released record differ. The draft is a record in two parts.
+pub fn draft_count(draft: &[u8], released: Record) -> DraftAnswer {
+    let (past, old) = (released.stream, released.pool);
+    // SAFETY: each pointer comes with the length of its slice, and nothing is written to.
+    unsafe {
+        menqachu_draft_count(draft.as_ptr(), draft.len(), past.as_ptr(), past.len(), old.as_ptr(), old.len())
+    }
+}
+
+/// Adds the one structure or family of `addition` to a draft; `changed` is the number that the last call gave.
+pub fn draft_add(changed: usize, draft: &mut [u8], addition: Record, released: Record) -> DraftAnswer {
+    let (past, old) = (released.stream, released.pool);
+    // SAFETY: each pointer comes with the length of its slice, and only `draft` is written to.
+    unsafe {
+        menqachu_draft_add(
+            changed,
+            draft.as_mut_ptr(),
+            draft.len(),
+            addition.stream.as_ptr(),
+            addition.stream.len(),
+            addition.pool.as_ptr(),
+            addition.pool.len(),
+            past.as_ptr(),
+            past.len(),
+            old.as_ptr(),
+            old.len(),
+        )
+    }
+}
+
+/// Takes the first structure or family of a name out of a draft, with all its parts.
+pub fn draft_remove(changed: usize, draft: &mut [u8], name: &[u8], released: Record) -> DraftAnswer {
+    let (past, old) = (released.stream, released.pool);
+    // SAFETY: each pointer comes with the length of its slice, and only `draft` is written to.
+    unsafe {
+        menqachu_draft_remove(
+            changed,
+            draft.as_mut_ptr(),
+            draft.len(),
+            name.as_ptr(),
+            name.len(),
+            past.as_ptr(),
+            past.len(),
+            old.as_ptr(),
+            old.len(),
+        )
+    }
 }

@@ -10,7 +10,10 @@ use std::thread;
 use common::top;
 use common::vectors::{pairs, Vectors};
 use menqachu::record::pair::OUTCOMES;
-use menqachu::{check, list, load, owner, pointers, Answer, Owner, Side};
+use menqachu::{
+    check, draft_add, draft_count, draft_remove, list, load, owner, pointers, Answer, DraftAnswer, Owner,
+    Side,
+};
 
 const STACK: usize = 512 * 1024;
 const MARK: u8 = 0xa5;
@@ -117,6 +120,30 @@ fn pointers_answers_as_the_oracle() {
         }
         assert!(counts[0] >= 40 && counts[59] >= 40 && counts[60] >= 40, "{counts:?}");
         assert!((1..=9).all(|number| counts[number] >= 2), "{counts:?}");
+    });
+}
+
+#[test]
+fn drafts_answer_as_the_oracle() {
+    let mut file = Vectors::open("crates/vectors_draft/data/drafts");
+    on_small_stack(move || {
+        let mut count = 0;
+        while !file.done() {
+            let (call, given) = (file.byte(), file.number());
+            let expected = DraftAnswer { answer: file.answer(), changed: file.number() };
+            let before = file.part();
+            let (addition, copy, front) = (file.record(), file.record(), file.part());
+            let mut draft = before.clone().into_boxed_slice();
+            let answer = match call {
+                0 => draft_count(&draft, copy.record()),
+                1 => draft_add(given, &mut draft, addition.record(), copy.record()),
+                _ => draft_remove(given, &mut draft, &addition.stream, copy.record()),
+            };
+            assert_eq!(answer, expected, "draft {count}");
+            assert!(*draft == [&front, &before[front.len()..]].concat(), "buffer of draft {count}");
+            count += 1;
+        }
+        assert!(count >= 1000);
     });
 }
 

@@ -10,6 +10,7 @@ use oracle::values;
 
 use crate::clock::{least, timed};
 use crate::differ::record;
+use crate::edit_rows;
 use crate::inputs::{self, Input};
 use crate::load;
 use crate::pointers;
@@ -235,4 +236,5 @@ pub fn run() {
     }
     pointers::bench();
     load::bench();
+    edit_rows::run();
 }

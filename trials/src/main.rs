@@ -7,6 +7,7 @@
 //!     trials chains SEED COUNT           chains of offers, and what the last keeps of the first
 //!     trials sections SEED COUNT         pairs in another order of their sections, accepted as before
 //!     trials load SEED COUNT             pairs of the load call, checked, and a share held to the model
+//!     trials drafts SEED COUNT           series of edits of a draft, and the count found afresh after each
 //!     trials memcheck SEED COUNT         the calls on blocks of exact lengths, to be run under valgrind
 //!     trials stack                       the smallest thread that suffices for the largest records
 //!     trials fuzz SECONDS SEED [FOLDER]  a search for pairs that differ; they are written to the folder
@@ -21,6 +22,8 @@ mod chains;
 mod clock;
 mod coverage;
 mod differ;
+mod drafts;
+mod edit_rows;
 mod fuzz;
 mod inputs;
 mod kept;
@@ -39,9 +42,10 @@ use std::path::Path;
 use std::process::ExitCode;
 
 const USAGE: &str =
-    "usage: trials checks SEED COUNT [LEAST] | trials lists|owners|pointers|chains|sections|load|memcheck SEED COUNT
+    "usage: trials checks SEED COUNT [LEAST] | trials lists|owners|pointers|chains|sections|load|drafts|memcheck SEED COUNT
        trials fuzz SECONDS SEED [FOLDER] | trials stack | trials bench [--against FOLDER]
-       trials repeat check|list|owner|pointers|load INPUT TURNS | trials repeat check|list|owner INPUT TURNS --against FOLDER";
+       trials repeat check|list|owner INPUT TURNS [--against FOLDER]
+       trials repeat pointers|load|draft_count|draft_remove|draft_add INPUT TURNS";
 
 fn main() -> ExitCode {
     let words: Vec<String> = std::env::args().skip(1).collect();
@@ -90,11 +94,12 @@ fn run(words: &[&str]) -> Option<bool> {
         }
         ("stack", 1) => Some(stack::run()),
         ("stack-of", 4) => stack::call(words[1], number(2)? as usize, number(3)? as usize),
-        (call @ ("lists" | "owners" | "pointers" | "memcheck"), 3) => {
+        (call @ ("lists" | "owners" | "pointers" | "drafts" | "memcheck"), 3) => {
             let run = match call {
                 "lists" => differ::lists,
                 "owners" => differ::owners,
                 "pointers" => pointers::run,
+                "drafts" => drafts::run,
                 _ => memcheck::run,
             };
             let tally = run(number(1)?, number(2)?);
@@ -115,6 +120,9 @@ fn measure(words: &[&str]) -> Option<bool> {
         },
         ["repeat", "load", input, turns] => load::repeat(input, turns.parse().ok()?)?,
         ["repeat", "pointers", input, turns] => pointers::repeat(input, turns.parse().ok()?)?,
+        ["repeat", call, input, turns] if call.starts_with("draft_") => {
+            edit_rows::repeat(call, input, turns.parse().ok()?)?
+        }
         ["repeat", call, input, turns] => against::repeat(&other::OURS, call, input, turns.parse().ok()?)?,
         ["repeat", call, input, turns, "--against", folder] => match other::others(folder) {
             Some(others) => against::repeat(&others, call, input, turns.parse().ok()?)?,

@@ -9,6 +9,7 @@ use oracle::answers::ROOM;
 use oracle::verdicts::FIRST_VERDICT;
 
 use crate::differ::record;
+use crate::edit_rows::Edits;
 use crate::inputs::{self, Input};
 
 /// What every call has to do with, in KiB.
@@ -19,7 +20,14 @@ const STEP: usize = 4;
 
 type Call = fn(&Input);
 
-const CALLS: [(&str, Call); 4] = [("check", check), ("list", list), ("owner", owner), ("pointers", pointers)];
+const CALLS: [(&str, Call); 6] = [
+    ("check", check),
+    ("list", list),
+    ("owner", owner),
+    ("pointers", pointers),
+    ("draft_remove", remove),
+    ("draft_add", add),
+];
 
 /// The largest records, and the deepest walk.
 fn largest() -> Vec<Input> {
@@ -109,4 +117,18 @@ fn pointers(input: &Input) {
     let pair = input.records();
     let answer = menqachu::pointers(record(&pair.current));
     assert!(matches!(answer.number, 0 | 59), "the record can be read");
+}
+
+/// The draft's last type is taken out.
+fn remove(input: &Input) {
+    let edits = Edits::of(input);
+    let mut buffer = edits.whole.clone();
+    assert_eq!(edits.remove(&mut buffer), 0, "the type is taken out");
+}
+
+/// The draft's last type is added again.
+fn add(input: &Input) {
+    let edits = Edits::of(input);
+    let mut buffer = edits.whole.clone();
+    assert!(matches!(edits.add(&mut buffer), 0 | 8), "the type is added, or the texts are too many");
 }

@@ -26,15 +26,16 @@ use Rattle.record.specs.declared.judge.Fault.the-variants as F
 use Rattle.record.specs.declared.judge.Judged.{Judged}
 use Rattle.record.specs.declared.judge.Judged.the-variants.{Next, Done, Refused}
 use Rattle.record.specs.declared.letters.Letters.{Letters}
-use Rattle.record.specs.declared.letters.Letters.the-variants.{Good, Odd}
+use Rattle.record.specs.declared.letters.Letters.the-variants.{Odd}
 use Rattle.record.specs.declared.read.Outcome.{Outcome}
 use Rattle.record.specs.declared.read.Outcome.the-variants as O
 use Rattle.record.proofs.letters.Letters as letters-type
 use Rattle.record.proofs.Stream.{step-found}
 use Rattle.record.proofs.JudgeLaws.{judged-past}
 use Rattle.record.proofs.Accepted.{judged-step}
+use Rattle.drafts.proofs.Outcomes.{good}
 use Rattle.drafts.specs.Addition.{isType, isPart, mayAdd, additionAs, additionAt, parseAddition, concludedAddition, addition}
-use Rattle.drafts.specs.Judging.{comesFirst, additionFrom}
+use Rattle.drafts.specs.Judging.{isFirst, additionFrom}
 
 -- what may stand -------------------------------------------------------------------------------------------------------------------------
 
@@ -58,6 +59,12 @@ module _ (last b : ℕ) where
       add-end h = rw (ne-eqb last 0 n, ne-eqb last 1 m, ← f, h)
 
 -- the judgement --------------------------------------------------------------------------------------------------------------------------
+
+-- 2 and 1 go before 3
+abbrev pub comesFirst : Judged → Bool
+comesFirst (Next c k) = false
+comesFirst Done = false
+comesFirst (Refused n p) = isFirst n
 
 abbrev picked : Bool → ℕ → Judged → Judged
 picked a at j = cond (comesFirst j) j (cond a j (Refused R.Misplaced at))
@@ -104,17 +111,6 @@ addition-is s n c = go (ltb (c .at) (length s)) (getD s (c .at) 0) (operands (ge
     go false b o = refl
     go true b none = refl
     go true b (some os) = added-with s n c os (1 + widths os) (mayStand c b) (mayAdd (c .last) b)
-
-module _ (s : Str) (n : ℕ) (c : Cursor) (j : Judged) (e : j ≡ judgedAt Current s n c) (t : Bool) (f : t ≡ comesFirst j) where
-  pub added-first : t ≡ true → j ≡ additionAt s n c
-  added-first h = sym (addition-is s n c ∙ rw (← e, ← f, h))
-
-  module _ (b : ℕ) (i : b ≡ getD s (c .at) 0) (u : Bool) (g : u ≡ mayAdd (c .last) b) (h : t ≡ false) where
-    pub added-stands : u ≡ true → j ≡ additionAt s n c
-    added-stands k = sym (addition-is s n c ∙ rw (← e, ← f, h, ← i, ← g, k))
-
-    pub added-misplaced : u ≡ false → Refused R.Misplaced (c .at) ≡ additionAt s n c
-    added-misplaced k = sym (addition-is s n c ∙ rw (← e, ← f, h, ← i, ← g, k))
 
 -- the commands, one at a time --------------------------------------------------------------------------------------------------------------
 
@@ -168,13 +164,6 @@ module _ (s : Str) (n : ℕ) where
         ap outcomeOf (from-here c ∙ (rw (sym e ∙ h) (ap (onto (c .at)) (enough (length s + 1 - c .at) (length s + 1 - k .at) k (omega arith) (omega arith)))))
         ∙ onto-outcome (c .at) (parseAddition (length s + 1 - k .at) s n k)
 
-    pub adds-nearer : (d : Command) (k : Cursor) → j ≡ Next d k → length s - k .at < length s - c .at
-    adds-nearer d k h =
-        let f = step-found s (c .at) _ _ (judged-step Current s n c d k (was-next c d k (sym e ∙ h))) in
-        let on = f .on in
-        let within = f .within in
-        omega arith
-
     pub adds-done : j ≡ Done → outcomeOf (additionFrom s n c) ≡ O.Readable
     unfolding continued outcomeOf
     adds-done h = ap outcomeOf (from-here c) ∙ rw (sym e ∙ h)
@@ -182,8 +171,6 @@ module _ (s : Str) (n : ℕ) where
     pub adds-refused : (r : Refusal) (p : ℕ) → j ≡ Refused r p → outcomeOf (additionFrom s n c) ≡ O.Refused r p
     unfolding continued outcomeOf
     adds-refused r p h = ap outcomeOf (from-here c) ∙ rw (sym e ∙ h)
-
-pub ruleset adds-laws = (adds-on, adds-done, adds-refused)
 
 -- the whole addition -----------------------------------------------------------------------------------------------------------------------
 
@@ -210,7 +197,3 @@ module _ (s p : Str) where
     addition-whole g r h =
         let z : length s + 1 - 0 ≡ length s + 1 = omega arith in
         rw (le-leb (length s) 32768 a, le-leb (length p) 16384 b, ← e, good l g) (h ∙ ap (λ (k : ℕ). outcomeOf (parseAddition k s (length p) start)) z)
-      where
-        good : (m : Letters) → OneOf (0 ∷ []) (tagOf letters-type.the-type m) → m ≡ Good
-        good Good h = refl
-        good (Odd i) h = absurd (omega (arith, h))

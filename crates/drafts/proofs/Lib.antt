@@ -22,6 +22,7 @@ pub mod PackLaws
 pub mod FindLaws
 pub mod StoreLaws
 pub mod JudgingLaws
+pub mod ShapeLaws
 pub mod ChangedLaws
 pub mod OpeningLaws
 pub mod AnswerLaws

@@ -100,7 +100,7 @@ fn add_by(
     if let Opening::Barred(side, number, place) = open(rows, draft, past, old) {
         return refusal(side, number, place, changed);
     }
-    if let Outcome::Refused(number, place) = read_addition(more, texts) {
+    if let Outcome::Refused(number, place) = read_addition(rows, more, texts) {
         return refusal(2, number, place, changed);
     }
     if let Sought::At(_, _) = find_held(draft, second_name(more, texts)) {

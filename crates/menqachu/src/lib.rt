@@ -1,6 +1,10 @@
-// The exported calls, for programs in C and Rust: include/menqachu.h declares them. They are the calls of compare, layout, pointers and load, and have
-// their contracts.
+// The exported calls, for programs in C and Rust: include/menqachu.h declares them. They are the calls of compare, layout, pointers, load and drafts,
+// and have their contracts.
 use compare::check::check;
+use drafts::draft::draft_add;
+use drafts::draft::draft_count;
+use drafts::draft::draft_remove;
+use drafts::saying::DraftAnswer;
 use layout::answer::Answer;
 use layout::list::list_layouts;
 use layout::owner::OwnerFields;
@@ -9,16 +13,19 @@ use load::pair::load;
 use pointers::check::check_pointers;
 use record::refusal::Side;
 ghost use mathlib.Core.Path.{_≡_};
+ghost use mathlib.Core.List.{[]};
 ghost use mathlib.Core.Bool.{cond};
 ghost use lib.ListN.{length};
 ghost use Rattle.record.specs.Scalars.{builtIn};
-ghost use Rattle.record.specs.Reading.{rec};
+ghost use Rattle.record.specs.Reading.{Rec, rec};
 ghost use Rattle.record.specs.declared.refusal.Side.the-variants.{Current, Released};
 ghost use Rattle.layout.specs.Answer.{list, Answered};
 ghost use Rattle.layout.specs.OwnerCall.{ownerFields, ownerAsked};
 ghost use Rattle.definition.specs.Answer.{check};
 ghost use Rattle.load.specs.Load.{load};
 ghost use Rattle.pointers.specs.Pointers.{pointers, Answers};
+ghost use Rattle.drafts.specs.Edits.{count, adding, removing, edit};
+ghost use Rattle.drafts.specs.Answering.{editedAs};
 
 // A current record against a released one.
 #[no_mangle]
@@ -72,4 +79,48 @@ pub extern "C" fn menqachu_load(outcome: u32, seed: u32, out: &mut [u8]) -> Answ
     ensures { λ r. ⌜ Answered (now (out .entry)) (now (out .exit)) (load (length (now (out .entry))) outcome seed) r ⌝ }
 {
     load(outcome, seed, out)
+}
+
+// The number of layouts in which a draft and a released record differ.
+#[no_mangle]
+pub extern "C" fn menqachu_draft_count(draft: &[u8], past: &[u8], old: &[u8]) -> DraftAnswer
+    ensures { λ r.
+        let copy : Rec = rec (now (past .entry)) (now (old .entry)) builtIn in
+        ⌜ editedAs r (now (draft .entry)) ≡ count builtIn copy (now (draft .entry)) ⌝ }
+{
+    draft_count(draft, past, old)
+}
+
+// A structure or a family added to a draft.
+#[no_mangle]
+pub extern "C" fn menqachu_draft_add(
+    changed: usize,
+    draft: &mut [u8],
+    more: &[u8],
+    texts: &[u8],
+    past: &[u8],
+    old: &[u8],
+) -> DraftAnswer
+    ensures { λ r.
+        let copy : Rec = rec (now (past .entry)) (now (old .entry)) builtIn in
+        let more : Rec = rec (now (more .entry)) (now (texts .entry)) [] in
+        ⌜ editedAs r (now (draft .exit)) ≡ edit builtIn copy changed (now (draft .entry)) (adding more) ⌝ }
+{
+    draft_add(changed, draft, more, texts, past, old)
+}
+
+// The first structure or family of a name taken out of a draft.
+#[no_mangle]
+pub extern "C" fn menqachu_draft_remove(
+    changed: usize,
+    draft: &mut [u8],
+    name: &[u8],
+    past: &[u8],
+    old: &[u8],
+) -> DraftAnswer
+    ensures { λ r.
+        let copy : Rec = rec (now (past .entry)) (now (old .entry)) builtIn in
+        ⌜ editedAs r (now (draft .exit)) ≡ edit builtIn copy changed (now (draft .entry)) (removing (now (name .entry))) ⌝ }
+{
+    draft_remove(changed, draft, name, past, old)
 }

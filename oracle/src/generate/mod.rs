@@ -3,6 +3,7 @@
 pub mod base;
 pub mod damage;
 pub mod draft;
+pub mod edits;
 pub mod encode;
 pub mod faults;
 pub mod findings;

@@ -123,6 +123,14 @@ fn slot(rng: &mut Rng) -> Option<String> {
     }
 }
 
+/// A structure or a family.
+pub fn type_item(rng: &mut Rng) -> Item {
+    match rng.chance(50) {
+        true => Item::Struct(structure(rng)),
+        false => Item::Family(family(rng)),
+    }
+}
+
 fn structure(rng: &mut Rng) -> Struct {
     Struct {
         name: name(rng),

@@ -2,9 +2,11 @@
 
 use std::collections::BTreeMap;
 
+use oracle::edits::{Edit, count, edit};
+use oracle::generate::encode::Encoded;
 use oracle::reader::{LONG, read};
 use oracle::verdicts::{FIRST_VERDICT, LAST_VERDICT};
-use oracle::{Side, samples, vectors};
+use oracle::{Side, draft_vectors, samples, vectors};
 use serde_json::Value as Json;
 
 /// A packed file being read.
@@ -158,6 +160,39 @@ fn the_file_of_pointers_holds_every_number() {
 }
 
 /// The bytes of a hexadecimal text.
+#[test]
+fn the_file_of_drafts_holds_every_number() {
+    let mut file = File::new(draft_vectors::drafts(1, 600));
+    let mut counts = BTreeMap::new();
+    while file.more() {
+        let (call, given) = (file.byte(), file.word() as usize);
+        let answer = [(); 5].map(|()| file.word());
+        let [buffer, stream, pool] = [(); 3].map(|()| file.part());
+        let copy = Encoded {
+            stream: file.part(),
+            pool: file.part(),
+        };
+        let front = file.part();
+        let edited = match call {
+            0 => count(&buffer, &copy),
+            1 => edit(given, &buffer, &Edit::Add(Encoded { stream, pool }), &copy),
+            _ => edit(given, &buffer, &Edit::Remove(stream), &copy),
+        };
+        let places = [edited.place, edited.length, edited.changed].map(|n| n as u32);
+        assert_eq!(
+            [&[edited.number, edited.side], &places[..]].concat(),
+            answer
+        );
+        assert_eq!(edited.buffer, [&front, &buffer[front.len()..]].concat());
+        *counts.entry(edited.number).or_insert(0) += 1;
+    }
+    let numbers = (0..=10).chain([55, 56]);
+    assert!(
+        numbers.into_iter().all(|number| counts[&number] >= 40),
+        "{counts:?}"
+    );
+}
+
 fn unhex(text: &Json) -> Vec<u8> {
     let digits = text.as_str().expect("a text").as_bytes().chunks(2);
     digits

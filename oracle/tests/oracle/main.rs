@@ -2,6 +2,7 @@
 //! number, or with the request of document 02 and its number.
 
 mod common;
+mod edits;
 mod files;
 mod generator;
 mod lists;

@@ -59,6 +59,17 @@ impl Told {
         Told { number, message: None, refusal: Some(refusal) }
     }
 
+    /// A number that speaks of no record.
+    pub fn of_number(number: u32) -> Told {
+        Told { number, message: None, refusal: None }
+    }
+
+    /// The refusal of a record that an edit would make, and that is at no hand.
+    pub fn of_result(number: u32, place: usize) -> Told {
+        let refusal = Refusal { side: None, place, in_pool: false, at_end: false, byte: None };
+        Told { number, message: None, refusal: Some(refusal) }
+    }
+
     pub fn accepted(&self) -> bool {
         self.number == 0
     }

@@ -2,7 +2,8 @@
 
 use std::ffi::{OsStr, OsString};
 use std::fs::File;
-use std::io::{self, Read};
+use std::io::{self, Read, Write};
+use std::path::Path;
 
 use menqachu::record::parts::Parts;
 use menqachu::Record;
@@ -28,6 +29,11 @@ impl Given {
         shown_file(&self.file)
     }
 
+    /// The record as its two parts.
+    pub fn bytes(&self) -> Vec<u8> {
+        self.parts.to_bytes()
+    }
+
     /// The name as JSON gives it.
     pub fn name(&self) -> String {
         self.file.to_string_lossy().into_owned()
@@ -45,6 +51,27 @@ pub fn record(file: &OsStr) -> Result<Given, Stop> {
         Ok(parts) => Ok(Given { file: file.to_os_string(), parts }),
         Err(error) => Err(unread(file, &error)),
     }
+}
+
+/// Puts bytes in place of a file: they are written beside it, and the new file takes its name.
+pub fn replace(file: &OsStr, bytes: &[u8]) -> Result<(), Stop> {
+    let failed = |error: io::Error| Stop::failed(format!("cannot write {}: {error}", shown_file(file)));
+    let path = std::fs::canonicalize(file).map_err(failed)?;
+    let mut beside = path.clone().into_os_string();
+    beside.push(format!(".{}.new", std::process::id()));
+    let written = write_like(&path, &beside, bytes).and_then(|()| std::fs::rename(&beside, &path));
+    written.map_err(|error| {
+        let _ = std::fs::remove_file(&beside);
+        failed(error)
+    })
+}
+
+/// Writes a new file with the permissions of another.
+fn write_like(path: &Path, beside: &OsStr, bytes: &[u8]) -> io::Result<()> {
+    let mut new = File::create_new(beside)?;
+    new.set_permissions(std::fs::metadata(path)?.permissions())?;
+    new.write_all(bytes)?;
+    new.sync_all()
 }
 
 /// Reads a record, with a note where the stream's length is four letters: its text form was meant, perhaps.

@@ -6,8 +6,8 @@ pub fn usage(help: &str) -> &str {
 }
 
 pub const COMMANDS: &str = "\
-the commands are check, chain, list, owner, pointers, diff, reordered, assemble, show,
-load and burn-in
+the commands are check, chain, list, owner, pointers, diff, draft, reordered, assemble,
+show, load and burn-in
 `release --help` says what each does";
 
 pub const WHOLE: &str = "\
@@ -21,6 +21,7 @@ Checks the record of a scan-record schema against the record of the last release
   release owner RECORD NAME [--json]         which versioned structure a name belongs to
   release pointers RECORD [--json]           whether every pointer names what it must
   release diff CURRENT RELEASED [--json]     both layouts side by side
+  release draft EDIT DRAFT .. [--json]       a type added, taken out, or changes counted
   release reordered ONE OTHER [--json]       whether only the order of sections differs
   release assemble TEXT > RECORD             a record from its text form
   release show RECORD                        the text form of a record
@@ -40,7 +41,8 @@ Exit status:
      alike (reordered), or a pair whose check gives another number than its outcome
      (burn-in)
   2  a damaged record, or a text that cannot be assembled
-  3  a usage error, or a file that cannot be read or written
+  3  a usage error, a file that cannot be read or written, or an edit that cannot be
+     made (draft)
 ";
 
 pub const CHECK: &str = "\
@@ -136,6 +138,27 @@ first current field of its name, which is the one that the check compares it wit
           current; each of the last two is null or has offset, size and description
 
 Exit status: 0 shown, 2 a damaged record, 3 a usage or file error.
+";
+
+pub const DRAFT: &str = "\
+usage: release draft EDIT DRAFT .. [--json]
+
+  release draft add DRAFT ADDITION RELEASED    adds the type of ADDITION
+  release draft remove DRAFT NAME RELEASED     takes the first type of a name out
+  release draft count DRAFT RELEASED           counts only
+
+Edits the record in the file DRAFT, read as a current one, and prints `changed` and
+the number of layouts that differ from those of RELEASED: unequal, or in one of the
+two alone. ADDITION is a record of a head, one structure or family with its parts,
+and the end; the type is put at the draft's end. A type is taken out with all its
+parts. All other commands stay as they are, and texts that none of them uses are
+dropped. The file is written beside the draft and then takes its place; where an edit
+is refused, the draft is not touched.
+
+  --json  an object with the keys refusal (which has the keys of check) and changed
+
+Exit status: 0 done, 2 a damaged record, or a draft that would be one, 3 a usage or
+file error, 55 (the draft has a type of that name) or 56 (it has none).
 ";
 
 pub const REORDERED: &str = "\

@@ -1,4 +1,4 @@
-//! The numbers of document 01 and their words, and those of document 02 that are found in a record.
+//! The numbers of documents 01 and 02 and their words.
 
 /// The word of a number; 0 has none in document 01 and is given the one that its text uses, and 59 and 60 have one of ours.
 pub fn word(number: u32) -> Option<&'static str> {
@@ -11,7 +11,7 @@ pub fn reason(number: u32) -> Option<&'static str> {
     REASONS.get(index).copied()
 }
 
-const WORDS: [(u32, &str); 50] = [
+const WORDS: [(u32, &str); 52] = [
     (0, "accepted"),
     (1, "cut"),
     (2, "unknown"),
@@ -59,6 +59,8 @@ const WORDS: [(u32, &str); 50] = [
     (44, "unlisted"),
     (45, "leapt"),
     (46, "fell"),
+    (55, "name held"),
+    (56, "no such name"),
     (59, "names neither"),
     (60, "names the other"),
     (61, "unfit"),

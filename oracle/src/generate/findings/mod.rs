@@ -5,6 +5,7 @@
 
 mod chains;
 mod early;
+pub mod edits;
 mod late;
 pub mod lists;
 pub mod owners;

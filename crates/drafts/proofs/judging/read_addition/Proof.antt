@@ -1,4 +1,5 @@
-use Rattle.drafts.proofs.JudgingLaws.{addition-long, addition-wide, addition-letter, addition-whole}
+use Rattle.drafts.proofs.JudgingLaws.{addition-long, addition-wide, addition-letter}
+use Rattle.drafts.proofs.ShapeLaws.{addition-shaped}
 use borrow.Author.Needs.{needs}
 use Rattle.drafts.proofs.judging.read_addition.Statement.{statement}
 use Rattle.drafts.proofs.judging.read_addition.Tie as tie
@@ -21,11 +22,17 @@ returns-3 c = search addition-letter
 enum-told : tie.Need-enum-told
 enum-told c = search needs
 
-read-commands-requires : tie.Need-read-commands-requires
-read-commands-requires c κs = search needs
+read-record-requires : tie.Need-read-record-requires
+read-record-requires c κs = search needs
+
+commands-read-requires : tie.Need-commands-read-requires
+commands-read-requires c κs = search needs
+
+read-shape-requires : tie.Need-read-shape-requires
+read-shape-requires c κs = search needs
 
 returns-4 : tie.Need-returns-4
-returns-4 c = search addition-whole
+returns-4 c = search addition-shaped
 
 pub read-addition-spec : {M : Type 1} → statement M
 read-addition-spec =
@@ -37,5 +44,7 @@ read-addition-spec =
     enum-known-i
     returns-3
     enum-told
-    read-commands-requires
+    read-record-requires
+    commands-read-requires
+    read-shape-requires
     returns-4)
