@@ -8,12 +8,20 @@ use native.Mathlib.Omega.{arith}
 use lib.Dec.{eqb}
 use lib.ListN.{length, take, drop, getD, length-drop}
 use lib.Seq.{getD-take, getD-drop, length-take-le, take-take}
-use borrow.Author.Tests.{le-leb, lt-leb, eq-eqb, eqb-true, eqb-false, not-true, not-false}
+use borrow.Author.Tests.{le-leb, lt-leb, eq-eqb, ne-eqb, eqb-true, eqb-false, not-true, not-false}
 use Rattle.texts.proofs.TextLaws.{below-or, eqs→eq, eqs-refl}
 use Rattle.record.specs.Base.{Str, bytes, eqs, find}
 use Rattle.record.specs.Cut.{placeOf, beforeByte}
 use Rattle.record.specs.Scalars.{Scalar, beforeZero, scalarAt, scalarsFrom, scalarsAt, scalarsOf, scalarIn, primSize, builtIn, builtInRows}
 use Rattle.record.proofs.CutLaws.{place-most, place-there, place-front, place-whole}
+
+-- the test of where a row's word ends
+module _ (n : ℕ) (t : Bool) where
+  pub ends-full : n ≡ 8 → true ≡ (eqb n 8 || t)
+  ends-full e = rw (eq-eqb n 8 e)
+
+  pub ends-here : (n ≡ 8 → ⊥) → t ≡ (eqb n 8 || t)
+  ends-here d = rw (ne-eqb n 8 d)
 
 -- a row against a word, by lengths and bytes
 module _ (s w : Str) (at : ℕ) (room : at + 9 ≤ length s) where
