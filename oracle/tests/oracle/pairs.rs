@@ -70,3 +70,19 @@ fn slices_of_every_sort() {
     }
     assert!(counts.iter().all(|&count| count > 200), "{counts:?}");
 }
+
+/// The lines that the proved call is held to: those of the shortest texts, by hand.
+#[test]
+fn the_lines_of_the_summary() {
+    let summary = oracle::pairs::summary();
+    let lines: Vec<&str> = summary.lines().collect();
+    assert_eq!(lines.len(), 301);
+    // One pair counts 1; of two the first is reached second: (2 + 1) * 257 + 1 + 1.
+    assert_eq!(lines[..3], ["0 0 0 0 0", "1 1 2 2 0", "2 2 773 773 0"]);
+    for (length, line) in lines.iter().enumerate() {
+        let numbers: Vec<&str> = line.split(' ').collect();
+        let whole = length.to_string();
+        assert_eq!([numbers[0], numbers[1], numbers[4]], [&whole, &whole, "0"]);
+        assert_eq!(numbers[2], numbers[3], "the pairs in front are not reached");
+    }
+}
