@@ -70,4 +70,8 @@ menqachu_draft_answer menqachu_draft_add(size_t changed, uint8_t *draft, size_t 
 menqachu_draft_answer menqachu_draft_remove(size_t changed, uint8_t *draft, size_t draft_len, const uint8_t *name, size_t name_len,
                                             const uint8_t *past, size_t past_len, const uint8_t *old, size_t old_len);
 
+/* For tests: how many pairs of bytes are compared of two names. 0 if their lengths differ; else the pairs from the last byte on, up to and with the
+   first unequal one, or all. */
+size_t menqachu_pairs_compared(const uint8_t *a, size_t a_len, const uint8_t *b, size_t b_len);
+
 #endif

@@ -16,6 +16,7 @@ pub mod keys_gen;
 pub mod load;
 pub mod model;
 pub mod operands;
+pub mod pairs;
 pub mod parts;
 pub mod pointers;
 pub mod reader;

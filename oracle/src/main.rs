@@ -5,7 +5,7 @@ use std::io::{self, Read, Write};
 use std::process::ExitCode;
 
 use oracle::parts::Parts;
-use oracle::{Answer, Side, answers, draft_vectors, load, samples, stats, vectors};
+use oracle::{Answer, Side, answers, draft_vectors, load, pairs, samples, stats, vectors};
 
 const USAGE: &str = "\
 oracle stats --seed S --pairs N
@@ -14,6 +14,7 @@ oracle vectors-owner --seed S --count N OUT
 oracle vectors-list --seed S --count N OUT
 oracle vectors-check --seed S --count N OUT
 oracle vectors-pointers --seed S --count N OUT
+oracle vectors-pairs
 oracle load --from A --to B
 oracle load-pair --outcome N --seed S OUT
 oracle vectors-draft --seed S --count N OUT
@@ -52,6 +53,7 @@ fn run(args: &Args) -> Option<String> {
         "vectors-list" => args.write(&vectors::lists(args.seed()?, args.count()?)),
         "vectors-check" => args.write(&vectors::checks(args.seed()?, args.count()?)),
         "vectors-pointers" => args.write(&vectors::pointers(args.seed()?, args.count()?)),
+        "vectors-pairs" => Some(pairs::summary()),
         "load" => Some(load_summary(args.number("--from")?, args.number("--to")?)),
         "load-pair" => {
             let outcome = u32::try_from(args.number("--outcome")?).ok()?;

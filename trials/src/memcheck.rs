@@ -5,11 +5,13 @@ use oracle::Side;
 use oracle::answers::ROOM;
 use oracle::generate::encode::Encoded;
 use oracle::generate::questions::question;
+use oracle::generate::slices::slices;
 use oracle::generate::{self, Pair};
 use oracle::rng::Rng;
 
 use crate::differ;
 use crate::inputs;
+use crate::pairs;
 use crate::pointers;
 use crate::tally::Tally;
 
@@ -24,6 +26,9 @@ pub fn run(seed: u64, count: u64) -> Tally {
     for _ in 0..count {
         let pair = generate::pair(&mut rng);
         calls(&mut tally, &pair, &mut rng);
+    }
+    for _ in 0..count {
+        pairs::ask(&mut tally, &slices(&mut rng));
     }
     tally
 }

@@ -1,5 +1,5 @@
-// The exported calls, for programs in C and Rust: include/menqachu.h declares them. They are the calls of compare, layout, pointers, load and drafts,
-// and have their contracts.
+// The exported calls, for programs in C and Rust: include/menqachu.h declares them. They are the calls of compare, layout, pointers, load, drafts
+// and texts, and have their contracts.
 use compare::check::check;
 use drafts::draft::draft_add;
 use drafts::draft::draft_count;
@@ -12,6 +12,7 @@ use layout::owner::ask_owner;
 use load::pair::load;
 use pointers::check::check_pointers;
 use record::refusal::Side;
+use texts::back::pairs_compared;
 ghost use mathlib.Core.Path.{_≡_};
 ghost use mathlib.Core.List.{[]};
 ghost use mathlib.Core.Bool.{cond};
@@ -26,6 +27,7 @@ ghost use Rattle.load.specs.Load.{load};
 ghost use Rattle.pointers.specs.Pointers.{pointers, Answers};
 ghost use Rattle.drafts.specs.Edits.{count, adding, removing, edit};
 ghost use Rattle.drafts.specs.Answering.{editedAs};
+ghost use Rattle.texts.specs.Back.{pairsCompared};
 
 // A current record against a released one.
 #[no_mangle]
@@ -123,4 +125,12 @@ pub extern "C" fn menqachu_draft_remove(
         ⌜ editedAs r (now (draft .exit)) ≡ edit builtIn copy changed (now (draft .entry)) (removing (now (name .entry))) ⌝ }
 {
     draft_remove(changed, draft, name, past, old)
+}
+
+// How many pairs of bytes the comparison of two names looks at, for tests.
+#[no_mangle]
+pub extern "C" fn menqachu_pairs_compared(a: &[u8], b: &[u8]) -> usize
+    ensures { λ r. ⌜ r ≡ pairsCompared (now (a .entry)) (now (b .entry)) ⌝ }
+{
+    pairs_compared(a, b)
 }

@@ -1,33 +1,18 @@
 -- Laws of the tests, look-ups and verdicts. Assumes nothing.
-use mathlib.Core.Path.{_≡_, refl, sym, _∙_, ap, ap₂}
+use mathlib.Core.Path.{_≡_, refl, sym, _∙_, ap}
 use mathlib.Core.List.{List, [], _∷_, List·Memᴰ, List·Memᴰ·head, List·Memᴰ·tail, List·Memᴰ·not-nil}
 use mathlib.Core.Option.{none, some}
 use mathlib.Core.Bool.{Bool, true, false, _&&_, _||_, cond, and-eq-true-iff, false≢true}
 use Prim.Native.Nat.{ℕ}
 use native.Mathlib.Omega.{arith}
-use lib.Dec.{eqb}
-use borrow.Author.Tests.{eqb-true, eq-eqb}
-use Rattle.record.specs.Base.{Str, eqs, find, any, filterB}
+use Rattle.record.specs.Base.{find, any, filterB}
+pub use Rattle.texts.proofs.TextLaws.{eqs→eq, eqs-refl}
 
 pub both : (a b : Bool) → (a && b) ≡ true → (a ≡ true) × (b ≡ true)
 both a b = and-eq-true-iff a b .0
 
 pub none≢some : {A : Type 0} {a : A} → none ≡ some a → ⊥
 none≢some e = let z : _≡_ {A = ℕ} 0 1 = cc in omega arith
-
-pub eqs→eq : (s t : Str) → eqs s t ≡ true → s ≡ t
-unfolding eqs
-eqs→eq [] [] h = refl
-eqs→eq [] (b ∷ t) h = absurd (false≢true h)
-eqs→eq (a ∷ s) [] h = absurd (false≢true h)
-eqs→eq (a ∷ s) (b ∷ t) h =
-    let k = both (eqb a b) (eqs s t) h in
-    ap₂ _∷_ (eqb-true a b (k .0)) (eqs→eq s t (k .1))
-
-pub eqs-refl : (s : Str) → eqs s s ≡ true
-unfolding eqs
-eqs-refl [] = refl
-eqs-refl (a ∷ s) = rw (eq-eqb a a refl, eqs-refl s)
 
 module _ {A : Type 0} where
   pub find-some : (p : A → Bool) (l : List A) {x : A} → find p l ≡ some x → List·Memᴰ x l × (p x ≡ true)

@@ -10,7 +10,7 @@ use Rattle.record.specs.Base.{Str, bytes, eqs}
 use Rattle.record.specs.declared.kind.Kind.{Kind}
 use Rattle.record.specs.declared.kind.Kind.the-variants.{Other}
 use Rattle.record.specs.Kind.{Word, words, ofLength, meaning, kindOf}
-use Rattle.record.proofs.WordLaws.{same-length}
+use Rattle.texts.proofs.BackLaws.{same-length}
 
 module _ (w : Str) where
   pub word-hit : (s : Str) (k : Kind) (xs : List Word) (b : Bool) → b ≡ eqs w s → b ≡ true → k ≡ meaning (record { spelt = s; means = k } ∷ xs) w

@@ -1,96 +1,111 @@
 -- The table of scalar words, one row at a time.
 use Prim.Native.Nat.{ℕ, zero, suc, _+_, _-_, _≤_, _<_}
 use mathlib.Core.List.{List, [], _∷_}
-use mathlib.Core.Bool.{Bool, true, false}
+use mathlib.Core.Bool.{Bool, true, false, _||_, not, or-true, false≢true}
+use mathlib.Core.Logic.{_⊎_, inl, inr}
 use mathlib.Core.Path.{_≡_, refl, sym, ap, _∙_}
 use native.Mathlib.Omega.{arith}
-use native.Mathlib.Nat.{min-le-left, min-comm}
-use native.Mathlib.Numerals.{add-one}
-use lib.ListN.{length, take, drop, getD, length-take, length-drop, drop-of-length-le}
-use lib.Seq.{getD-take, getD-drop, drop-cons, length-take-le}
-use borrow.Author.Tests.{le-leb, lt-leb, eq-eqb, ne-eqb}
+use lib.Dec.{eqb}
+use lib.ListN.{length, take, drop, getD, length-drop}
+use lib.Seq.{getD-take, getD-drop, length-take-le, take-take}
+use borrow.Author.Tests.{le-leb, lt-leb, eq-eqb, ne-eqb, eqb-true, eqb-false, not-true, not-false}
+use Rattle.texts.proofs.TextLaws.{below-or, eqs→eq, eqs-refl}
 use Rattle.record.specs.Base.{Str, bytes, eqs, find}
 use Rattle.record.specs.Cut.{placeOf, beforeByte}
 use Rattle.record.specs.Scalars.{Scalar, beforeZero, scalarAt, scalarsFrom, scalarsAt, scalarsOf, scalarIn, primSize, builtIn, builtInRows}
-use Rattle.record.proofs.Basics.{eqs→eq}
-use Rattle.record.proofs.WordLaws.{same-length}
+use Rattle.record.proofs.CutLaws.{place-most, place-there, place-front, place-whole}
 
--- a row is of no word that ends in another byte
-pub row-other : (s w : Str) (at : ℕ) → 0 < length w → length w ≤ 8 → (getD s (at + length w - 1) 0 ≡ getD w (length w - 1) 0 → ⊥) → false ≡ eqs (beforeZero (take 8 (drop at s))) w
-unfolding beforeZero beforeByte
-row-other s w at p q h = go (eqs (take (placeOf 0 (take 8 (drop at s))) (take 8 (drop at s))) w) refl
-  where
-    n : ℕ
-    n = length w - 1
+-- the test of where a row's word ends
+module _ (n : ℕ) (t : Bool) where
+  pub ends-full : n ≡ 8 → true ≡ (eqb n 8 || t)
+  ends-full e = rw (eq-eqb n 8 e)
 
-    cut : Str
-    cut = take 8 (drop at s)
+  pub ends-here : (n ≡ 8 → ⊥) → t ≡ (eqb n 8 || t)
+  ends-here d = rw (ne-eqb n 8 d)
 
-    last : take (placeOf 0 cut) cut ≡ w → getD s (at + length w - 1) 0 ≡ getD w n 0
-    last e =
-        let l : length (take (placeOf 0 cut) cut) ≤ placeOf 0 cut = rw length-take (min-le-left (placeOf 0 cut) (length cut)) in
-        let m : length (take (placeOf 0 cut) cut) ≡ length w = ap length e in
-        let i : at + length w - 1 ≡ at + n = omega arith in
-        ap (λ (k : ℕ). getD s k 0) i
-        ∙ sym (getD-take (placeOf 0 cut) cut n 0 (omega arith) ∙ getD-take 8 (drop at s) n 0 (omega arith) ∙ getD-drop at s n 0)
-        ∙ ap (λ (x : Str). getD x n 0) e
-
-    go : (t : Bool) → eqs (take (placeOf 0 cut) cut) w ≡ t → false ≡ t
-    go true e = absurd (h (last (eqs→eq (take (placeOf 0 cut) cut) w e)))
-    go false e = refl
-
-pub row-short : (s w : Str) (at : ℕ) → 8 < length w → false ≡ eqs (beforeZero (take 8 (drop at s))) w
-unfolding beforeZero beforeByte
-row-short s w at h =
-    same-length (take (placeOf 0 (take 8 (drop at s))) (take 8 (drop at s))) w
-    (λ e.
-    let l : length (take (placeOf 0 (take 8 (drop at s))) (take 8 (drop at s))) ≤ length (take 8 (drop at s)) = rw (length-take, min-comm (placeOf 0 (take 8 (drop at s))) (length (take 8 (drop at s)))) (min-le-left (length (take 8 (drop at s))) (placeOf 0 (take 8 (drop at s)))) in
-    let m : length (take 8 (drop at s)) ≤ 8 = rw length-take (min-le-left 8 (length (drop at s))) in
-    omega arith)
-
--- a row against a word, one byte at a time
-module _ (s : Str) (at : ℕ) (room : at + 9 ≤ length s) where
+-- a row against a word, by lengths and bytes
+module _ (s w : Str) (at : ℕ) (room : at + 9 ≤ length s) where
   abbrev row : Str
   row = take 8 (drop at s)
 
-  row-cell : (i : ℕ) → i < 8 → drop i row ≡ getD s (at + i) 0 ∷ drop (suc i) row
-  row-cell i l =
-      let n : length row ≡ 8 = length-take-le 8 (drop at s) (rw length-drop (omega arith)) in
-      drop-cons row i 0 (omega arith) ∙ ap (λ (x : ℕ). x ∷ drop (suc i) row) (getD-take 8 (drop at s) i 0 l ∙ getD-drop at s i 0)
+  eight : length row ≡ 8
+  eight = length-take-le 8 (drop at s) (rw length-drop (omega arith))
 
-  module _ (w : Str) (q : length w ≤ 8) (i : ℕ) where
-    module _ (p : i < length w) where
-      pub row-zero : getD s (at + i) 0 ≡ 0 → eqs (beforeZero (drop i row)) (drop i w) ≡ false
-      unfolding beforeZero beforeByte placeOf eqs
-      row-zero e = rw (row-cell i (omega arith), drop-cons w i 0 p, e)
+  cell : (i : ℕ) → i < 8 → getD row i 0 ≡ getD s (at + i) 0
+  cell i l = getD-take 8 (drop at s) i 0 l ∙ getD-drop at s i 0
 
-      module _ (z : getD s (at + i) 0 ≡ 0 → ⊥) where
-        pub row-differs : (getD s (at + i) 0 ≡ getD w i 0 → ⊥) → eqs (beforeZero (drop i row)) (drop i w) ≡ false
-        unfolding beforeZero beforeByte placeOf eqs
-        row-differs e = rw (row-cell i (omega arith), drop-cons w i 0 p, ne-eqb (getD s (at + i) 0) 0 z, ne-eqb (getD s (at + i) 0) (getD w i 0) e)
+  -- a word that is the row's ends where the row's does
+  ends : beforeZero row ≡ w → placeOf 0 row ≡ length w
+  unfolding beforeZero beforeByte
+  ends e = let m = place-most 0 row in sym (length-take-le (placeOf 0 row) row m) ∙ ap length e
 
-        pub row-next : getD s (at + i) 0 ≡ getD w i 0 → eqs (beforeZero (drop i row)) (drop i w) ≡ eqs (beforeZero (drop (i + 1) row)) (drop (i + 1) w)
-        unfolding beforeZero beforeByte placeOf eqs
-        row-next e = rw (add-one, row-cell i (omega arith), drop-cons w i 0 p, ne-eqb (getD s (at + i) 0) 0 z, eq-eqb (getD s (at + i) 0) (getD w i 0) e)
+  -- and has no 0 in it
+  counted : beforeZero row ≡ w → placeOf 0 w ≡ length w
+  unfolding beforeZero beforeByte
+  counted e = ap (λ (l : Str). placeOf 0 l) (sym e) ∙ place-front 0 row ∙ ends e
 
-    module _ (p : length w ≤ i) where
-      pub row-full : length w ≡ 8 → eqs (beforeZero (drop i row)) (drop i w) ≡ true
-      unfolding beforeZero beforeByte placeOf eqs
-      row-full e =
-          let n : length row ≤ i = rw (length-take-le 8 (drop at s) (rw length-drop (omega arith))) (omega arith) in
-          rw (drop-of-length-le row {i = i} n, drop-of-length-le w {i = i} p)
+  whole : w ≡ take (length w) row → placeOf 0 row ≡ length w → beforeZero row ≡ w
+  unfolding beforeZero beforeByte
+  whole e h = ap (λ (k : ℕ). take k row) h ∙ sym e
 
-      module _ (l : i ≤ length w) (n : length w ≡ 8 → ⊥) where
-        here : getD s (at + length w) 0 ≡ getD s (at + i) 0
-        here = let e : length w ≡ i = omega arith in ap (λ (k : ℕ). getD s (at + k) 0) e
+  not-row : (beforeZero row ≡ w → ⊥) → eqs (beforeZero row) w ≡ false
+  not-row d = go (eqs (beforeZero row) w) refl
+    where
+      go : (t : Bool) → eqs (beforeZero row) w ≡ t → t ≡ false
+      go true e = absurd (d (eqs→eq (beforeZero row) w e))
+      go false e = refl
 
-        pub row-ended : getD s (at + length w) 0 ≡ 0 → eqs (beforeZero (drop i row)) (drop i w) ≡ true
-        unfolding beforeZero beforeByte placeOf eqs
-        row-ended e = rw (row-cell i (omega arith), drop-of-length-le w {i = i} p, sym here ∙ e)
+  pub row-short : 8 < length w → false ≡ eqs (beforeZero row) w
+  row-short h = sym (not-row (λ e. let m = place-most 0 row in let n = eight in let p = ends e in omega arith))
 
-        pub row-longer : (getD s (at + length w) 0 ≡ 0 → ⊥) → eqs (beforeZero (drop i row)) (drop i w) ≡ false
-        unfolding beforeZero beforeByte placeOf eqs
-        row-longer e = rw (row-cell i (omega arith), drop-of-length-le w {i = i} p, ne-eqb (getD s (at + i) 0) 0 (λ z. e (here ∙ z)))
+  module _ (q : length w ≤ 8) where
+    after-row : beforeZero row ≡ w → (eqb (length w) 8 || eqb (getD s (at + length w) 0) 0) ≡ true
+    after-row e = go (below-or (length w) 8)
+      where
+        go : (length w < 8) ⊎ (8 ≤ length w) → (eqb (length w) 8 || eqb (getD s (at + length w) 0) 0) ≡ true
+        go (inl l) =
+            let p = ends e in
+            let n = eight in
+            let z = place-there 0 row (omega arith) in
+            rw (eq-eqb (getD s (at + length w) 0) 0 (sym (cell (length w) l) ∙ ap (λ (k : ℕ). getD row k 0) (sym p) ∙ z)) (or-true (eqb (length w) 8))
+        go (inr l) = rw (eq-eqb (length w) 8 (let z : length w ≡ 8 = omega arith in z))
+
+    pub row-longer : (t : Bool) → t ≡ (eqb (length w) 8 || eqb (getD s (at + length w) 0) 0) → not t ≡ true → false ≡ eqs (beforeZero row) w
+    row-longer t h d = sym (not-row (λ e. false≢true (sym (not-true t d) ∙ h ∙ after-row e)))
+
+    -- the bytes of the row that the word is held to
+    front : take (at + length w - at) (drop at s) ≡ take (length w) row
+    front =
+        let z : at + length w - at ≡ length w = omega arith in
+        ap (λ (k : ℕ). take k (drop at s)) z ∙ sym (take-take (length w) 8 (drop at s) q)
+
+    pub row-differs : (t : Bool) → t ≡ eqs (take (at + length w - at) (drop at s)) w → not t ≡ true → false ≡ eqs (beforeZero row) w
+    unfolding beforeZero beforeByte
+    row-differs t h d =
+        sym
+        (not-row
+        (λ e. false≢true (sym (not-true t d) ∙ h ∙ ap (λ (x : Str). eqs x w) (front ∙ ap (λ (k : ℕ). take k row) (sym (ends e)) ∙ e) ∙ eqs-refl w)))
+
+    pub row-same : (t u : Bool) (k : ℕ) → t ≡ (eqb (length w) 8 || eqb (getD s (at + length w) 0) 0) → not t ≡ false → u ≡ eqs (take (at + length w - at) (drop at s)) w → not u ≡ false
+        → k ≡ placeOf 0 w → eqb k (length w) ≡ eqs (beforeZero row) w
+    row-same t u k h d g f e = go (eqb k (length w)) refl
+      where
+        is : w ≡ take (length w) row
+        is = sym (sym front ∙ eqs→eq (take (at + length w - at) (drop at s)) w (sym g ∙ not-false u f))
+
+        after : length w < length row → getD row (length w) 0 ≡ 0
+        after l = let n = eight in cell (length w) (omega arith) ∙ pick (eqb (length w) 8) refl (sym h ∙ not-false t d)
+          where
+            pick : (v : Bool) → eqb (length w) 8 ≡ v → (v || eqb (getD s (at + length w) 0) 0) ≡ true → getD s (at + length w) 0 ≡ 0
+            pick true x y = absurd (let m = eqb-true (length w) 8 x in let n = eight in omega arith)
+            pick false x y = eqb-true (getD s (at + length w) 0) 0 y
+
+        go : (v : Bool) → eqb k (length w) ≡ v → v ≡ eqs (beforeZero row) w
+        go true x =
+            let n = eight in
+            let p : placeOf 0 (take (length w) row) ≡ length w = ap (λ (l : Str). placeOf 0 l) (sym is) ∙ sym e ∙ eqb-true k (length w) x in
+            sym (ap (λ (l : Str). eqs l w) (whole is (place-whole 0 (length w) row (omega arith) p after)) ∙ eqs-refl w)
+        go false x = sym (not-row (λ y. eqb-false k (length w) x (e ∙ counted y)))
 
 -- more rows than bytes change nothing
 enough : (s : Str) (n m at : ℕ) → length s ≤ n + at → length s ≤ m + at → scalarsFrom n s at ≡ scalarsFrom m s at

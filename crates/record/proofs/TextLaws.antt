@@ -1,26 +1,13 @@
--- One step of the comparison of two lists from an index on, and what the stretch of a pool is in each case.
-use Prim.Native.Nat.{ℕ, _+_, _-_, _≤_, _<_}
-use mathlib.Core.List.{List, []}
-use mathlib.Core.Bool.{true}
+-- What the stretch of a pool is in each case.
+use Prim.Native.Nat.{ℕ, _+_, _-_, _≤_}
+use mathlib.Core.List.{List}
 use mathlib.Core.Path.{_≡_, sym, _∙_}
 use native.Mathlib.Nat.{add-sub-cancel-left}
-use native.Mathlib.Numerals.{add-one}
 use native.Mathlib.Omega.{arith}
-use lib.ListN.{length, take, drop, getD, drop-of-length-le, length-drop}
-use lib.Seq.{drop-cons, take-all, take-nil}
-use borrow.Author.Tests.{eq-eqb}
-use Rattle.record.specs.Base.{eqs}
+use lib.ListN.{length, take, drop, drop-of-length-le, length-drop}
+use lib.Seq.{take-all, take-nil}
 use Rattle.record.specs.Stretch.{textOf}
 use Rattle.record.specs.declared.text.Text.{Text}
-
-module _ (a b : List ℕ) (i : ℕ) where
-  pub same-step : i < length a → i < length b → getD a i 0 ≡ getD b i 0 → eqs (drop i a) (drop i b) ≡ eqs (drop (i + 1) a) (drop (i + 1) b)
-  unfolding eqs
-  same-step p q e = rw (add-one, drop-cons a i 0, drop-cons b i 0, eq-eqb (getD a i 0) (getD b i 0) e)
-
-  pub same-end : length a ≤ i → length b ≤ i → eqs (drop i a) (drop i b) ≡ true
-  unfolding eqs
-  same-end p q = rw (drop-of-length-le a, drop-of-length-le b)
 
 module _ (pool : List ℕ) (t : Text) where
   pub text-past : length pool ≤ t .start → take (length pool - length pool) (drop (length pool) pool) ≡ textOf pool t

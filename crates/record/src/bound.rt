@@ -33,7 +33,7 @@ fn scalar_bound(rows: &[u8]) -> u64
     let mut total = 0;
     let mut at = 0;
     while 9 <= rows.len() - at {
-        total = sum(total, le::wide(rows[at + 8]));
+        total = sum(total, texts::le::wide(rows[at + 8]));
         if LIMIT < total {
             return LIMIT + 1;
         }

@@ -1,36 +1,14 @@
 // Little-endian numbers in a slice of bytes. A byte past the end counts as 0, so no reader asks anything of its caller.
-ghost use Prim.Native.Nat.{_+_, _≤_, _<_};
+use texts::le::half;
+use texts::le::word;
 ghost use mathlib.Core.Path.{_≡_};
-ghost use lib.ListN.{length, getD};
+ghost use lib.ListN.{getD};
 ghost use Rattle.record.specs.Le.{u16At, u32At, u64At};
 
 pub fn byte_at(s: &[u8], at: usize) -> u8
     ensures { λ r. ⌜ r ≡ getD (now (s .entry)) at 0 ⌝ }
 {
     if at < s.len() { s[at] } else { 0 }
-}
-
-// A byte as a larger number.
-pub(crate) fn wide(x: u8) -> u64
-    ensures { λ r. ⌜ (r ≡ x) × (r < 256) ⌝ }
-{
-    x as u64
-}
-
-// Four bytes that are there as a number, the first the lowest: one read of the machine.
-pub(crate) fn half(s: &[u8], i: usize) -> u64
-    requires { ⌜ i + 4 ≤ length (now s) ⌝ }
-    ensures { λ r. ⌜ (r ≡ u32At (now (s .entry)) i) × (r < 4294967296) ⌝ }
-{
-    wide(s[i]) + 256 * wide(s[i + 1]) + 65536 * wide(s[i + 2]) + 16777216 * wide(s[i + 3])
-}
-
-// Eight bytes that are there.
-pub(crate) fn word(s: &[u8], i: usize) -> u64
-    requires { ⌜ i + 8 ≤ length (now s) ⌝ }
-    ensures { λ r. ⌜ r ≡ u64At (now (s .entry)) i ⌝ }
-{
-    half(s, i) + 4294967296 * half(s, i + 4)
 }
 
 pub fn u16_at(s: &[u8], at: usize) -> u16

@@ -2,7 +2,6 @@
 use crate::cut;
 use crate::index::fill_index;
 use crate::le::byte_at;
-use crate::le::word;
 use crate::leads::Lead;
 use crate::leads::lead_to;
 use crate::lists::StructStep;
@@ -16,6 +15,7 @@ use crate::text::bytes_of;
 use crate::text::same;
 use crate::versioned::Versioned;
 use crate::versioned::versioned_structs;
+use texts::le::word;
 ghost use mathlib.Core.Path.{_≡_};
 ghost use Prim.Native.Nat.{_≤_, _<_};
 ghost use lib.ListN.{length};

@@ -1,36 +1,26 @@
 // Scalar words: a table of bytes, rows of nine. A row is a word, filled up with zeros to eight bytes, and its size.
+use crate::cut::place_of;
+use crate::text::same;
 ghost use Prim.Native.Nat.{_+_, _≤_};
 ghost use mathlib.Core.Path.{_≡_};
-ghost use lib.ListN.{length, take, drop};
+ghost use mathlib.Core.Bool.{_||_};
+ghost use lib.Dec.{eqb};
+ghost use lib.ListN.{length, take, drop, getD};
 ghost use Rattle.record.specs.Base.{eqs};
 ghost use Rattle.record.specs.Scalars.{beforeZero, scalarsOf, primSize, builtInRows};
 
-// Whether the row at a place is of a word of at most eight bytes: no byte of the word is 0 or another than the row's, and the row's word ends there.
-fn row_spells(rows: &[u8], at: usize, word: &[u8]) -> bool
-    requires { ⌜ (at + 9 ≤ length (now rows)) × (length (now word) ≤ 8) ⌝ }
-    ensures { λ r. ⌜ r ≡ eqs (beforeZero (take 8 (drop at (now (rows .entry))))) (now (word .entry)) ⌝ }
+// Whether the word of the row at a place can be of so many bytes, at most eight: a 0 follows them, or the row has no more.
+fn row_ends(rows: &[u8], at: usize, n: usize) -> bool
+    requires { ⌜ (at + 9 ≤ length (now rows)) × (n ≤ 8) ⌝ }
+    ensures { λ r. ⌜ r ≡ (eqb n 8 || eqb (getD (now (rows .entry)) (at + n) 0) 0) ⌝ }
 {
-    let n = word.len();
-    let mut i = 0;
-    while i < n {
-        if rows[at + i] == 0 {
-            return false;
-        }
-        if rows[at + i] != word[i] {
-            return false;
-        }
-        i += 1;
-    }
     if n == 8 {
         return true;
     }
-    if rows[at + n] != 0 {
-        return false;
-    }
-    true
+    rows[at + n] == 0
 }
 
-// Whether the row at a place is of a word. The last byte of the word tells most rows from it.
+// Whether the row at a place is of a word: by the lengths, then the bytes. A word with a 0 in it is no row's.
 fn row_is(rows: &[u8], at: usize, word: &[u8]) -> bool
     requires { ⌜ at + 9 ≤ length (now rows) ⌝ }
     ensures { λ r. ⌜ r ≡ eqs (beforeZero (take 8 (drop at (now (rows .entry))))) (now (word .entry)) ⌝ }
@@ -39,12 +29,14 @@ fn row_is(rows: &[u8], at: usize, word: &[u8]) -> bool
     if 8 < n {
         return false;
     }
-    if 0 < n {
-        if rows[at + n - 1] != word[n - 1] {
-            return false;
-        }
+    if !row_ends(rows, at, n) {
+        return false;
     }
-    row_spells(rows, at, word)
+    let end = at + n;
+    if !same(&rows[at..end], word) {
+        return false;
+    }
+    place_of(word, 0) == n
 }
 
 // A byte as a size. A function, because a cast of a byte in place asks a proof that it fits.

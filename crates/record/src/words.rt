@@ -1,7 +1,7 @@
 // Texts compared several bytes at a time.
 use crate::le::byte_at;
-use crate::le::wide;
-use crate::le::word;
+use texts::le::wide;
+use texts::le::word;
 ghost use Prim.Native.Nat.{_+_, _*_, _≤_, _<_};
 ghost use mathlib.Core.Path.{_≡_};
 ghost use Rattle.record.specs.Base.{before};

@@ -7,6 +7,7 @@ mod files;
 mod generator;
 mod lists;
 mod load;
+mod pairs;
 mod passes;
 mod pointers;
 mod reader;

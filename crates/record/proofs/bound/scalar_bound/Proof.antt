@@ -6,7 +6,6 @@ use Rattle.record.proofs.bound.scalar_bound.Statement.{statement}
 use Rattle.record.proofs.bound.scalar_bound.Tie as tie
 use Rattle.record.proofs.bound.scalar_bound.Reads as reads
 use Rattle.record.proofs.bound.scalar_bound.Lts as lts
-use Rattle.record.proofs.le.wide.Reads as wide-reads
 use Rattle.record.proofs.sizes.sum.Reads as sum-reads
 
 abbrev Inv-loop : tie.InvT-loop

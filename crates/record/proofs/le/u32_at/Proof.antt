@@ -6,7 +6,6 @@ use Rattle.record.proofs.le.u32_at.Statement.{statement}
 use Rattle.record.proofs.le.u32_at.Tie as tie
 use Rattle.record.proofs.le.u32_at.Reads as reads
 use Rattle.record.proofs.le.u32_at.Lts as lts
-use Rattle.record.proofs.le.half.Reads as half-reads
 use Rattle.record.proofs.le.u16_at.Reads as u16-at-reads
 
 sub-if2 : tie.Need-sub-if2

@@ -7,7 +7,6 @@ use Rattle.record.proofs.le.u64_at.Tie as tie
 use Rattle.record.proofs.le.u64_at.Reads as reads
 use Rattle.record.proofs.le.u64_at.Lts as lts
 use Rattle.record.proofs.le.u32_at.Reads as u32-at-reads
-use Rattle.record.proofs.le.word.Reads as word-reads
 
 sub-if2 : tie.Need-sub-if2
 sub-if2 c = search needs

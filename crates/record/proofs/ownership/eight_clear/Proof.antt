@@ -4,7 +4,6 @@ use Rattle.record.proofs.ownership.eight_clear.Statement.{statement}
 use Rattle.record.proofs.ownership.eight_clear.Tie as tie
 use Rattle.record.proofs.ownership.eight_clear.Reads as reads
 use Rattle.record.proofs.ownership.eight_clear.Lts as lts
-use Rattle.record.proofs.le.word.Reads as word-reads
 
 returns : tie.Need-returns
 returns c = search eight-laws

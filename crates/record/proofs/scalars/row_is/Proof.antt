@@ -1,48 +1,58 @@
-use Rattle.record.proofs.ScalarLaws.{row-short, row-other}
+use Rattle.record.proofs.ScalarLaws.{row-short, row-longer, row-differs, row-same}
 use borrow.Author.Needs.{needs}
 use Rattle.record.proofs.scalars.row_is.Statement.{statement}
 use Rattle.record.proofs.scalars.row_is.Tie as tie
 use Rattle.record.proofs.scalars.row_is.Reads as reads
 use Rattle.record.proofs.scalars.row_is.Lts as lts
-use Rattle.record.proofs.scalars.row_spells.Reads as row-spells-reads
+use Rattle.record.proofs.cut.place_of.Reads as place-of-reads
+use Rattle.record.proofs.scalars.row_ends.Reads as row-ends-reads
+use Rattle.record.proofs.text.same.Reads as same-reads
 
 returns : tie.Need-returns
 returns c = search row-short
 
-add-if3 : tie.Need-add-if3
-add-if3 c = search needs
-
-sub-if3 : tie.Need-sub-if3
-sub-if3 c = search needs
-
-shared-slice-read-if3 : tie.Need-shared-slice-read-if3
-shared-slice-read-if3 c = search needs
-
-sub-if3-2 : tie.Need-sub-if3-2
-sub-if3-2 c = search needs
-
-shared-slice-read-if3-2 : tie.Need-shared-slice-read-if3-2
-shared-slice-read-if3-2 c = search needs
+row-ends-requires : tie.Need-row-ends-requires
+row-ends-requires c κs = search needs
 
 returns-2 : tie.Need-returns-2
-returns-2 c = row-other (c .before .before .before .before .before .before .before .args .rows .now) (c .before .before .before .before .before .before .before .args .word .now) _ (c .before .before .before .if2 .taken) (c .before .before .before .before .if1 .left) (c .if3 .taken)
+returns-2 c = search row-longer
 
-row-spells-requires : tie.Need-row-spells-requires
-row-spells-requires c κs = search needs
+add-end : tie.Need-add-end
+add-end c = search needs
+
+sub-same : tie.Need-sub-same
+sub-same c = search needs
+
+part-same-start : tie.Need-part-same-start
+part-same-start c = search needs
+
+part-same-end : tie.Need-part-same-end
+part-same-end c = search needs
+
+same-requires : tie.Need-same-requires
+same-requires c κs = search needs
 
 returns-3 : tie.Need-returns-3
-returns-3 c = search needs
+returns-3 c = search row-differs
+
+place-of-requires : tie.Need-place-of-requires
+place-of-requires c κs = search needs
+
+returns-4 : tie.Need-returns-4
+returns-4 c = search row-same
 
 pub row-is-spec : {M : Type 1} → statement M
 row-is-spec =
     tie.close
     (tie.spec
     returns
-    add-if3
-    sub-if3
-    shared-slice-read-if3
-    sub-if3-2
-    shared-slice-read-if3-2
+    row-ends-requires
     returns-2
-    row-spells-requires
-    returns-3)
+    add-end
+    sub-same
+    part-same-start
+    part-same-end
+    same-requires
+    returns-3
+    place-of-requires
+    returns-4)

@@ -1,8 +1,8 @@
 use native.Mathlib.Omega.{arith}
-use Rattle.record.proofs.WordLaws.{half-is}
+use Rattle.texts.proofs.WordLaws.{half-is}
 use borrow.Author.Needs.{needs}
-use Rattle.record.proofs.le.half.Statement.{statement}
-use Rattle.record.proofs.le.half.Tie as tie
+use Rattle.texts.proofs.le.half.Statement.{statement}
+use Rattle.texts.proofs.le.half.Tie as tie
 
 shared-slice-read-wide : tie.Need-shared-slice-read-wide
 shared-slice-read-wide c = search needs

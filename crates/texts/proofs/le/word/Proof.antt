@@ -1,7 +1,7 @@
-use Rattle.record.proofs.WordLaws.{word-is}
+use Rattle.texts.proofs.WordLaws.{word-is}
 use borrow.Author.Needs.{needs}
-use Rattle.record.proofs.le.word.Statement.{statement}
-use Rattle.record.proofs.le.word.Tie as tie
+use Rattle.texts.proofs.le.word.Statement.{statement}
+use Rattle.texts.proofs.le.word.Tie as tie
 
 half-requires : tie.Need-half-requires
 half-requires c κs = search needs

@@ -1,9 +1,10 @@
-use Rattle.record.proofs.WordLaws.{byte-differs, bytes-same}
+use mathlib.Core.Path.{refl}
+use Rattle.texts.proofs.BackLaws.{byte-out, bytes-out}
 use borrow.Author.Needs.{needs}
-use Rattle.record.proofs.text.same_bytes.Statement.{statement}
-use Rattle.record.proofs.text.same_bytes.Tie as tie
-use Rattle.record.proofs.text.same_bytes.Reads as reads
-use Rattle.record.proofs.text.same_bytes.Lts as lts
+use Rattle.texts.proofs.back.agreed_by_bytes.Statement.{statement}
+use Rattle.texts.proofs.back.agreed_by_bytes.Tie as tie
+use Rattle.texts.proofs.back.agreed_by_bytes.Reads as reads
+use Rattle.texts.proofs.back.agreed_by_bytes.Lts as lts
 
 sub-last : tie.Need-sub-last
 sub-last c = search needs
@@ -15,7 +16,7 @@ shared-slice-read-if1-2 : tie.Need-shared-slice-read-if1-2
 shared-slice-read-if1-2 c = search needs
 
 returns : tie.Need-returns
-returns c = byte-differs _ _ _ (c .if1 .taken)
+returns c = byte-out _ _ _ (c .if1 .taken)
 
 shared-slice-read-if2 : tie.Need-shared-slice-read-if2
 shared-slice-read-if2 c = search needs
@@ -24,7 +25,7 @@ shared-slice-read-if2-2 : tie.Need-shared-slice-read-if2-2
 shared-slice-read-if2-2 c = search needs
 
 returns-2 : tie.Need-returns-2
-returns-2 c = byte-differs _ _ _ (c .if2 .taken)
+returns-2 c = byte-out _ _ _ (c .if2 .taken)
 
 shared-slice-read-if3 : tie.Need-shared-slice-read-if3
 shared-slice-read-if3 c = search needs
@@ -33,13 +34,13 @@ shared-slice-read-if3-2 : tie.Need-shared-slice-read-if3-2
 shared-slice-read-if3-2 c = search needs
 
 returns-3 : tie.Need-returns-3
-returns-3 c = byte-differs _ _ _ (c .if3 .taken)
+returns-3 c = byte-out _ _ _ (c .if3 .taken)
 
 returns-4 : tie.Need-returns-4
-returns-4 c = search bytes-same
+returns-4 c = bytes-out _ _ _ refl (c .before .before .before .before .before .before .if1 .left) (c .before .before .before .if2 .left) (c .if3 .left) (search needs) (search needs)
 
-pub same-bytes-spec : {M : Type 1} → statement M
-same-bytes-spec =
+pub agreed-by-bytes-spec : {M : Type 1} → statement M
+agreed-by-bytes-spec =
     tie.close
     (tie.spec
     sub-last

@@ -1,0 +1,4 @@
+pub mod Texts
+pub mod Le
+pub mod Back
+pub mod Agreement

@@ -1,0 +1,3 @@
+// Texts as bytes: numbers read from them, and whether two are the same.
+pub mod back;
+pub mod le;
