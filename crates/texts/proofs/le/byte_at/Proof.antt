@@ -1,11 +1,11 @@
 use denote.Ref.{now}
 use mathlib.Core.Path.{sym}
-use Rattle.record.specs.Le.{u8-past}
+use Rattle.texts.specs.Le.{u8-past}
 use borrow.Author.Needs.{needs}
-use Rattle.record.proofs.le.byte_at.Statement.{statement}
-use Rattle.record.proofs.le.byte_at.Tie as tie
-use Rattle.record.proofs.le.byte_at.Reads as reads
-use Rattle.record.proofs.le.byte_at.Lts as lts
+use Rattle.texts.proofs.le.byte_at.Statement.{statement}
+use Rattle.texts.proofs.le.byte_at.Tie as tie
+use Rattle.texts.proofs.le.byte_at.Reads as reads
+use Rattle.texts.proofs.le.byte_at.Lts as lts
 
 shared-slice-read-result : tie.Need-shared-slice-read-result
 shared-slice-read-result c = search needs
