@@ -136,12 +136,12 @@ unfolding reading concluded sizesOf vastOr
 read-there side a b t ps l p h e v = go _ _ refl refl h
   where
     go : (short : Bool) (letters : Letters) → (leb (length (a .stream)) streamLimit && leb (length (a .pool)) poolLimit) ≡ short
-        → oddLetter 0 (a .pool) ≡ letters → concluded a short letters (parsed side a) ≡ read t → reading side b ≡ read (schemaFrom b ps)
+        → oddLetter (a .pool) ≡ letters → concluded a short letters (parsed side a) ≡ read t → reading side b ≡ read (schemaFrom b ps)
     go false letters f g k = absurd (let z : _≡_ {A = ℕ} 0 1 = cc in omega arith)
     go true (Odd i) f g k = absurd (let z : _≡_ {A = ℕ} 0 1 = cc in omega arith)
     go true Good f g k =
-        sym (λ i. concluded b (leb (length (b .stream)) streamLimit && leb (length (b .pool)) poolLimit) (oddLetter 0 (p i)) (parsed side b))
-        ∙ sym (λ i. concluded b (leb (l i) streamLimit && leb (length (p i)) poolLimit) (oddLetter 0 (a .pool)) (parsed side b))
+        sym (λ i. concluded b (leb (length (b .stream)) streamLimit && leb (length (b .pool)) poolLimit) (oddLetter (p i)) (parsed side b))
+        ∙ sym (λ i. concluded b (leb (l i) streamLimit && leb (length (p i)) poolLimit) (oddLetter (a .pool)) (parsed side b))
         ∙ ap₂ (λ (x : Bool) (y : Letters). concluded b x y (parsed side b)) f g ∙ ap (concluded b true Good) e ∙ ap (vastOr (schemaFrom b ps)) v
 
 -- a record of these commands and its schema

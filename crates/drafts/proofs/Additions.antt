@@ -231,15 +231,15 @@ module _ (s : Str) (n : ℕ) where
 -- what an accepted addition has passed
 pub record Addable (a : Rec) (ps : List ℕ) : Type 0 where
   pub pool-short : length (a .pool) ≤ 16384
-  pub letters : oddLetter 0 (a .pool) ≡ Good
+  pub letters : oddLetter (a .pool) ≡ Good
   pub are-commands : ps ≡ commandsAt (a .stream) 0
   pub shaped : Shaped (a .stream) (length (a .pool)) ps
 
 pub addable : (a : Rec) (ps : List ℕ) → addition a ≡ ok ps → Addable a ps
 unfolding addition concludedAddition streamLimit poolLimit parsed
-addable a ps h = go (leb (length (a .stream)) 32768) (leb (length (a .pool)) 16384) refl (oddLetter 0 (a .pool)) refl h
+addable a ps h = go (leb (length (a .stream)) 32768) (leb (length (a .pool)) 16384) refl (oddLetter (a .pool)) refl h
   where
-    go : (x y : Bool) → leb (length (a .pool)) 16384 ≡ y → (l : Letters) → oddLetter 0 (a .pool) ≡ l
+    go : (x y : Bool) → leb (length (a .pool)) 16384 ≡ y → (l : Letters) → oddLetter (a .pool) ≡ l
         → concludedAddition (x && y) l (parseAddition (length (a .stream) + 1) (a .stream) (length (a .pool)) start) ≡ ok ps → Addable a ps
     go false y e l g h = absurd (let z : _≡_ {A = ℕ} 0 1 = cc in omega arith)
     go true false e l g h = absurd (let z : _≡_ {A = ℕ} 0 1 = cc in omega arith)
@@ -272,7 +272,7 @@ module _ (r : Rec) (t : Schema) (h : reading Current r ≡ read t) (a : Rec) (xs
   unfolding packedPool
   q2-letters n = kept-letters (covered (textsOf (a .stream) qs)) 0 0 n (a .pool) (addable a xs g .letters)
 
-  pub added-letters : oddLetter 0 (added r a .pool) ≡ Good
+  pub added-letters : oddLetter (added r a .pool) ≡ Good
   unfolding added
   added-letters = letters-append 0 p1 q2 (pool-letters Current r t h 0 (commandsAt (r .stream) 0)) q2-letters
 

@@ -36,7 +36,7 @@ long-or-vast side r (by-sizes e a b) n p h =
     inr (vast-or (schemaFrom r (commandsAt (r .stream) 0)) (find (vast (schemaFrom r (commandsAt (r .stream) 0))) (opened (r .stream) (r .pool) (commandsAt (r .stream) 0))) n p (sym e ∙ h))
 
 module _ (r : Rec) (t : Schema) (h : reading Current r ≡ read t) where
-  pub removed-letters : (v : Str) → oddLetter 0 (removed v r .pool) ≡ Good
+  pub removed-letters : (v : Str) → oddLetter (removed v r .pool) ≡ Good
   unfolding removed
   removed-letters v = pool-letters Current r t h 0 (without (r .stream) (r .pool) v (commandsAt (r .stream) 0))
 

@@ -183,11 +183,11 @@ module _ (s p : Str) where
   unfolding addition concludedAddition outcomeOf poolLimit
   addition-wide h = rw (lt-leb (length p) 16384 h) (either (leb (length s) streamLimit))
     where
-      either : (b : Bool) → O.Refused R.Long 0 ≡ outcomeOf (concludedAddition (b && false) (oddLetter 0 p) (parseAddition (length s + 1) s (length p) start))
+      either : (b : Bool) → O.Refused R.Long 0 ≡ outcomeOf (concludedAddition (b && false) (oddLetter p) (parseAddition (length s + 1) s (length p) start))
       either true = refl
       either false = refl
 
-  module _ (a : length s ≤ 32768) (b : length p ≤ 16384) (l : Letters) (e : l ≡ oddLetter 0 p) where
+  module _ (a : length s ≤ 32768) (b : length p ≤ 16384) (l : Letters) (e : l ≡ oddLetter p) where
     pub addition-letter : (i : ℕ) → l ≡ Odd i → O.Refused R.Letter i ≡ outcomeOf (addition (rec s p []))
     unfolding addition concludedAddition outcomeOf streamLimit poolLimit
     addition-letter i h = rw (le-leb (length s) 32768 a, le-leb (length p) 16384 b, ← e, h)

@@ -60,7 +60,7 @@ pub data Settled (side : Side) (r : Rec) : Type 0 where
   too-long : reading side r ≡ refuse R.Long 0 → Settled side r
   by-sizes : reading side r ≡ sizesOf r (commandsAt (r .stream) 0) → length (r .stream) ≤ 32768 → length (r .pool) ≤ 16384 → Settled side r
 
-pub settles : (side : Side) (r : Rec) (ds : List Content) → Result side r ds → oddLetter 0 (r .pool) ≡ Good → Settled side r
+pub settles : (side : Side) (r : Rec) (ds : List Content) → Result side r ds → oddLetter (r .pool) ≡ Good → Settled side r
 unfolding reading concluded streamLimit poolLimit
 settles side r ds b g = go (leb (length (r .stream)) 32768) (leb (length (r .pool)) 16384) refl refl
   where
@@ -69,7 +69,7 @@ settles side r ds b g = go (leb (length (r .stream)) 32768) (leb (length (r .poo
     go true false e f = too-long (rw (e, f))
     go false y e f = too-long (rw e)
 
-pub settles-read : (side : Side) (r : Rec) (ds : List Content) → Result side r ds → oddLetter 0 (r .pool) ≡ Good → length (r .stream) ≤ 32768 → length (r .pool) ≤ 16384
+pub settles-read : (side : Side) (r : Rec) (ds : List Content) → Result side r ds → oddLetter (r .pool) ≡ Good → length (r .stream) ≤ 32768 → length (r .pool) ≤ 16384
     → reading side r ≡ sizesOf r (commandsAt (r .stream) 0)
 unfolding reading concluded streamLimit poolLimit
 settles-read side r ds b g e f = rw (le-leb (length (r .stream)) 32768 e, le-leb (length (r .pool)) 16384 f, g, b .parsed-all)
@@ -77,13 +77,13 @@ settles-read side r ds b g e f = rw (le-leb (length (r .stream)) 32768 e, le-leb
 -- what an accepted record has passed, its pool too
 pub record Fit (side : Side) (r : Rec) : Type 0 where
   pub pool-short : length (r .pool) ≤ 16384
-  pub letters : oddLetter 0 (r .pool) ≡ Good
+  pub letters : oddLetter (r .pool) ≡ Good
 
 pub fit : (side : Side) (r : Rec) (t : Schema) → reading side r ≡ read t → Fit side r
 unfolding reading concluded poolLimit streamLimit
-fit side r t h = go (leb (length (r .stream)) 32768) (leb (length (r .pool)) 16384) refl (oddLetter 0 (r .pool)) refl (parsed side r) h
+fit side r t h = go (leb (length (r .stream)) 32768) (leb (length (r .pool)) 16384) refl (oddLetter (r .pool)) refl (parsed side r) h
   where
-    go : (a b : Bool) → leb (length (r .pool)) 16384 ≡ b → (l : Letters) → oddLetter 0 (r .pool) ≡ l → (x : Parsed) → concluded r (a && b) l x ≡ read t → Fit side r
+    go : (a b : Bool) → leb (length (r .pool)) 16384 ≡ b → (l : Letters) → oddLetter (r .pool) ≡ l → (x : Parsed) → concluded r (a && b) l x ≡ read t → Fit side r
     go false b e l g x h = absurd (let z : _≡_ {A = ℕ} 0 1 = cc in omega arith)
     go true false e l g x h = absurd (let z : _≡_ {A = ℕ} 0 1 = cc in omega arith)
     go true true e (Odd i) g x h = absurd (let z : _≡_ {A = ℕ} 0 1 = cc in omega arith)

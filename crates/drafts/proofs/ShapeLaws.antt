@@ -349,7 +349,7 @@ module _ (o : Outcome) (at : ℕ) (m : Refusal) (q : ℕ) (e : o ≡ O.Refused m
 
 -- the whole addition --------------------------------------------------------------------------------------------------------------------------------
 
-module _ (s p : Str) (a : length s ≤ 32768) (b : length p ≤ 16384) (l : Letters) (e : l ≡ oddLetter 0 p)
+module _ (s p : Str) (a : length s ≤ 32768) (b : length p ≤ 16384) (l : Letters) (e : l ≡ oddLetter p)
     (g : OneOf (0 ∷ []) (tagOf letters-type.the-type l)) where
   commands-only : (ws : List Scalar) (o : Outcome) → readingOf (rec s p ws) o ≡ reading Current (rec s p ws)
       → commandsRead o ≡ outcomeOf (parsed Current (rec s p ws))

@@ -53,5 +53,5 @@ concludedAddition true Good c = c
 -- the places of an addition's commands, or its refusal
 unfoldable pub addition : Rec → Parsed
 addition r =
-    concludedAddition (leb (length (r .stream)) streamLimit && leb (length (r .pool)) poolLimit) (oddLetter 0 (r .pool))
+    concludedAddition (leb (length (r .stream)) streamLimit && leb (length (r .pool)) poolLimit) (oddLetter (r .pool))
     (parseAddition (length (r .stream) + 1) (r .stream) (length (r .pool)) start)

@@ -26,7 +26,7 @@ pub pool-long : length W.pool ≡ 971
 unfolding W.pool W.structNames W.fieldNames W.kindTexts W.wordTexts bytes
 pool-long = refl
 
-pool-letters : oddLetter 0 W.pool ≡ Good
+pool-letters : oddLetter W.pool ≡ Good
 unfolding W.pool W.structNames W.fieldNames W.kindTexts W.wordTexts bytes oddLetter isLetter
 pool-letters = refl
 

@@ -13,8 +13,8 @@ use Rattle.record.specs.declared.read.Outcome.{Outcome}
 use Rattle.record.specs.declared.read.Outcome.the-variants.{Readable, Refused}
 
 -- the commands judged from a cursor on
-unfoldable pub parsedFrom : Side → Str → ℕ → Cursor → Parsed
-parsedFrom side s n c = parse (length s + 1 - c .at) side s n c
+unfoldable pub parsedFrom : Side → Str → Str → Cursor → Parsed
+parsedFrom side s p c = parse (length s + 1 - c .at) side s p c
 
 unfoldable pub outcomeOf : Parsed → Outcome
 outcomeOf (ok ps) = Readable
