@@ -23,7 +23,7 @@ use Rattle.record.specs.declared.judge.Judged.{Judged}
 use Rattle.record.specs.declared.judge.Judged.the-variants.{Next, Done, Refused}
 use Rattle.record.proofs.Accepted.{Lets, passed, onto-ok, accepting}
 
-worse-both : (a b : Fault) → worseOf a b ≡ Fine → (a ≡ Fine) × (b ≡ Fine)
+pub worse-both : (a b : Fault) → worseOf a b ≡ Fine → (a ≡ Fine) × (b ≡ Fine)
 worse-both Fine b e = (refl, e)
 worse-both Outside b e = absurd (let z : _≡_ {A = ℕ} 0 1 = cc in omega arith)
 worse-both Missing Fine e = absurd (let z : _≡_ {A = ℕ} 0 1 = cc in omega arith)

@@ -50,8 +50,8 @@ ifAbsent side x o =
     (cond (eqb o 33) (missingIn side)
     (cond (eqb o 63) (cond (flagAt x 4) Missing Fine) Outside))
 
--- 01 and 02, W-206: a text that is there lies in the pool and neither begins nor ends inside a sequence, or it is 4. In a pool without fault, which comes
--- first, no tail stands at a place exactly if it is not inside a sequence (texts, proofs/EdgeLaws, `edge-no-tail`)
+-- 01 and 02, W-206: a text that is there lies in the pool and neither begins nor ends inside a sequence, or it is 4. In a pool without fault,
+-- and that is judged first, no tail stands at a place exactly if it is not inside a sequence (texts, proofs/EdgeLaws, `edge-no-tail`)
 abbrev pub textFault : Str → Fault → OptText → Fault
 textFault p absent Absent = absent
 textFault p absent (Given t) =

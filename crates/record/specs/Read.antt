@@ -1,7 +1,7 @@
 -- What the code's reading of a record answers: the outcome of Reading, and that an accepted record's sizes are exact. Assumes nothing.
 use mathlib.Core.Path.{_≡_}
 use mathlib.Core.List.{List·Memᴰ}
-use Prim.Native.Nat.{ℕ, _+_, _-_, _≤_}
+use Prim.Native.Nat.{_+_, _-_, _≤_}
 use lib.ListN.{length}
 use Rattle.record.specs.Base.{Str}
 use Rattle.record.specs.Commands.{commandsAt}

@@ -1,6 +1,6 @@
 -- Edges: in a well-formed pool a place is one exactly if no tail stands there, and what lies between two is well-formed. Assumes nothing.
 use Prim.Native.Nat.{ℕ, zero, suc, _+_, _-_, _≤_, _<_}
-use mathlib.Core.Bool.{Bool, true, false, not, false≢true}
+use mathlib.Core.Bool.{true, false, not, false≢true}
 use mathlib.Core.List.{[], _∷_}
 use mathlib.Core.Path.{_≡_, refl, sym, ap, _∙_}
 use native.Mathlib.Omega.{arith}
@@ -34,13 +34,15 @@ module _ (a : ℕ) (s : Str) (k : ℕ) (e : charLength (a ∷ s) ≡ suc k) wher
   unfolding edgeAfter
   edge-step at = let z : suc k - 1 ≡ k = omega arith in rw (e, z)
 
-  -- a sequence that a cut leaves whole is the same
-  length-kept : (n : ℕ) → k ≤ n → charLength (a ∷ take n s) ≡ suc k
+  -- the tails decide: with them another list begins with the sequence too
+  pub sequence-same : (t : Str) → ((i : ℕ) → i < k → getD t i 0 ≡ getD s i 0) → charLength (a ∷ t) ≡ suc k
   unfolding charLength
-  length-kept n h =
-      row-length a (getD (take n s) 0 0) (getD (take n s) 1 0) (getD (take n s) 2 0) k
-      (row-swap k a (getD s 0 0) (getD s 1 0) (getD s 2 0) (getD (take n s) 0 0) (getD (take n s) 1 0) (getD (take n s) 2 0)
-      (λ l. getD-take n s 0 0 (omega arith)) (λ l. getD-take n s 1 0 (omega arith)) (λ l. getD-take n s 2 0 (omega arith)) row)
+  sequence-same t h =
+      row-length a (getD t 0 0) (getD t 1 0) (getD t 2 0) k
+      (row-swap k a (getD s 0 0) (getD s 1 0) (getD s 2 0) (getD t 0 0) (getD t 1 0) (getD t 2 0) (λ l. h 0 l) (λ l. h 1 l) (λ l. h 2 l) row)
+
+  length-kept : (n : ℕ) → k ≤ n → charLength (a ∷ take n s) ≡ suc k
+  length-kept n h = sequence-same (take n s) (λ i l. getD-take n s i 0 (omega arith))
 
 edge-tail : (k : ℕ) (s : Str) (at : ℕ) → Tails k s → wellAfter k s ≡ true → edgeAfter k s at ≡ not (isTail (getD s at 0))
 unfolding edgeAfter wellAfter
@@ -97,6 +99,12 @@ stretch-well s at n w p q =
     let r : edge (drop at s) n ≡ true = edge-no-tail (drop at s) n d ∙ ap (λ (x : ℕ). not (isTail x)) (getD-drop at s n 0) ∙ sym (edge-no-tail s (at + n) w) ∙ q in
     take-well 0 (drop at s) n d r
 
--- the same from the cheap test
+-- from the cheap test
 pub text-whole : (s : Str) (at n : ℕ) → wellFormed s ≡ true → noTail s at ≡ true → noTail s (at + n) ≡ true → wellFormed (take n (drop at s)) ≡ true
 text-whole s at n w p q = stretch-well s at n w (edge-no-tail s at w ∙ p) (edge-no-tail s (at + n) w ∙ q)
+
+-- a well-formed text begins with no tail
+pub well-begins : (s : Str) → wellFormed s ≡ true → noTail s 0 ≡ true
+unfolding wellFormed noTail
+well-begins [] h = rw (tail-below 0 (omega arith))
+well-begins (b ∷ s) h = let n = begins b s h in rw (lead-no-tail b s (n .0) (n .1))

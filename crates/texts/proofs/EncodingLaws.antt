@@ -1,15 +1,15 @@
 -- The theorem of W-206: well-formed bytes are exactly the encodings of lists of scalar values, and decoding is unique. Assumes nothing.
 use Prim.Native.Nat.{ℕ, zero, suc, _+_, _*_, _-_, _/_, _%_, _≤_, _<_}
-use mathlib.Core.Bool.{Bool, true, false, _&&_, not, cond, false≢true}
+use mathlib.Core.Bool.{true, false, not, cond, false≢true}
 use mathlib.Core.List.{List, [], _∷_, _++_, append-assoc}
 use mathlib.Core.Logic.{_⊎_, inl, inr}
 use mathlib.Core.Path.{_≡_, refl, sym, ap, _∙_}
 use native.Mathlib.Omega.{arith}
-use lib.Dec.{leb, ltb, eqb, eqb·suc-zero}
+use lib.Dec.{leb, eqb, eqb·suc-zero}
 use lib.ListN.{length, getD, take}
-use borrow.Author.Tests.{leb-true, le-leb, lt-ltb, le-ltb, eqb-true, eqb-false}
+use borrow.Author.Tests.{leb-true, le-leb, lt-ltb, le-ltb}
 use Rattle.texts.specs.Texts.{Str}
-use Rattle.texts.specs.Utf8.{inside, charOf, charLength, wellAfter, wellFormed}
+use Rattle.texts.specs.Utf8.{inside, charLength, wellAfter, wellFormed}
 use Rattle.texts.specs.Encoding.{isScalar, allScalars, bytesOf, encode, valueOf, charValue, decodeAfter, decode}
 use Rattle.texts.proofs.TextLaws.{both, below-or}
 use Rattle.texts.proofs.RowLaws.{inside-yes, inside-below, inside-above, Row, row-of, row-length}

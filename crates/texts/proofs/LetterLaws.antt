@@ -6,15 +6,15 @@ use mathlib.Core.Logic.{_⊎_, inl, inr}
 use mathlib.Core.Path.{_≡_, refl, sym, ap, subst, _∙_}
 use native.Mathlib.Numerals.{add-one}
 use native.Mathlib.Omega.{arith}
-use lib.Dec.{leb, eqb, eqb·suc-zero}
-use lib.ListN.{length, getD, take, drop, drop-of-length-le, length-drop, take-append-drop, List·getD-eq-default}
+use lib.Dec.{leb, eqb·suc-zero}
+use lib.ListN.{length, getD, take, drop, drop-of-length-le, length-drop, take-append-drop}
 use lib.Seq.{drop-cons, drop-drop, getD-drop, length-take-le}
 use borrow.Author.Tests.{le-leb, not-true}
 use Rattle.texts.specs.Texts.{Str}
-use Rattle.texts.specs.Utf8.{inside, isTail, utf81, utf82, utf83, utf84, charOf, isControl, noControl, noTail, charLength, wellAfter, wellFormed, letterLength, oddAfter, oddPlace}
+use Rattle.texts.specs.Utf8.{inside, isTail, utf82, utf83, utf84, charOf, isControl, noControl, noTail, charLength, wellAfter, wellFormed, letterLength, oddAfter, oddPlace}
 use Rattle.texts.specs.Plain.{isPlain, allPlain, Passed}
 use Rattle.texts.proofs.TextLaws.{both, below-or}
-use Rattle.texts.proofs.RowLaws.{inside-yes, inside-below, inside-above, inside-is, tail-is, char-1, utf81-no}
+use Rattle.texts.proofs.RowLaws.{inside-yes, inside-below, inside-above, inside-is, tail-is, tail-below, char-1, utf81-no}
 use Rattle.texts.proofs.EncodingLaws.{begins, well-step, whole}
 use Rattle.texts.proofs.EdgeLaws.{Tails, tails-follow, text-whole}
 
@@ -317,3 +317,15 @@ module _ (l : Str) where
   plain-on i end t s h n e f =
       let z : i + (end - i) ≡ end = omega arith in
       stepped-more 0 i end s (subst (Stepped l i) z (plain-passed l i (end - i) t (omega arith) e f))
+
+-- texts that are joined, and plain ones
+pub clean-join : (s t : Str) → noControl s ≡ true → noControl t ≡ true → noControl (s ++ t) ≡ true
+unfolding noControl
+clean-join [] t p q = q
+clean-join (b ∷ s) t p q = let k = both (not (isControl b)) (noControl s) p in rw (k .0) (clean-join s t (k .1) q)
+
+pub plain-no-tail : (s : Str) (at : ℕ) → allPlain s ≡ true → noTail s at ≡ true
+unfolding allPlain isPlain noTail
+plain-no-tail [] at h = rw (tail-below 0 (omega arith))
+plain-no-tail (b ∷ s) zero h = let k = inside-is 0x20 0x7e b (both (inside 0x20 0x7e b) (allPlain s) h .0) in rw (tail-below b (omega arith))
+plain-no-tail (b ∷ s) (suc at) h = plain-no-tail s at (both (inside 0x20 0x7e b) (allPlain s) h .1)

@@ -41,7 +41,7 @@ utf84 a b c d =
 unfoldable pub charOf : ℕ → ℕ → ℕ → ℕ → ℕ
 charOf a b c d = cond (utf81 a) 1 (cond (utf82 a b) 2 (cond (utf83 a b c) 3 (cond (utf84 a b c d) 4 0)))
 
--- the length of the sequence that bytes begin with, 0 if they begin with none. A byte past the end counts as 0, which is no tail
+-- the length of the sequence that bytes begin with, 0 if they begin with none; a byte past the end counts as 0, which is no tail
 unfoldable pub charLength : Str → ℕ
 charLength [] = 0
 charLength (a ∷ s) = charOf a (getD s 0 0) (getD s 1 0) (getD s 2 0)
@@ -86,6 +86,6 @@ edgeAfter zero (b ∷ s) (suc at) = edgeAfter (charLength (b ∷ s) - 1) s at
 unfoldable pub edge : Str → ℕ → Bool
 edge s at = edgeAfter 0 s at
 
--- the same of a well-formed pool by one byte: no tail stands there
+-- no tail stands at a place: of a well-formed pool it is then one between sequences (proofs/EdgeLaws, `edge-no-tail`)
 unfoldable pub noTail : Str → ℕ → Bool
 noTail s at = not (isTail (getD s at 0))

@@ -1,4 +1,4 @@
-// Bytes and little-endian numbers. Four and eight bytes are read where all of them are there, so that the compiler makes one read of the machine of each.
+// Bytes and little-endian numbers. Four and eight bytes are read where all of them are there, so that the compiler makes one read of each.
 ghost use Prim.Native.Nat.{_+_, _≤_, _<_};
 ghost use mathlib.Core.Path.{_≡_};
 ghost use lib.ListN.{length, getD};
