@@ -187,16 +187,16 @@ module _ (side : Side) (p : Str) (w : List Scalar) (head : Str) (is-head : isCom
       there : schemaFrom (rec (streamOf ys) p w) (commandPlaces 0 ys) ≡ theSchema p w ys
       there = schema-run (streamOf ys) p w 0 ys refl ys-whole
 
-      valid-here : valid side (length p) 0 NoParent xs ≡ true
-      valid-here = unfold parsed in parsed-valid side (length p) (streamOf xs) (length (streamOf xs) + 1) start xs _ refl xs-whole (r .parsed-all)
+      valid-here : valid side p 0 NoParent xs ≡ true
+      valid-here = unfold parsed in parsed-valid side p (streamOf xs) (length (streamOf xs) + 1) start xs _ refl xs-whole (r .parsed-all)
 
-      valid-there : valid side (length p) 0 NoParent ys ≡ true
-      valid-there = unfold xs ys in reordered-valid side (length p) head secs others is-head are-secs are-others s valid-here
+      valid-there : valid side p 0 NoParent ys ≡ true
+      valid-there = unfold xs ys in reordered-valid side p head secs others is-head are-secs are-others s valid-here
 
       parsed-there : parsed side (rec (streamOf ys) p w) ≡ ok (commandPlaces 0 ys)
       parsed-there =
           let l = long-enough ys ys-whole in
-          unfold parsed in valid-parsed side (length p) (streamOf ys) (length (streamOf ys) + 1) start ys refl ys-whole (omega arith) valid-there
+          unfold parsed in valid-parsed side p (streamOf ys) (length (streamOf ys) + 1) start ys refl ys-whole (omega arith) valid-there
 
       small : any (large-in (theSchema p w xs)) (theOpened p xs) ≡ false
       small =

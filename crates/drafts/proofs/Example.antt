@@ -15,6 +15,7 @@ use Rattle.record.specs.Operands as Operands
 use Rattle.record.specs.Commands as Commands
 use Rattle.record.specs.Lists as Lists
 use Rattle.record.specs.Judge as Judge
+use Rattle.texts.specs.Utf8 as Utf8
 use Rattle.record.specs.Letters as Letters
 use Rattle.record.specs.Reading as Reading
 use Rattle.record.specs.Shapes as Shapes
@@ -93,8 +94,8 @@ unfolding Base.bytes Base.eqs Base.isText Base.isSome Base.before Base.decimal B
     Commands.widthWith Commands.widthOf Commands.commandOf Commands.stepAt Commands.commandsFrom Commands.commandsAt Lists.listed
     Lists.heads Lists.constants Lists.aliases Lists.values Lists.enums Lists.members Lists.bitfields Lists.keys Lists.fields Lists.structs
     Lists.variants Lists.families Lists.unstored Lists.versions Judge.ifAbsent Judge.flagFault Judge.operandFault Judge.faultsFrom
-    Judge.faultsOf Judge.follows Judge.mayStand Judge.rowAt Judge.parentAfter Judge.ready Judge.judgedWith Judge.judgedAt Letters.isLetter
-    Letters.allLetters Letters.oddLetter Reading.releaseOf Reading.unreleasedOf Reading.schemaFrom Reading.schemaOf Reading.openedAt
+    Judge.faultsOf Judge.follows Judge.mayStand Judge.rowAt Judge.parentAfter Judge.ready Judge.judgedWith Judge.judgedAt Letters.oddLetter
+    Utf8.inside Utf8.isTail Utf8.utf81 Utf8.utf82 Utf8.utf83 Utf8.utf84 Utf8.charOf Utf8.charLength Utf8.isControl Utf8.letterLength Utf8.oddAfter Utf8.oddPlace Utf8.noTail Reading.releaseOf Reading.unreleasedOf Reading.schemaFrom Reading.schemaOf Reading.openedAt
     Reading.opened Reading.large Reading.vast Reading.onto Reading.continued Reading.parse Reading.parsed Reading.streamLimit
     Reading.poolLimit Reading.vastOr Reading.sizesOf Reading.concluded Reading.reading Shapes.enumSize Shapes.aliasSize Shapes.bitfieldSize
     Shapes.sized Shapes.scalarSize Shapes.sizeAs Shapes.shapeSize Shapes.spaced Shapes.named Shapes.restAs Shapes.shapeType Shapes.placeOf

@@ -79,9 +79,9 @@ unfolding oddLetter01 allPlain isPlain inside
 letters-01 i [] h = refl
 letters-01 i (b ∷ s) h = let k = both (leb 32 b && leb b 126) (allPlain s) h in rw (k .0) (letters-01 (i + 1) s (k .1))
 
-letters-now : (s : Str) → allPlain s ≡ true → oddLetter s ≡ Good
+pub plain-letters : (s : Str) → allPlain s ≡ true → oddLetter s ≡ Good
 unfolding oddLetter
-letters-now s h = rw (eq-eqb (oddPlace s) (length s) (sym (plain-all s (allPlain s) refl h)))
+plain-letters s h = rw (eq-eqb (oddPlace s) (length s) (sym (plain-all s (allPlain s) refl h)))
 
 -- commands
 module _ (p : Str) (h : allPlain p ≡ true) where
@@ -133,5 +133,5 @@ unfolding reading reading01 parsed
 plain-reading side r h =
     ap₂
     (λ (l : Letters) (x : Parsed). concluded r (leb (length (r .stream)) streamLimit && leb (length (r .pool)) poolLimit) l x)
-    (letters-now (r .pool) h ∙ sym (letters-01 0 (r .pool) h))
+    (plain-letters (r .pool) h ∙ sym (letters-01 0 (r .pool) h))
     (parse-same (r .pool) h side (r .stream) (length (r .stream) + 1) start)

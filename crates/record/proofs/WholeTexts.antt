@@ -89,7 +89,8 @@ module _ (p : Str) where
   unfolding textsAt textsWith
   command-lies side s at row e h u m = row-lies side (drop at s) 1 row h u (rw e at m)
 
-  parse-lies : (k : ℕ) (side : Side) (s : Str) (c : Cursor) (ps : List ℕ) → parse k side s p c ≡ ok ps
+  -- the texts of all commands that are parsed
+  pub parse-lies : (k : ℕ) (side : Side) (s : Str) (c : Cursor) (ps : List ℕ) → parse k side s p c ≡ ok ps
       → (at : ℕ) → List·Memᴰ at ps → (u : Text) → List·Memᴰ u (textsAt s at) → Lies p u
   unfolding parse continued
   parse-lies zero side s c ps h at m u n = absurd (let z : _≡_ {A = ℕ} 0 1 = cc in omega arith)
@@ -111,7 +112,7 @@ module _ (p : Str) where
       go ih (Refused r q) e g = absurd (let z : _≡_ {A = ℕ} 0 1 = cc in omega arith)
 
 -- a pool without fault
-letters-good : (l : Str) → oddLetter l ≡ Good → oddPlace l ≡ length l
+pub letters-good : (l : Str) → oddLetter l ≡ Good → oddPlace l ≡ length l
 unfolding oddLetter
 letters-good l h = go (eqb (oddPlace l) (length l)) refl h
   where
