@@ -2,7 +2,6 @@
 // texts (stdout here): a line a length with the count of equal texts, a sum over the counts with one unequal pair, one with all pairs in front of it
 // unequal too, and the count of a text with its own back.
 use menqachu::menqachu_pairs_compared;
-use record::cut;
 
 const MOST: usize = 300;
 
@@ -51,6 +50,14 @@ fn front_unequal(a: &[u8], b: &mut [u8]) -> u32 {
     sum
 }
 
+// A text without its first byte.
+fn back(a: &[u8]) -> &[u8] {
+    if a.len() == 0 {
+        return a;
+    }
+    &a[1..]
+}
+
 fn print_number(n: u64) {
     io::write_all(1, b" ");
     io::print_decimal(1, n);
@@ -62,18 +69,18 @@ fn print_counts(a: &[u8], b: &mut [u8]) {
     print_number(menqachu_pairs_compared(a, b) as u64);
     print_number(one_unequal(a, b) as u64);
     print_number(front_unequal(a, b) as u64);
-    print_number(menqachu_pairs_compared(a, cut::from(a, 1)) as u64);
+    print_number(menqachu_pairs_compared(a, back(a)) as u64);
     io::write_all(1, b"\n");
 }
 
 fn print_length(n: usize) {
     let mut a = [0u8; MOST];
     let mut b = [0u8; MOST];
+    fill(&mut a);
+    fill(&mut b);
     if MOST < n {
         return;
     }
-    fill(&mut a);
-    fill(&mut b);
     print_counts(&a[..n], &mut b[..n]);
 }
 
