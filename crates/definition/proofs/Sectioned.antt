@@ -258,9 +258,9 @@ pub readable-sectioned : (side : Side) (r : Rec) (t : Schema) → reading side r
 unfolding parsed
 readable-sectioned side r t h =
     let a = accepting side r t h in
-    let w = parse-whole side (length (r .pool)) (r .stream) (length (r .stream) + 1) start (commandsAt (r .stream) 0) (a .parsed-all) in
-    sectioned side r (length (r .pool)) (w .0) (w .1) (w .2)
-    (parsed-valid side (length (r .pool)) (r .stream) (length (r .stream) + 1) start (w .0) (commandsAt (r .stream) 0) (w .1) (w .2) (a .parsed-all))
+    let w = parse-whole side (r .pool) (r .stream) (length (r .stream) + 1) start (commandsAt (r .stream) 0) (a .parsed-all) in
+    sectioned side r (r .pool) (w .0) (w .1) (w .2)
+    (parsed-valid side (r .pool) (r .stream) (length (r .stream) + 1) start (w .0) (commandsAt (r .stream) 0) (w .1) (w .2) (a .parsed-all))
 
 -- a command of a section with parts begins a part or is a field
 part-or-field : (k : Part) (x : Str) → isCommand (bodyNumbers k) x ≡ true → (isCommand (partNumber k ∷ []) x ≡ true) ⊎ (isCommand (fieldNumbers k) x ≡ true)
@@ -286,8 +286,8 @@ readable-parted side r t h c k x xs m e = record {
   commands = ap (λ (l : List Str). x ∷ l) (sym (g .together));
 }
   where
-    n : ℕ
-    n = length (r .pool)
+    pool : Str
+    pool = r .pool
 
     section : isSection (x ∷ xs) ≡ true
     section = all-of isSection (c .sections) (c .are-sections) m
