@@ -121,6 +121,7 @@ module _ (side : Side) where
 
     tail-fit : AllFit side W.pool 2 NoParent tail
     unfolding integerBytes vendorBytes versionBytes opcode operands wide widths bytes mayStand parentAfter faultsFrom operandFault ifAbsent flagFault optTextAt optText textAt flagAt u16At
+        W.pool W.structNames W.fieldNames W.kindTexts W.wordTexts noTail isTail inside
     tail-fit = (
       record { row = bytes "TFV?FO"; has-row = refl; whole = refl; stands = λ at. refl; fine = λ x. refl; going = λ e. omega arith },
       (
@@ -131,8 +132,10 @@ module _ (side : Side) where
 
     pub fit-without : AllFit side W.pool 0 NoParent (headBytes release ∷ integerBytes W.t·GENERATION n 0 W.absent ∷ tail)
     unfolding headBytes integerBytes opcode operands wide widths bytes mayStand parentAfter faultsFrom operandFault ifAbsent flagFault optTextAt optText textAt flagAt u16At
+        W.pool W.structNames W.fieldNames W.kindTexts W.wordTexts noTail isTail inside
     fit-without = (head-fits release a, (record { row = bytes "TFV?FO"; has-row = refl; whole = refl; stands = λ at. refl; fine = λ x. refl; going = λ e. omega arith }, tail-fit))
 
     pub fit-with : (v : ℕ) → AllFit side W.pool 0 NoParent (headBytes release ∷ integerBytes W.t·GENERATION n 0 W.absent ∷ integerBytes W.t·TILE-LIMIT v 1 W.t·0·8·0 ∷ tail)
     unfolding headBytes integerBytes opcode operands wide widths bytes mayStand parentAfter faultsFrom operandFault ifAbsent flagFault optTextAt optText textAt flagAt u16At
+        W.pool W.structNames W.fieldNames W.kindTexts W.wordTexts noTail isTail inside
     fit-with v = (head-fits release a, (record { row = bytes "TFV?FO"; has-row = refl; whole = refl; stands = λ at. refl; fine = λ x. refl; going = λ e. omega arith }, (record { row = bytes "TFV?FO"; has-row = refl; whole = refl; stands = λ at. refl; fine = λ x. refl; going = λ e. omega arith }, tail-fit)))
