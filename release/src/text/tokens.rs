@@ -4,7 +4,7 @@ use std::fmt;
 
 use super::letters::{escaped, may_stand, shown, unseen};
 
-/// How much of a word a message shows.
+/// How many characters of a word a message shows.
 const SHOWN: usize = 60;
 
 /// A quoted word is always a text, never a keyword.
@@ -18,8 +18,8 @@ pub enum Token {
 impl fmt::Display for Token {
     fn fmt(&self, out: &mut fmt::Formatter) -> fmt::Result {
         match self {
-            Token::Bare(text) | Token::Quoted(text) if text.len() > SHOWN => {
-                let front: String = String::from_utf8_lossy(text).chars().take(SHOWN).collect();
+            Token::Bare(text) | Token::Quoted(text) if letters(text).nth(SHOWN).is_some() => {
+                let front: String = letters(text).take(SHOWN).collect();
                 write!(out, "{}.. ({} bytes)", shown(front.as_bytes()), text.len())
             }
             Token::Bare(word) => out.write_str(&shown(word)),
@@ -27,6 +27,10 @@ impl fmt::Display for Token {
             Token::Equals => out.write_str("="),
         }
     }
+}
+
+fn letters(text: &[u8]) -> impl Iterator<Item = char> + '_ {
+    text.utf8_chunks().flat_map(|chunk| chunk.valid().chars())
 }
 
 /// The words of a line without its comment, or what is wrong with it. A comment may hold any byte; all else is UTF-8.
