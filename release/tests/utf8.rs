@@ -102,8 +102,8 @@ fn lengths_in_bytes() {
     let long = alias(&"µ".repeat(128)).expect_err("256 bytes").message;
     assert_eq!(long, "expected the name of the alias in at most 255 bytes, found 256");
     let word =
-        assemble(("head\na".to_string() + &"µ".repeat(50)).as_bytes()).expect_err("no command").message;
-    assert!(word.ends_with(&format!("found a{}.. (101 bytes)", "µ".repeat(50))), "{word}");
+        assemble(("head\na".to_string() + &"µ".repeat(70)).as_bytes()).expect_err("no command").message;
+    assert!(word.ends_with(&format!("found a{}.. (141 bytes)", "µ".repeat(59))), "{word}");
 }
 
 /// Texts that overlap in a pool of characters of three bytes: the lines of the pool have whole characters.
