@@ -1,5 +1,6 @@
 //! Sequences of UTF-8, well-formed and ill-formed, by the table of RFC 3629.
 
+use crate::reader::POOL_LIMIT;
 use crate::rng::Rng;
 
 /// The first bytes of a row of the table, and the second bytes that may follow
@@ -95,4 +96,38 @@ pub fn ill_formed(rng: &mut Rng) -> Vec<u8> {
         }
     }
     bytes
+}
+
+/// A pool of characters, in a third of the draws with something that is none:
+/// mostly short, at times as long as may be.
+pub fn pool(rng: &mut Rng) -> Vec<u8> {
+    let most = match rng.below(50) {
+        0 => POOL_LIMIT,
+        1..=5 => 2_000,
+        _ => 120,
+    };
+    let odd = rng.chance(33);
+    let length = rng.below(most + 1);
+    let mut pool = Vec::new();
+    while pool.len() < length {
+        match rng.below(6) {
+            0 => pool.extend(vec![rng.between(0x20, 0x7E) as u8; rng.below(40)]),
+            _ => pool.extend(character(rng).bytes()),
+        }
+    }
+    pool.truncate(POOL_LIMIT);
+    if odd {
+        let at = match rng.below(4) {
+            0 => pool.len(),
+            _ => rng.below(pool.len() + 1),
+        };
+        let bytes = match rng.below(4) {
+            0 => vec![*rng.pick(&[0x00, 0x09, 0x0A, 0x1F, 0x7F])],
+            1 => vec![rng.draw() as u8],
+            _ => ill_formed(rng),
+        };
+        pool.splice(at..at, bytes);
+        pool.truncate(POOL_LIMIT);
+    }
+    pool
 }

@@ -156,8 +156,8 @@ const FRONTS: [&str; 14] = [
     "N",
 ];
 
-/// Fronts in which labs abroad write: units, of which \u{c5} has three spellings and
-/// \u{b5} two, Greek, CJK and characters of four bytes; and the first and last
+/// Fronts in which labs abroad write: units, of which Å has three spellings and
+/// µ two, Greek, CJK and characters of four bytes; and the first and last
 /// characters of two, three and four bytes, and some that no screen shows.
 pub const UNITS: [&str; 24] = [
     "\u{b5}",
