@@ -87,6 +87,7 @@ unsafe extern "C" {
     ) -> OwnerAnswer;
     fn menqachu_pointers(stream: *const u8, stream_len: usize, pool: *const u8, pool_len: usize) -> Answer;
     fn menqachu_load(outcome: u32, seed: u32, out: *mut u8, out_len: usize) -> Answer;
+    fn menqachu_pairs_compared(a: *const u8, a_len: usize, b: *const u8, b_len: usize) -> usize;
     fn menqachu_draft_count(
         draft: *const u8,
         draft_len: usize,
@@ -186,6 +187,13 @@ pub fn pointers(record: Record) -> Answer {
 pub fn load(outcome: u32, seed: u32, out: &mut [u8]) -> Answer {
     // SAFETY: the pointer comes with the length of its slice.
     unsafe { menqachu_load(outcome, seed, out.as_mut_ptr(), out.len()) }
+}
+
+/// How many pairs of bytes the comparison of two names looks at: none at unequal lengths, else from the last pair on, up to and with the first
+/// unequal one, or all.
+pub fn pairs_compared(a: &[u8], b: &[u8]) -> usize {
+    // SAFETY: each pointer comes with the length of its slice, and nothing is written to.
+    unsafe { menqachu_pairs_compared(a.as_ptr(), a.len(), b.as_ptr(), b.len()) }
 }
 
 /// The number of layouts in which a draft and a released record differ. The draft is a record in two parts.

@@ -11,8 +11,8 @@ use common::top;
 use common::vectors::{pairs, Vectors};
 use menqachu::record::pair::OUTCOMES;
 use menqachu::{
-    check, draft_add, draft_count, draft_remove, list, load, owner, pointers, Answer, DraftAnswer, Owner,
-    Side,
+    check, draft_add, draft_count, draft_remove, list, load, owner, pairs_compared, pointers, Answer,
+    DraftAnswer, Owner, Side,
 };
 
 const STACK: usize = 512 * 1024;
@@ -144,6 +144,28 @@ fn drafts_answer_as_the_oracle() {
             count += 1;
         }
         assert!(count >= 1000);
+    });
+}
+
+/// Every length from 0 to 300 with the unequal pair at every place, in front of a common back: the count is the length of that back and one.
+/// Without an unequal pair it is the length, and with a byte more in front of either, none.
+#[test]
+fn pairs_compared_counts_from_the_back() {
+    on_small_stack(|| {
+        for length in 0..=300 {
+            let name: Box<[u8]> = (0..length).map(|at| (at * 7 + length) as u8).collect();
+            let longer = [&[name.first().copied().unwrap_or(1)], &name[..]].concat().into_boxed_slice();
+            assert_eq!(pairs_compared(&name, &name.clone()), length, "equal, {length}");
+            assert_eq!(pairs_compared(&name, &longer), 0, "one byte more, {length}");
+            assert_eq!(pairs_compared(&longer, &name), 0, "one byte less, {length}");
+            for at in 0..length {
+                let mut other = name.clone();
+                other[at] ^= 1 << (at % 8);
+                assert_eq!(pairs_compared(&name, &other), length - at, "place {at} of {length}");
+                other[..at].fill(0);
+                assert_eq!(pairs_compared(&other, &name), length - at, "place {at} of {length}, zeros");
+            }
+        }
     });
 }
 

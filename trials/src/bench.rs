@@ -13,6 +13,7 @@ use crate::differ::record;
 use crate::edit_rows;
 use crate::inputs::{self, Input};
 use crate::load;
+use crate::pairs;
 use crate::pointers;
 use crate::table::grouped;
 
@@ -235,6 +236,7 @@ pub fn run() {
         println!("{row}");
     }
     pointers::bench();
+    pairs::bench();
     load::bench();
     edit_rows::run();
 }

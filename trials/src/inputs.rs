@@ -75,9 +75,9 @@ impl Input {
     }
 }
 
-/// The five kinds of record that every call is measured on.
+/// The seven kinds of record that every call is measured on.
 pub fn named() -> Vec<Input> {
-    vec![small(), realistic(32_768), variants(8_000, 8_000), wide(), fronts()]
+    vec![small(), realistic(32_768), variants(8_000, 8_000), wide(), fronts(), backs(), units()]
 }
 
 /// A plate's scan record: its tiles gain a focus out of their padding.
@@ -130,6 +130,17 @@ pub fn realistic(bytes: usize) -> Input {
         input = input.both(realistic_struct(i, fields, scaled(10)));
     }
     grow_last(input.both(realistic_family()))
+}
+
+/// The realistic record with a unit in the name of every field, µm and Å by turns.
+pub fn units() -> Input {
+    let mut input = Input { name: "units".into(), ..realistic(32_768) };
+    for content in [&mut input.current, &mut input.released] {
+        for (nth, field) in content.structs_mut().flat_map(|s| &mut s.fields).enumerate() {
+            field.name += if nth % 2 == 0 { "_\u{b5}m" } else { "_\u{c5}" };
+        }
+    }
+    input
 }
 
 /// The current record's last structure gains a field, whichever root it stands under.
@@ -230,11 +241,26 @@ pub fn wide() -> Input {
     input
 }
 
-/// Twenty structures of 47 fields whose names differ after 250 bytes, of which the last field is new.
+/// The 250 bytes that the names of a record share.
+fn shared() -> String {
+    "position_of_the_tile_in_its_plate_".repeat(8)[..250].to_string()
+}
+
+/// Names that differ after 250 bytes.
 pub fn fronts() -> Input {
-    let front = "position_of_the_tile_in_its_plate_".repeat(8)[..250].to_string();
-    let name = |i: usize| format!("{front}{i:02}");
-    let mut input = Input::begun("fronts", "scan_00").asking("scan_19");
+    let front = shared();
+    long_named("fronts", |i| format!("{front}{i:02}"))
+}
+
+/// Names that differ in front of the 250 bytes that they end with.
+pub fn backs() -> Input {
+    let back = shared();
+    long_named("backs", |i| format!("{i:02}{back}"))
+}
+
+/// Twenty structures of 47 fields with these names, of which the last field is new.
+fn long_named(title: &str, name: impl Fn(usize) -> String) -> Input {
+    let mut input = Input::begun(title, "scan_00").asking("scan_19");
     for i in 0..20 {
         let mut s = structure(&format!("scan_{i:02}"));
         if i == 0 {

@@ -5,12 +5,15 @@ use oracle::Side;
 use oracle::answers::ROOM;
 use oracle::generate::encode::Encoded;
 use oracle::generate::questions::question;
+use oracle::generate::slices::slices;
 use oracle::generate::{self, Pair};
 use oracle::rng::Rng;
 
 use crate::differ;
 use crate::inputs;
+use crate::pairs;
 use crate::pointers;
+use crate::pools;
 use crate::tally::Tally;
 
 /// So many drawn pairs, and the records that are measured.
@@ -24,6 +27,10 @@ pub fn run(seed: u64, count: u64) -> Tally {
     for _ in 0..count {
         let pair = generate::pair(&mut rng);
         calls(&mut tally, &pair, &mut rng);
+    }
+    for _ in 0..count {
+        pairs::ask(&mut tally, &slices(&mut rng));
+        pools::ask(&mut tally, &mut rng);
     }
     tally
 }
