@@ -48,6 +48,7 @@ step "owners, seed 103, $(of 100000) records" "$trials" owners 103 "$(of 100000)
 step "pointers, seed 108, $(of 100000) records" "$trials" pointers 108 "$(of 100000)"
 step "chains, seed 104, $(of 8000) chains" "$trials" chains 104 "$(of 8000)"
 step "pairs, seed 203, $(of 100000) pairs of byte strings" "$trials" pairs 203 "$(of 100000)"
+step "pools, seed 206, $(of 100000) pools" "$trials" pools 206 "$(of 100000)"
 step "load, seed 109, $(of 1000000) pairs" "$trials" load 109 "$(of 1000000)"
 step "drafts, seed 110, $(of 100000) series" "$trials" drafts 110 "$(of 100000)"
 step "memcheck, seed 105, $(of 3000) pairs" valgrind -q --error-exitcode=1 "$trials" memcheck 105 "$(of 3000)"

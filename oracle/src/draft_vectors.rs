@@ -1,5 +1,6 @@
 //! The file of `vectors-draft`: calls of a draft with their answers. Fixed cases
-//! come first, then drawn ones until each number has its share, then the rest.
+//! come first, then drawn ones until each number has its share, then the rest. All
+//! texts are ASCII: `utf8_vectors` has the others.
 
 use crate::edits::{Edit, Edited, count, edit, held, parts_of};
 use crate::generate::edits::{Fault, Series, faulty_series, full_edit, full_series, series};
@@ -22,7 +23,7 @@ const SMALL: usize = 900;
 
 /// `cases` calls and more.
 pub fn drafts(seed: u64, cases: usize) -> Vec<u8> {
-    let mut rng = Rng::new(seed);
+    let mut rng = Rng::ascii(seed);
     let mut packer = Packer::default();
     for fixed in edits() {
         pack(
@@ -81,7 +82,7 @@ pub fn drafts(seed: u64, cases: usize) -> Vec<u8> {
 }
 
 /// A drawn draft and copy that are small, with little room behind the draft.
-fn small(draw: impl Fn(&mut Rng) -> Series, rng: &mut Rng) -> Series {
+pub(crate) fn small(draw: impl Fn(&mut Rng) -> Series, rng: &mut Rng) -> Series {
     loop {
         let mut draft = draw(rng);
         let front = parts_of(&held(&draft.buffer)).len();
@@ -100,7 +101,7 @@ fn wanting(packer: &Packer) -> bool {
 }
 
 /// A few edits in a row.
-fn several(packer: &mut Packer, mut draft: Series, rng: &mut Rng) {
+pub(crate) fn several(packer: &mut Packer, mut draft: Series, rng: &mut Rng) {
     let mut changed = count(&draft.buffer, &draft.copy).changed;
     for _ in 0..rng.between(1, 4) {
         let next = draft.next_edit(rng);
@@ -113,13 +114,13 @@ fn several(packer: &mut Packer, mut draft: Series, rng: &mut Rng) {
 }
 
 /// One call: an edit or the count.
-fn one(packer: &mut Packer, mut draft: Series, rng: &mut Rng) {
+pub(crate) fn one(packer: &mut Packer, mut draft: Series, rng: &mut Rng) {
     let next = draft.next_edit(rng);
     let call = rng.chance(80).then_some(&next);
     pack(packer, rng.below(9), &draft.buffer, call, &draft.copy);
 }
 
-fn pack(
+pub(crate) fn pack(
     packer: &mut Packer,
     given: usize,
     buffer: &[u8],

@@ -268,9 +268,7 @@ pub fn judge(addition: &Encoded) -> Result<(), Refusal> {
     if stream.len() > STREAM_LIMIT || pool.len() > POOL_LIMIT {
         return refuse(reader::LONG, 0);
     }
-    if let Some(place) = pool.iter().position(|b| !(0x20..=0x7E).contains(b)) {
-        return refuse(reader::LETTER, place);
-    }
+    let pool = reader::judged_pool(pool)?;
     let mut before: Vec<u8> = Vec::new();
     let mut at = 0;
     while before.last() != Some(&commands::END) {
@@ -298,7 +296,7 @@ pub fn judge(addition: &Encoded) -> Result<(), Refusal> {
     }
 }
 
-fn fault(byte: u8, forms: &[Form], bytes: &[u8], pool: &[u8]) -> Option<u32> {
+fn fault(byte: u8, forms: &[Form], bytes: &[u8], pool: &str) -> Option<u32> {
     Operands::new(bytes, pool).fault(byte, forms, Side::Current)
 }
 

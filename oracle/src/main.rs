@@ -5,7 +5,10 @@ use std::io::{self, Read, Write};
 use std::process::ExitCode;
 
 use oracle::parts::Parts;
-use oracle::{Answer, Side, answers, draft_vectors, load, pairs, samples, stats, vectors};
+use oracle::{
+    Answer, Side, answers, draft_vectors, load, pairs, replay, samples, stats, utf8_vectors,
+    vectors,
+};
 
 const USAGE: &str = "\
 oracle stats --seed S --pairs N
@@ -18,6 +21,8 @@ oracle vectors-pairs
 oracle load --from A --to B
 oracle load-pair --outcome N --seed S OUT
 oracle vectors-draft --seed S --count N OUT
+oracle utf8-record|utf8-owner|utf8-list|utf8-check|utf8-pointers|utf8-draft --seed S --count N OUT
+oracle replay record|owner|list|check|pointers|draft FILE [OUT]
 oracle samples --seed S --per-number K
 oracle samples-list --seed S --per-number K
 oracle samples-owner --seed S --per-number K
@@ -63,6 +68,13 @@ fn run(args: &Args) -> Option<String> {
             )?)
         }
         "vectors-draft" => args.write(&draft_vectors::drafts(args.seed()?, args.count()?)),
+        "utf8-record" => args.write(&utf8_vectors::records(args.seed()?, args.count()?)),
+        "utf8-owner" => args.write(&utf8_vectors::owners(args.seed()?, args.count()?)),
+        "utf8-list" => args.write(&utf8_vectors::lists(args.seed()?, args.count()?)),
+        "utf8-check" => args.write(&utf8_vectors::checks(args.seed()?, args.count()?)),
+        "utf8-pointers" => args.write(&utf8_vectors::pointers(args.seed()?, args.count()?)),
+        "utf8-draft" => args.write(&utf8_vectors::drafts(args.seed()?, args.count()?)),
+        "replay" => replayed(args),
         "samples" => lines(samples::pairs(args.seed()?, args.per_number()?)),
         "samples-list" => lines(samples::lists(args.seed()?, args.per_number()?)),
         "samples-owner" => lines(samples::owners(args.seed()?, args.per_number()?)),
@@ -79,6 +91,18 @@ fn run(args: &Args) -> Option<String> {
 fn load_summary(from: usize, to: usize) -> String {
     let summary = load::summary(from as u32..to as u32);
     summary.unwrap_or_else(|amiss| panic!("{amiss}"))
+}
+
+/// What a file of cases comes to when it is asked again; with a second path the
+/// file is written there with the answers of now.
+fn replayed(args: &Args) -> Option<String> {
+    let path = args.word(2)?;
+    let file = std::fs::read(path).unwrap_or_else(|error| panic!("{path}: {error}"));
+    let replayed = replay::replay(args.word(1)?, &file)?;
+    if let Some(out) = args.word(3) {
+        std::fs::write(out, &replayed.file).unwrap_or_else(|error| panic!("{out}: {error}"));
+    }
+    Some(replayed.said)
 }
 
 fn lines(lines: Vec<String>) -> Option<String> {

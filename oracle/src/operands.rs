@@ -13,12 +13,12 @@ pub struct Stretch {
 
 /// The operand bytes of one command that are still to be read.
 pub struct Operands<'a> {
-    pool: &'a [u8],
+    pool: &'a str,
     rest: &'a [u8],
 }
 
 impl<'a> Operands<'a> {
-    pub fn new(bytes: &'a [u8], pool: &'a [u8]) -> Self {
+    pub fn new(bytes: &'a [u8], pool: &'a str) -> Self {
         Operands { pool, rest: bytes }
     }
 
@@ -46,12 +46,15 @@ impl<'a> Operands<'a> {
         }
     }
 
+    /// Whether a text reaches past the pool, or "begins or ends inside a sequence"
+    /// (request W-206 of document 02), which an empty one in there does too.
     fn outside(&self, form: Form, bytes: &[u8]) -> bool {
         if form != Form::Text && absent(bytes) {
             return false;
         }
         let Stretch { start, length } = stretch(bytes);
-        start + length > self.pool.len()
+        let whole = |at: usize| self.pool.is_char_boundary(at);
+        start + length > self.pool.len() || !whole(start) || !whole(start + length)
     }
 
     /// Whether this is a constant whose is-text is 1 and whose text is absent.
@@ -72,7 +75,7 @@ impl<'a> Operands<'a> {
 
     pub fn text(&mut self) -> String {
         let Stretch { start, length } = stretch(&self.bytes::<3>());
-        String::from_utf8(self.pool[start..start + length].to_vec()).expect("the pool is ASCII")
+        self.pool[start..start + length].to_string()
     }
 
     pub fn optional(&mut self) -> Option<String> {

@@ -1,5 +1,5 @@
-//! The reader of records, written from document 01: refusals 1 to 9 with their
-//! places.
+//! The reader of records, written from document 01 and request W-206 of document
+//! 02: refusals 1 to 9 with their places.
 
 use crate::commands;
 use crate::extent;
@@ -40,7 +40,7 @@ pub struct Record {
 /// Read a record, whole.
 pub fn read(side: Side, stream: &[u8], pool: &[u8]) -> Result<Record, Refusal> {
     judge_lengths(stream, pool)?;
-    judge_letters(pool)?;
+    let pool = judged_pool(pool)?;
     let record = Reader::new(side, stream, pool).commands()?;
     match extent::first_vast(&record) {
         Some(place) => refuse(VAST, place),
@@ -59,10 +59,17 @@ fn judge_lengths(stream: &[u8], pool: &[u8]) -> Result<(), Refusal> {
     Ok(())
 }
 
-fn judge_letters(pool: &[u8]) -> Result<(), Refusal> {
-    match pool.iter().position(|b| !(0x20..=0x7E).contains(b)) {
-        Some(place) => refuse(LETTER, place),
-        None => Ok(()),
+/// The pool as a text, which it is unless number 7 is given: "for the first
+/// ill-formed sequence or byte 00 to 1F or 7F hex, at its first byte" (request
+/// W-206 of document 02). What is ill-formed is what Rust's own decoder says.
+pub fn judged_pool(pool: &[u8]) -> Result<&str, Refusal> {
+    let decoded = std::str::from_utf8(pool);
+    let well_formed = decoded.map_or_else(|error| error.valid_up_to(), str::len);
+    let control = |b: &u8| matches!(b, 0x00..=0x1F | 0x7F);
+    match (pool[..well_formed].iter().position(control), decoded) {
+        (Some(place), _) => refuse(LETTER, place),
+        (None, Ok(text)) => Ok(text),
+        (None, Err(_)) => refuse(LETTER, well_formed),
     }
 }
 
@@ -77,14 +84,14 @@ enum Open {
 struct Reader<'a> {
     side: Side,
     stream: &'a [u8],
-    pool: &'a [u8],
+    pool: &'a str,
     previous: Option<u8>,
     open: Open,
     record: Record,
 }
 
 impl<'a> Reader<'a> {
-    fn new(side: Side, stream: &'a [u8], pool: &'a [u8]) -> Self {
+    fn new(side: Side, stream: &'a [u8], pool: &'a str) -> Self {
         Reader {
             side,
             stream,

@@ -3,6 +3,7 @@
 #[derive(Clone, Debug)]
 pub struct Rng {
     state: [u64; 4],
+    ascii: bool,
 }
 
 impl Rng {
@@ -17,6 +18,16 @@ impl Rng {
         };
         Rng {
             state: [next(), next(), next(), next()],
+            ascii: false,
+        }
+    }
+
+    /// For texts of ASCII alone: what is drawn is what was drawn before request
+    /// W-206, so that the files of cases from then are made again.
+    pub fn ascii(seed: u64) -> Self {
+        Rng {
+            ascii: true,
+            ..Rng::new(seed)
         }
     }
 
@@ -43,6 +54,12 @@ impl Rng {
         self.below(100) < percent
     }
 
+    /// Whether a text is to have other characters than ASCII's: in `percent` of a
+    /// hundred draws, unless all are to be ASCII, where nothing is drawn.
+    pub fn beyond_ascii(&mut self, percent: usize) -> bool {
+        !self.ascii && self.chance(percent)
+    }
+
     pub fn pick<'a, T>(&mut self, list: &'a [T]) -> &'a T {
         &list[self.below(list.len())]
     }
@@ -50,6 +67,15 @@ impl Rng {
     /// One of these words, as a text of its own.
     pub fn word(&mut self, words: &[&str]) -> String {
         self.pick(words).to_string()
+    }
+
+    /// One of these words, or in a fifth of the draws one of the others, which are
+    /// not all ASCII.
+    pub fn word_or(&mut self, words: &[&str], others: &[&str]) -> String {
+        match self.beyond_ascii(20) {
+            true => self.word(others),
+            false => self.word(words),
+        }
     }
 
     /// Put an element at a drawn place of the list.

@@ -1,5 +1,6 @@
 //! Files of cases with their answers, packed little-endian. Fixed cases come
-//! first, then drawn ones until each number has its share, then the rest.
+//! first, then drawn ones until each number has its share, then the rest. All
+//! texts are ASCII: `utf8_vectors` has the others.
 
 use std::collections::BTreeMap;
 
@@ -58,7 +59,7 @@ impl Packer {
 /// The file of `vectors-record`: `count` records, a sixtieth of them for each
 /// refusal and side. Of refusal 8 there are `longs`.
 pub fn records(seed: u64, count: usize, longs: usize) -> Vec<u8> {
-    let mut rng = Rng::new(seed);
+    let mut rng = Rng::ascii(seed);
     let mut packer = Packer::default();
     for fixed in records::records() {
         for &side in fixed.sides {
@@ -90,12 +91,12 @@ fn short_records() -> Vec<Encoded> {
 }
 
 /// Each refusal of a record on each side.
-fn refusals() -> Vec<(u32, Side)> {
+pub(crate) fn refusals() -> Vec<(u32, Side)> {
     let both = |number| Side::BOTH.map(|side| (number, side));
     (1..=9).flat_map(both).collect()
 }
 
-fn pack_record(packer: &mut Packer, record: &Encoded, side: Side) {
+pub(crate) fn pack_record(packer: &mut Packer, record: &Encoded, side: Side) {
     let (number, place) = match read(side, &record.stream, &record.pool) {
         Ok(_) => (0, 0),
         Err(refusal) => (refusal.number, refusal.place),
@@ -109,7 +110,7 @@ fn pack_record(packer: &mut Packer, record: &Encoded, side: Side) {
 
 /// The file of `vectors-owner`: `count` questions.
 pub fn owners(seed: u64, count: usize) -> Vec<u8> {
-    let mut rng = Rng::new(seed);
+    let mut rng = Rng::ascii(seed);
     let mut packer = Packer::default();
     for fixed in owners::questions() {
         for question in fixed.questions() {
@@ -126,7 +127,7 @@ pub fn owners(seed: u64, count: usize) -> Vec<u8> {
     packer.bytes
 }
 
-fn pack_owner(packer: &mut Packer, question: &Question) {
+pub(crate) fn pack_owner(packer: &mut Packer, question: &Question) {
     let Question { record, name } = question;
     let (answer, a, b) = owner(&record.stream, &record.pool, name).numbers();
     packer.count(answer.into(), 0);
@@ -140,7 +141,7 @@ fn pack_owner(packer: &mut Packer, question: &Question) {
 /// The file of `vectors-list`: `count` records, a hundredth of them for each
 /// refusal and side.
 pub fn lists(seed: u64, count: usize) -> Vec<u8> {
-    let mut rng = Rng::new(seed);
+    let mut rng = Rng::ascii(seed);
     let mut packer = Packer::default();
     for fixed in lists::lists() {
         let sides = match fixed.label.starts_with("a11") {
@@ -177,7 +178,7 @@ pub fn lists(seed: u64, count: usize) -> Vec<u8> {
 
 /// Mostly the room that the programs lend, else what the text needs or a byte
 /// less.
-fn room_for(answer: &Answer, rng: &mut Rng) -> usize {
+pub(crate) fn room_for(answer: &Answer, rng: &mut Rng) -> usize {
     let needed = answer.length as usize;
     match rng.below(10) {
         0 => needed,
@@ -186,7 +187,7 @@ fn room_for(answer: &Answer, rng: &mut Rng) -> usize {
     }
 }
 
-fn pack_list(packer: &mut Packer, record: &Encoded, side: Side, room: usize) {
+pub(crate) fn pack_list(packer: &mut Packer, record: &Encoded, side: Side, room: usize) {
     let answer = list(&record.stream, &record.pool, side, room);
     packer.count(answer.number, side.number());
     packer.record(record);
@@ -216,7 +217,7 @@ const REST: [Aim; 5] = [
 /// The file of `vectors-check`: `count` pairs, a seventy-fifth of them but no
 /// more than 40 for each verdict, and for each refusal and side.
 pub fn checks(seed: u64, count: usize) -> Vec<u8> {
-    let mut rng = Rng::new(seed);
+    let mut rng = Rng::ascii(seed);
     let mut packer = Packer::default();
     for fixed in findings::pairs() {
         pack_check(&mut packer, &fixed.encoded(), ROOM);
@@ -249,7 +250,7 @@ pub fn checks(seed: u64, count: usize) -> Vec<u8> {
     packer.bytes
 }
 
-fn pack_check(packer: &mut Packer, pair: &Pair, room: usize) {
+pub(crate) fn pack_check(packer: &mut Packer, pair: &Pair, room: usize) {
     let answer = pair.check(room);
     packer.count(answer.number, answer.side);
     packer.record(&pair.current);
@@ -260,7 +261,7 @@ fn pack_check(packer: &mut Packer, pair: &Pair, room: usize) {
 /// The file of `vectors-pointers`: `count` records, a sixteenth of them for 0,
 /// for 59, for 60 and for each refusal. Of refusal 8 there are two.
 pub fn pointers(seed: u64, count: usize) -> Vec<u8> {
-    let mut rng = Rng::new(seed);
+    let mut rng = Rng::ascii(seed);
     let mut packer = Packer::default();
     for fixed in findings::pointers::records() {
         pack_pointers(&mut packer, &fixed.record);
@@ -289,7 +290,7 @@ pub fn pointers(seed: u64, count: usize) -> Vec<u8> {
 }
 
 /// The record, the number and the place: the side and the length are 0.
-fn pack_pointers(packer: &mut Packer, record: &Encoded) {
+pub(crate) fn pack_pointers(packer: &mut Packer, record: &Encoded) {
     let answer = pointers::pointers(&record.stream, &record.pool);
     packer.count(answer.number, answer.side);
     packer.record(record);

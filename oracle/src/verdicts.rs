@@ -138,7 +138,7 @@ fn fits(template: &str, text: &str) -> bool {
 /// Whether some front of the text is a free text and what follows it fits.
 fn fits_after_text(template: &str, text: &str) -> bool {
     match template.contains('{') {
-        true => (0..=text.len()).any(|at| fits(template, &text[at..])),
+        true => (0..=text.len()).any(|at| text.is_char_boundary(at) && fits(template, &text[at..])),
         false => text.ends_with(template),
     }
 }

@@ -82,7 +82,7 @@ fn places_without_a_command() {
     );
     assert_eq!(
         line(b"\0\0\0\0\x02\0\0\0a\x80"),
-        "7 letter: current record, place 1 of the pool, byte 80: a pool byte is outside 20 to 7E hex\n"
+        "7 letter: current record, place 1 of the pool, byte 80: no character of UTF-8 begins there\n"
     );
     assert_eq!(
         line(b"\0\0\0\0\x01\x40\0\0"),

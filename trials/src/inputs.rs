@@ -75,9 +75,9 @@ impl Input {
     }
 }
 
-/// The six kinds of record that every call is measured on.
+/// The seven kinds of record that every call is measured on.
 pub fn named() -> Vec<Input> {
-    vec![small(), realistic(32_768), variants(8_000, 8_000), wide(), fronts(), backs()]
+    vec![small(), realistic(32_768), variants(8_000, 8_000), wide(), fronts(), backs(), units()]
 }
 
 /// A plate's scan record: its tiles gain a focus out of their padding.
@@ -130,6 +130,17 @@ pub fn realistic(bytes: usize) -> Input {
         input = input.both(realistic_struct(i, fields, scaled(10)));
     }
     grow_last(input.both(realistic_family()))
+}
+
+/// The realistic record with a unit in the name of every field, µm and Å by turns.
+pub fn units() -> Input {
+    let mut input = Input { name: "units".into(), ..realistic(32_768) };
+    for content in [&mut input.current, &mut input.released] {
+        for (nth, field) in content.structs_mut().flat_map(|s| &mut s.fields).enumerate() {
+            field.name += if nth % 2 == 0 { "_\u{b5}m" } else { "_\u{c5}" };
+        }
+    }
+    input
 }
 
 /// The current record's last structure gains a field, whichever root it stands under.

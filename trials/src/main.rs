@@ -7,6 +7,7 @@
 //!     trials chains SEED COUNT           chains of offers, and what the last keeps of the first
 //!     trials sections SEED COUNT         pairs in another order of their sections, accepted as before
 //!     trials pairs SEED COUNT            pairs of byte strings, the pairs of their bytes compared from the back
+//!     trials pools SEED COUNT            pools of UTF-8 and not, with texts of them, beside Rust's own decoder
 //!     trials load SEED COUNT             pairs of the load call, checked, and a share held to the model
 //!     trials drafts SEED COUNT           series of edits of a draft, and the count found afresh after each
 //!     trials memcheck SEED COUNT         the calls on blocks of exact lengths, to be run under valgrind
@@ -34,6 +35,7 @@ mod mutate;
 mod other;
 mod pairs;
 mod pointers;
+mod pools;
 mod premises;
 mod sections;
 mod stack;
@@ -44,7 +46,7 @@ use std::path::Path;
 use std::process::ExitCode;
 
 const USAGE: &str =
-    "usage: trials checks SEED COUNT [LEAST] | trials lists|owners|pointers|chains|sections|pairs|load|drafts|memcheck SEED COUNT
+    "usage: trials checks SEED COUNT [LEAST] | trials lists|owners|pointers|chains|sections|pairs|pools|load|drafts|memcheck SEED COUNT
        trials fuzz SECONDS SEED [FOLDER] | trials stack | trials bench [--against FOLDER]
        trials repeat check|list|owner INPUT TURNS [--against FOLDER]
        trials repeat pointers|load|draft_count|draft_remove|draft_add INPUT TURNS";
@@ -96,12 +98,13 @@ fn run(words: &[&str]) -> Option<bool> {
         }
         ("stack", 1) => Some(stack::run()),
         ("stack-of", 4) => stack::call(words[1], number(2)? as usize, number(3)? as usize),
-        (call @ ("lists" | "owners" | "pointers" | "pairs" | "drafts" | "memcheck"), 3) => {
+        (call @ ("lists" | "owners" | "pointers" | "pairs" | "pools" | "drafts" | "memcheck"), 3) => {
             let run = match call {
                 "lists" => differ::lists,
                 "owners" => differ::owners,
                 "pointers" => pointers::run,
                 "pairs" => pairs::run,
+                "pools" => pools::run,
                 "drafts" => drafts::run,
                 _ => memcheck::run,
             };

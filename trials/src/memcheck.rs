@@ -13,6 +13,7 @@ use crate::differ;
 use crate::inputs;
 use crate::pairs;
 use crate::pointers;
+use crate::pools;
 use crate::tally::Tally;
 
 /// So many drawn pairs, and the records that are measured.
@@ -29,6 +30,7 @@ pub fn run(seed: u64, count: u64) -> Tally {
     }
     for _ in 0..count {
         pairs::ask(&mut tally, &slices(&mut rng));
+        pools::ask(&mut tally, &mut rng);
     }
     tally
 }

@@ -114,7 +114,7 @@ fn repeat(content: &mut Content, rng: &mut Rng) {
     let Some(nth) = content.items.len().checked_sub(1).map(|last| rng.below(last + 1)) else {
         return;
     };
-    let numbered = |name: &str, i: usize| format!("{}{i}", &name[..name.len().min(200)]);
+    let numbered = |name: &str, i: usize| format!("{}{i}", &name[..name.floor_char_boundary(200)]);
     match &mut content.items[nth] {
         Item::Struct(s) => {
             if let Some(field) = s.fields.first().cloned() {

@@ -14,7 +14,8 @@ use Rattle.record.specs.Operands.{textAt, optText, optTextAt, flagAt, optNumber
 use Rattle.record.specs.Commands.{operands, wide, widths, widthWith, widthOf, commandOf, stepAt, commandsFrom, commandsAt}
 use Rattle.record.specs.Lists.{listed, heads, constants, aliases, values, enums, members, bitfields, keys, fields, structs, variants, families, unstored, versions}
 use Rattle.record.specs.Judge.{ifAbsent, flagFault, operandFault, faultsFrom, follows, mayStand, parentAfter, ready, judgedWith, judgedAt}
-use Rattle.record.specs.Letters.{isLetter, oddLetter}
+use Rattle.texts.specs.Utf8.{inside, isTail, utf81, utf82, utf83, utf84, charOf, charLength, isControl, letterLength, oddAfter, oddPlace, noTail}
+use Rattle.record.specs.Letters.{oddLetter}
 use Rattle.record.specs.Reading.{Rec, rec, releaseOf, unreleasedOf, schemaFrom, openedAt, opened, large, vast, onto, continued, parse, parsed, streamLimit, poolLimit, vastOr, sizesOf, concluded, reading}
 use Rattle.layout.specs.Answer.{refusalOf, textOr}
 use Rattle.definition.specs.Answer.{verdictOf, answered, check}
@@ -98,7 +99,8 @@ unfoldable pub says : Str → Str → ℕ → ℕ → ℕ → String → Bool
 unfolding gives first u16At u32At u64At textOf textAt optText optTextAt flagAt optNumberAt
     operands wide widths widthWith widthOf commandOf stepAt commandsFrom commandsAt
     listed heads constants aliases values enums members bitfields keys fields structs variants families unstored versions
-    ifAbsent flagFault operandFault faultsFrom follows mayStand parentAfter ready judgedWith judgedAt isLetter oddLetter
+    ifAbsent flagFault operandFault faultsFrom follows mayStand parentAfter ready judgedWith judgedAt
+    inside isTail utf81 utf82 utf83 utf84 charOf charLength isControl letterLength oddAfter oddPlace noTail oddLetter
     releaseOf unreleasedOf schemaFrom openedAt opened large vast onto continued parse parsed streamLimit poolLimit vastOr sizesOf concluded reading
     refusalOf textOr verdictOf answered check begun gap new entry whole written
 says is was number side place text =

@@ -90,8 +90,8 @@ and-more : (x : Str) (xs : List Str) → Whole x → AllWhole xs → AllWhole (x
 and-more x xs w c y (List·Memᴰ·head e) = subst Whole (sym e) w
 and-more x xs w c y (List·Memᴰ·tail m) = c y m
 
-module _ (side : Side) (n : ℕ) (s : Str) where
-  done-end : (c : Cursor) → Passed side s n c Done → drop (c .at) s ≡ 15 ∷ []
+module _ (side : Side) (pool : Str) (s : Str) where
+  done-end : (c : Cursor) → Passed side s pool c Done → drop (c .at) s ≡ 15 ∷ []
   unfolding ready widths
   done-end c p = go (eqb (getD s (c .at) 0) 15) refl (p .is-ready)
     where
@@ -123,23 +123,23 @@ module _ (side : Side) (n : ℕ) (s : Str) where
       go false h = let z : _≡_ {A = ℕ} 0 1 = cc in omega arith
 
   -- what is parsed is whole commands and the end
-  parse-whole : (k : ℕ) (c : Cursor) (ps : List ℕ) → parse k side s n c ≡ ok ps → (xs : List Str) × CommandsFrom s (c .at) xs × AllWhole xs
+  parse-whole : (k : ℕ) (c : Cursor) (ps : List ℕ) → parse k side s pool c ≡ ok ps → (xs : List Str) × CommandsFrom s (c .at) xs × AllWhole xs
   unfolding parse streamOf
   parse-whole zero c ps e = absurd (let z : _≡_ {A = ℕ} 0 1 = cc in omega arith)
-  parse-whole (suc k) c ps e = go (parse-whole k) (judgedAt side s n c) refl e
+  parse-whole (suc k) c ps e = go (parse-whole k) (judgedAt side s pool c) refl e
     where
-      on : ((d : Cursor) (qs : List ℕ) → parse k side s n d ≡ ok qs → (xs : List Str) × CommandsFrom s (d .at) xs × AllWhole xs)
-          → (d : Command) (i : Cursor) → Passed side s n c (Next d i) → (qs : List ℕ) → parse k side s n i ≡ ok qs
+      on : ((d : Cursor) (qs : List ℕ) → parse k side s pool d ≡ ok qs → (xs : List Str) × CommandsFrom s (d .at) xs × AllWhole xs)
+          → (d : Command) (i : Cursor) → Passed side s pool c (Next d i) → (qs : List ℕ) → parse k side s pool i ≡ ok qs
           → (xs : List Str) × CommandsFrom s (c .at) xs × AllWhole xs
       on ih d i p qs h =
           let b = getD s (c .at) 0 in
           let w = 1 + widths (p .row) in
           let g = not-end c b w d i (p .is-ready) in
-          let m : moved c b w ≡ i = taken-next side n s c b w d i g (p .is-ready) in
+          let m : moved c b w ≡ i = taken-next side pool s c b w d i g (p .is-ready) in
           let f = first-command s (c .at) w (omega arith) (p .whole) (row-width b (p .row) (p .has-row)) in
           let x = take w (drop (c .at) s) in
           let l : length x ≡ w = f .wide ∙ ap widthOf (f .is-number) ∙ row-width b (p .row) (p .has-row) in
-          let r = ih (moved c b w) qs (ap (parse k side s n) m ∙ h) in (
+          let r = ih (moved c b w) qs (ap (parse k side s pool) m ∙ h) in (
             x ∷ r .0,
             f .rest ∙ ap (λ (t : Str). x ++ t) (ap (λ (j : ℕ). drop (c .at + j) s) l ∙ r .1),
             and-more x (r .0) (record {
@@ -149,12 +149,12 @@ module _ (side : Side) (n : ℕ) (s : Str) where
             }) (r .2),
           )
 
-      go : ((d : Cursor) (qs : List ℕ) → parse k side s n d ≡ ok qs → (xs : List Str) × CommandsFrom s (d .at) xs × AllWhole xs) → (j : Judged)
-          → judgedAt side s n c ≡ j → continued (c .at) (parse k side s n) j ≡ ok ps → (xs : List Str) × CommandsFrom s (c .at) xs × AllWhole xs
+      go : ((d : Cursor) (qs : List ℕ) → parse k side s pool d ≡ ok qs → (xs : List Str) × CommandsFrom s (d .at) xs × AllWhole xs) → (j : Judged)
+          → judgedAt side s pool c ≡ j → continued (c .at) (parse k side s pool) j ≡ ok ps → (xs : List Str) × CommandsFrom s (c .at) xs × AllWhole xs
       go ih (Next d i) f h =
-          let t = onto-ok (c .at) (parse k side s n i) ps (unfold continued in h) in
-          on ih d i (passed side s n c (Next d i) tt f) (t .more) (t .parsed-so)
-      go ih Done f h = ([], done-end c (passed side s n c Done tt f), λ x m. absurd (List·Memᴰ·not-nil m))
+          let t = onto-ok (c .at) (parse k side s pool i) ps (unfold continued in h) in
+          on ih d i (passed side s pool c (Next d i) tt f) (t .more) (t .parsed-so)
+      go ih Done f h = ([], done-end c (passed side s pool c Done tt f), λ x m. absurd (List·Memᴰ·not-nil m))
       go ih (Refused r q) f h = unfold continued in absurd (let z : _≡_ {A = ℕ} 0 1 = cc in omega arith)
 
 -- sections ----------------------------------------------------------------------------------------------------------------
@@ -186,16 +186,16 @@ begins-or-inside l p x z w m =
     go false q false g k = inr (is-one insiders x w k)
 
 -- each command behind the head begins a section or is inside one
-each-command : (side : Side) (n l : ℕ) (p : Parent) (xs : List Str) → eqb l 0 ≡ false → AllWhole xs → valid side n l p xs ≡ true
+each-command : (side : Side) (pool : Str) (l : ℕ) (p : Parent) (xs : List Str) → eqb l 0 ≡ false → AllWhole xs → valid side pool l p xs ≡ true
     → (x : Str) → List·Memᴰ x xs → (isCommand openers x ≡ true) ⊎ (isCommand insiders x ≡ true)
 unfolding valid
-each-command side n l p [] z c h x m = absurd (List·Memᴰ·not-nil m)
-each-command side n l p (y ∷ ys) z c h x (List·Memᴰ·head e) =
+each-command side pool l p [] z c h x m = absurd (List·Memᴰ·not-nil m)
+each-command side pool l p (y ∷ ys) z c h x (List·Memᴰ·head e) =
     subst (λ (u : Str). (isCommand openers u ≡ true) ⊎ (isCommand insiders u ≡ true)) (sym e)
     (begins-or-inside l p y z (c y (List·Memᴰ·head refl)) (both (mayStand (cursorAfter l p) (number y)) _ h .0))
-each-command side n l p (y ∷ ys) z c h x (List·Memᴰ·tail m) =
-    each-command side n (number y) (parentAfter p (number y)) ys (not-zero (c y (List·Memᴰ·head refl))) (λ u i. c u (List·Memᴰ·tail i))
-    (both (faultless side n y) _ (both (mayStand (cursorAfter l p) (number y)) _ h .1) .1) x m
+each-command side pool l p (y ∷ ys) z c h x (List·Memᴰ·tail m) =
+    each-command side pool (number y) (parentAfter p (number y)) ys (not-zero (c y (List·Memᴰ·head refl))) (λ u i. c u (List·Memᴰ·tail i))
+    (both (faultless side pool y) _ (both (mayStand (cursorAfter l p) (number y)) _ h .1) .1) x m
 
 -- commands inside, and then groups
 record Grouped (begin inside : List ℕ) (xs : List Str) : Type 0 where
@@ -228,24 +228,24 @@ grouped begin inside (x ∷ xs) h = go (h x (List·Memᴰ·head refl)) (grouped 
     }
 
 -- none is inside before the first section
-none-before : (side : Side) (n : ℕ) (fs zs : List Str) → areCommands insiders fs ≡ true → valid side n 1 NoParent (fs ++ zs) ≡ true → fs ≡ []
+none-before : (side : Side) (pool : Str) (fs zs : List Str) → areCommands insiders fs ≡ true → valid side pool 1 NoParent (fs ++ zs) ≡ true → fs ≡ []
 unfolding areCommands allOf valid
-none-before side n [] zs h e = refl
-none-before side n (f ∷ fs) zs h e =
+none-before side pool [] zs h e = refl
+none-before side pool (f ∷ fs) zs h e =
     absurd (false≢true (sym (no-stand (number f) (its-number insiders f (both (isCommand insiders f) _ h .0)))
     ∙ both (mayStand (cursorAfter 1 NoParent) (number f)) _ e .0))
 
-sectioned : (side : Side) (r : Rec) (n : ℕ) (xs : List Str) → r .stream ≡ streamOf xs → AllWhole xs → valid side n 0 NoParent xs ≡ true → Sectioned r
+sectioned : (side : Side) (r : Rec) (pool : Str) (xs : List Str) → r .stream ≡ streamOf xs → AllWhole xs → valid side pool 0 NoParent xs ≡ true → Sectioned r
 unfolding isSection valid parentAfter any
-sectioned side r n [] e c h = absurd (false≢true h)
-sectioned side r n (x ∷ xs) e c h =
+sectioned side r pool [] e c h = absurd (false≢true h)
+sectioned side r pool (x ∷ xs) e c h =
     let w = c x (List·Memᴰ·head refl) in
     let m = both (mayStand (cursorAfter 0 NoParent) (number x)) _ h in
     let one : number x ≡ 1 = eqb-true (number x) 1 (sym (head-first (number x) (w .known)) ∙ m .0) in
-    let valid-here : valid side n 1 NoParent xs ≡ true = subst (λ (k : ℕ). valid side n k (parentAfter NoParent k) xs ≡ true) one
-    (both (faultless side n x) _ (m .1) .1) in
-    let g = grouped openers insiders xs (each-command side n 1 NoParent xs refl (λ y i. c y (List·Memᴰ·tail i)) valid-here) in
-    let bare = none-before side n (g .front) (flatten (g .groups)) (g .are-inside) (ap (valid side n 1 NoParent) (g .together) ∙ valid-here) in
+    let valid-here : valid side pool 1 NoParent xs ≡ true = subst (λ (k : ℕ). valid side pool k (parentAfter NoParent k) xs ≡ true) one
+    (both (faultless side pool x) _ (m .1) .1) in
+    let g = grouped openers insiders xs (each-command side pool 1 NoParent xs refl (λ y i. c y (List·Memᴰ·tail i)) valid-here) in
+    let bare = none-before side pool (g .front) (flatten (g .groups)) (g .are-inside) (ap (valid side pool 1 NoParent) (g .together) ∙ valid-here) in
     record {
       head = x;
       is-head = is-one (1 ∷ []) x w (rw (eq-eqb (number x) 1 one));
@@ -258,9 +258,9 @@ pub readable-sectioned : (side : Side) (r : Rec) (t : Schema) → reading side r
 unfolding parsed
 readable-sectioned side r t h =
     let a = accepting side r t h in
-    let w = parse-whole side (length (r .pool)) (r .stream) (length (r .stream) + 1) start (commandsAt (r .stream) 0) (a .parsed-all) in
-    sectioned side r (length (r .pool)) (w .0) (w .1) (w .2)
-    (parsed-valid side (length (r .pool)) (r .stream) (length (r .stream) + 1) start (w .0) (commandsAt (r .stream) 0) (w .1) (w .2) (a .parsed-all))
+    let w = parse-whole side (r .pool) (r .stream) (length (r .stream) + 1) start (commandsAt (r .stream) 0) (a .parsed-all) in
+    sectioned side r (r .pool) (w .0) (w .1) (w .2)
+    (parsed-valid side (r .pool) (r .stream) (length (r .stream) + 1) start (w .0) (commandsAt (r .stream) 0) (w .1) (w .2) (a .parsed-all))
 
 -- a command of a section with parts begins a part or is a field
 part-or-field : (k : Part) (x : Str) → isCommand (bodyNumbers k) x ≡ true → (isCommand (partNumber k ∷ []) x ≡ true) ⊎ (isCommand (fieldNumbers k) x ≡ true)
@@ -286,29 +286,29 @@ readable-parted side r t h c k x xs m e = record {
   commands = ap (λ (l : List Str). x ∷ l) (sym (g .together));
 }
   where
-    n : ℕ
-    n = length (r .pool)
+    pool : Str
+    pool = r .pool
 
     section : isSection (x ∷ xs) ≡ true
     section = all-of isSection (c .sections) (c .are-sections) m
 
-    stream-valid : valid side n 0 NoParent (c .head ∷ flatten (c .sections)) ≡ true
+    stream-valid : valid side pool 0 NoParent (c .head ∷ flatten (c .sections)) ≡ true
     stream-valid =
         unfold parsed in
-        parsed-valid side n (r .stream) (length (r .stream) + 1) start (c .head ∷ flatten (c .sections)) (commandsAt (r .stream) 0) (c .stream)
+        parsed-valid side pool (r .stream) (length (r .stream) + 1) start (c .head ∷ flatten (c .sections)) (commandsAt (r .stream) 0) (c .stream)
         (stream-whole (c .head) (c .sections) (c .is-head) (c .are-sections)) (accepting side r t h .parsed-all)
 
-    behind : validAlone side n (flatten (c .sections)) ≡ true
+    behind : validAlone side pool (flatten (c .sections)) ≡ true
     behind =
         unfold valid parentAfter in
-        subst (λ (b : ℕ). valid side n b (parentAfter NoParent b) (flatten (c .sections)) ≡ true) (is-number 1 (c .head) (c .is-head))
-        (both (faultless side n (c .head)) _ (both (mayStand (cursorAfter 0 NoParent) (number (c .head))) _ stream-valid .1) .1)
+        subst (λ (b : ℕ). valid side pool b (parentAfter NoParent b) (flatten (c .sections)) ≡ true) (is-number 1 (c .head) (c .is-head))
+        (both (faultless side pool (c .head)) _ (both (mayStand (cursorAfter 0 NoParent) (number (c .head))) _ stream-valid .1) .1)
 
-    alone : validAlone side n (x ∷ xs) ≡ true
-    alone = all-of (validAlone side n) (c .sections) (sym (valid-sections side n (c .sections) (c .are-sections)) ∙ behind) m
+    alone : validAlone side pool (x ∷ xs) ≡ true
+    alone = all-of (validAlone side pool) (c .sections) (sym (valid-sections side pool (c .sections) (c .are-sections)) ∙ behind) m
 
     body : areCommands (bodyNumbers k) xs ≡ true
-    body = section-body side n k x xs section e alone
+    body = section-body side pool k x xs section e alone
 
     g : Grouped (partNumber k ∷ []) (fieldNumbers k) xs
     g = unfold areCommands in grouped (partNumber k ∷ []) (fieldNumbers k) xs (λ y i. part-or-field k y (all-of (isCommand (bodyNumbers k)) xs body i))

@@ -136,12 +136,12 @@ unfolding reading concluded sizesOf vastOr
 read-there side a b t ps l p h e v = go _ _ refl refl h
   where
     go : (short : Bool) (letters : Letters) → (leb (length (a .stream)) streamLimit && leb (length (a .pool)) poolLimit) ≡ short
-        → oddLetter 0 (a .pool) ≡ letters → concluded a short letters (parsed side a) ≡ read t → reading side b ≡ read (schemaFrom b ps)
+        → oddLetter (a .pool) ≡ letters → concluded a short letters (parsed side a) ≡ read t → reading side b ≡ read (schemaFrom b ps)
     go false letters f g k = absurd (let z : _≡_ {A = ℕ} 0 1 = cc in omega arith)
     go true (Odd i) f g k = absurd (let z : _≡_ {A = ℕ} 0 1 = cc in omega arith)
     go true Good f g k =
-        sym (λ i. concluded b (leb (length (b .stream)) streamLimit && leb (length (b .pool)) poolLimit) (oddLetter 0 (p i)) (parsed side b))
-        ∙ sym (λ i. concluded b (leb (l i) streamLimit && leb (length (p i)) poolLimit) (oddLetter 0 (a .pool)) (parsed side b))
+        sym (λ i. concluded b (leb (length (b .stream)) streamLimit && leb (length (b .pool)) poolLimit) (oddLetter (p i)) (parsed side b))
+        ∙ sym (λ i. concluded b (leb (l i) streamLimit && leb (length (p i)) poolLimit) (oddLetter (a .pool)) (parsed side b))
         ∙ ap₂ (λ (x : Bool) (y : Letters). concluded b x y (parsed side b)) f g ∙ ap (concluded b true Good) e ∙ ap (vastOr (schemaFrom b ps)) v
 
 -- a record of these commands and its schema
@@ -187,16 +187,16 @@ module _ (side : Side) (p : Str) (w : List Scalar) (head : Str) (is-head : isCom
       there : schemaFrom (rec (streamOf ys) p w) (commandPlaces 0 ys) ≡ theSchema p w ys
       there = schema-run (streamOf ys) p w 0 ys refl ys-whole
 
-      valid-here : valid side (length p) 0 NoParent xs ≡ true
-      valid-here = unfold parsed in parsed-valid side (length p) (streamOf xs) (length (streamOf xs) + 1) start xs _ refl xs-whole (r .parsed-all)
+      valid-here : valid side p 0 NoParent xs ≡ true
+      valid-here = unfold parsed in parsed-valid side p (streamOf xs) (length (streamOf xs) + 1) start xs _ refl xs-whole (r .parsed-all)
 
-      valid-there : valid side (length p) 0 NoParent ys ≡ true
-      valid-there = unfold xs ys in reordered-valid side (length p) head secs others is-head are-secs are-others s valid-here
+      valid-there : valid side p 0 NoParent ys ≡ true
+      valid-there = unfold xs ys in reordered-valid side p head secs others is-head are-secs are-others s valid-here
 
       parsed-there : parsed side (rec (streamOf ys) p w) ≡ ok (commandPlaces 0 ys)
       parsed-there =
           let l = long-enough ys ys-whole in
-          unfold parsed in valid-parsed side (length p) (streamOf ys) (length (streamOf ys) + 1) start ys refl ys-whole (omega arith) valid-there
+          unfold parsed in valid-parsed side p (streamOf ys) (length (streamOf ys) + 1) start ys refl ys-whole (omega arith) valid-there
 
       small : any (large-in (theSchema p w xs)) (theOpened p xs) ≡ false
       small =

@@ -18,18 +18,18 @@ use Rattle.definition.proofs.CommandStreams.{one-of, only, its-number, 
 use Rattle.definition.proofs.Validity.{cursorAfter, faultless, valid}
 use Rattle.definition.proofs.SectionLists.{again, differs, each-part, bodyNumbers, ownNumbers, own-commands, part-commands, StartsWith, sections-start, parts-start}
 
-module _ (side : Side) (n : ℕ) where
+module _ (side : Side) (pool : Str) where
   -- a stretch and what stands behind it, where that is as valid as it is after a given command within a given parent
   module _ (Inv : ℕ → Parent → Type 0) (t : List Str) (l₀ : ℕ) (p₀ : Parent) (going : (l : ℕ) (p : Parent) → Inv l p → eqb l 0 ≡ false)
-      (same : (l : ℕ) (p : Parent) → Inv l p → valid side n l p t ≡ valid side n l₀ p₀ t) where
+      (same : (l : ℕ) (p : Parent) → Inv l p → valid side pool l p t ≡ valid side pool l₀ p₀ t) where
     valid-append : (s : List Str) → ((x : Str) → List·Memᴰ x s → (l : ℕ) (p : Parent) → Inv l p → Inv (number x) (parentAfter p (number x)))
-        → (l : ℕ) (p : Parent) → Inv l p → valid side n l p (s ++ t) ≡ (valid side n l p s && valid side n l₀ p₀ t)
+        → (l : ℕ) (p : Parent) → Inv l p → valid side pool l p (s ++ t) ≡ (valid side pool l p s && valid side pool l₀ p₀ t)
     unfolding valid
-    valid-append [] keep l p i = same l p i ∙ sym (ap (λ (b : Bool). not b && valid side n l₀ p₀ t) (going l p i))
+    valid-append [] keep l p i = same l p i ∙ sym (ap (λ (b : Bool). not b && valid side pool l₀ p₀ t) (going l p i))
     valid-append (x ∷ xs) keep l p i =
-        ap (λ (b : Bool). mayStand (cursorAfter l p) (number x) && (faultless side n x && b))
+        ap (λ (b : Bool). mayStand (cursorAfter l p) (number x) && (faultless side pool x && b))
         (valid-append xs (λ y m. keep y (List·Memᴰ·tail m)) (number x) (parentAfter p (number x)) (keep x (List·Memᴰ·head refl) l p i))
-        ∙ ap (λ (b : Bool). mayStand (cursorAfter l p) (number x) && b) (sym (and-assoc (faultless side n x) _ _))
+        ∙ ap (λ (b : Bool). mayStand (cursorAfter l p) (number x) && b) (sym (and-assoc (faultless side pool x) _ _))
         ∙ sym (and-assoc (mayStand (cursorAfter l p) (number x)) _ _)
 
   -- sections --------------------------------------------------------------------------------------------------------------
@@ -52,16 +52,16 @@ module _ (side : Side) (n : ℕ) where
   unfolding parentAfter openers allOf
   opener-parent b h p q = rw (differs openers 10 refl b h, differs openers 11 refl b h, differs openers 12 refl b h)
 
-  valid-anywhere : (t : List Str) → StartsWith openers t → (l : ℕ) (p : Parent) → eqb l 0 ≡ false → valid side n l p t ≡ valid side n 1 NoParent t
+  valid-anywhere : (t : List Str) → StartsWith openers t → (l : ℕ) (p : Parent) → eqb l 0 ≡ false → valid side pool l p t ≡ valid side pool 1 NoParent t
   unfolding valid
   valid-anywhere [] h l p z = ap not z
   valid-anywhere (x ∷ xs) h l p z =
-      ap₂ (λ (a : Bool) (q : Parent). a && (faultless side n x && valid side n (number x) q xs))
+      ap₂ (λ (a : Bool) (q : Parent). a && (faultless side pool x && valid side pool (number x) q xs))
       (opener-stands (number x) h l p z ∙ sym (opener-stands (number x) h 1 NoParent refl)) (opener-parent (number x) h p NoParent)
 
   -- a section by itself
   abbrev pub validAlone : List Str → Bool
-  validAlone s = valid side n 1 NoParent s
+  validAlone s = valid side pool 1 NoParent s
 
   pub valid-sections : (secs : List (List Str)) → allOf isSection secs ≡ true → validAlone (flatten secs) ≡ allOf validAlone secs
   unfolding allOf flatten valid
@@ -133,11 +133,11 @@ module _ (side : Side) (n : ℕ) where
 
     -- parts, after any command of the section
     valid-inside : (t : List Str) → StartsWith (partNumber k ∷ []) t → (l : ℕ) (p : Parent) → Inside l p
-        → valid side n l p t ≡ valid side n (sectionNumber k) (parentOf k) t
+        → valid side pool l p t ≡ valid side pool (sectionNumber k) (parentOf k) t
     unfolding valid Inside
     valid-inside [] h l p i = ap not (inside-going l p i) ∙ sym (ap not (inside-going (sectionNumber k) (parentOf k) (at-section, refl)))
     valid-inside (x ∷ xs) h l p i =
-        ap₂ (λ (a : Bool) (q : Parent). a && (faultless side n x && valid side n (number x) (parentAfter q (number x)) xs))
+        ap₂ (λ (a : Bool) (q : Parent). a && (faultless side pool x && valid side pool (number x) (parentAfter q (number x)) xs))
         (ap (λ (q : Parent). mayStand (cursorAfter l q) (number x)) (i .1) ∙ stands l (i .0) ∙ sym (stands (sectionNumber k) at-section)) (i .1)
       where
         stands : (j : ℕ) → any (eqb j) (ownNumbers k) ≡ true → mayStand (cursorAfter j (parentOf k)) (number x) ≡ true
@@ -146,7 +146,7 @@ module _ (side : Side) (n : ℕ) where
             ∙ one-of (λ (i : ℕ). mayStand (cursorAfter i (parentOf k)) (partNumber k)) (ownNumbers k) (part-stands k) j e
 
     -- only commands of the section may stand in it
-    body-valid : (l : ℕ) (xs : List Str) → any (eqb l) (ownNumbers k) ≡ true → areCommands insiders xs ≡ true → valid side n l (parentOf k) xs ≡ true
+    body-valid : (l : ℕ) (xs : List Str) → any (eqb l) (ownNumbers k) ≡ true → areCommands insiders xs ≡ true → valid side pool l (parentOf k) xs ≡ true
         → areCommands (bodyNumbers k) xs ≡ true
     unfolding areCommands allOf valid Inside
     body-valid l [] h c v = refl
@@ -160,11 +160,11 @@ module _ (side : Side) (n : ℕ) where
         let next = inside-next x b l (parentOf k) (h, refl) in
         rw (again insiders (bodyNumbers k) x (i .0) b)
         (body-valid (number x) xs (next .0) (i .1)
-        (sym (ap (λ (q : Parent). valid side n (number x) q xs) (next .1)) ∙ both (faultless side n x) _ (m .1) .1))
+        (sym (ap (λ (q : Parent). valid side pool (number x) q xs) (next .1)) ∙ both (faultless side pool x) _ (m .1) .1))
 
     -- after the section's first command
     abbrev validWithin : List Str → Bool
-    validWithin s = valid side n (sectionNumber k) (parentOf k) s
+    validWithin s = valid side pool (sectionNumber k) (parentOf k) s
 
     valid-body : (s : List Str) (ps : List (List Str)) → areCommands (bodyNumbers k) s ≡ true → allOf (isPart k) ps ≡ true
         → validWithin (s ++ flatten ps) ≡ (validWithin s && validWithin (flatten ps))
@@ -195,20 +195,20 @@ module _ (side : Side) (n : ℕ) where
   unfolding isSection valid
   section-body k x xs h e v =
       let u = both (mayStand (cursorAfter 1 NoParent) (number x)) _ v in
-      let w = both (faultless side n x) _ (u .1) in
+      let w = both (faultless side pool x) _ (u .1) in
       body-valid k (sectionNumber k) xs (at-section k) (both (isCommand openers x) _ h .1)
-      (sym (ap (λ (j : ℕ). valid side n j (parentAfter NoParent j) xs) e ∙ ap (λ (p : Parent). valid side n (sectionNumber k) p xs) (section-parent k)) ∙ w .1)
+      (sym (ap (λ (j : ℕ). valid side pool j (parentAfter NoParent j) xs) e ∙ ap (λ (p : Parent). valid side pool (sectionNumber k) p xs) (section-parent k)) ∙ w .1)
 
   -- after a command of a known number, within what it opens
   valid-after : (b : ℕ) (q : Parent) → parentAfter NoParent b ≡ q → (x : Str) (xs ys : List Str) → number x ≡ b
-      → (valid side n b q xs ≡ true → valid side n b q ys ≡ true)
-      → (l : ℕ) → valid side n l NoParent (x ∷ xs) ≡ true → valid side n l NoParent (x ∷ ys) ≡ true
+      → (valid side pool b q xs ≡ true → valid side pool b q ys ≡ true)
+      → (l : ℕ) → valid side pool l NoParent (x ∷ xs) ≡ true → valid side pool l NoParent (x ∷ ys) ≡ true
   unfolding valid
   valid-after b q o x xs ys e f l h =
       let u = both (mayStand (cursorAfter l NoParent) (number x)) _ h in
-      let v = both (faultless side n x) _ (u .1) in
-      let g : (zs : List Str) → valid side n (number x) (parentAfter NoParent (number x)) zs ≡ valid side n b q zs
-      = λ zs. ap (λ (j : ℕ). valid side n j (parentAfter NoParent j) zs) e ∙ ap (λ (p : Parent). valid side n b p zs) o in
+      let v = both (faultless side pool x) _ (u .1) in
+      let g : (zs : List Str) → valid side pool (number x) (parentAfter NoParent (number x)) zs ≡ valid side pool b q zs
+      = λ zs. ap (λ (j : ℕ). valid side pool j (parentAfter NoParent j) zs) e ∙ ap (λ (p : Parent). valid side pool b p zs) o in
       rw (u .0, v .0) (g ys ∙ f (sym (g xs) ∙ v .1))
 
   moved-valid : (s t : List Str) → PartsMoved s t → validAlone s ≡ true → validAlone t ≡ true
@@ -227,8 +227,8 @@ module _ (side : Side) (n : ℕ) where
   -- the whole stream
   pub reordered-valid : (head : Str) (secs others : List (List Str)) → isCommand (1 ∷ []) head ≡ true → allOf isSection secs ≡ true
       → allOf isSection others ≡ true
-      → Shuffled PartsMoved secs others → valid side n 0 NoParent (head ∷ flatten secs) ≡ true
-      → valid side n 0 NoParent (head ∷ flatten others) ≡ true
+      → Shuffled PartsMoved secs others → valid side pool 0 NoParent (head ∷ flatten secs) ≡ true
+      → valid side pool 0 NoParent (head ∷ flatten others) ≡ true
   unfolding parentAfter
   reordered-valid head secs others i j k s h =
       valid-after 1 NoParent refl head (flatten secs) (flatten others) (is-number 1 head i) (λ a.

@@ -26,32 +26,36 @@ use Rattle.drafts.specs.Content.{Content, contentAt, contentsOf}
 use Rattle.drafts.specs.Packing.{textsOf, covered, written, packedPool, movedTo, packedCommands}
 use Rattle.drafts.specs.Addition.{isType, isPart, mayAdd, additionAs, additionAt, parseAddition, concludedAddition, addition}
 use Rattle.drafts.specs.Edits.{afterParts, tail, added}
-use Rattle.drafts.proofs.Pools.{kept-letters, letters-append}
+use Rattle.texts.specs.Utf8.{oddPlace}
+use Rattle.texts.proofs.EncodingLaws.{well-join}
+use Rattle.texts.proofs.EdgeLaws.{well-begins}
+use Rattle.texts.proofs.LetterLaws.{fine-well, fine-clean, well-fine, clean-join}
+use Rattle.record.proofs.WholeTexts.{parse-lies, texts-lie}
 use Rattle.drafts.proofs.Links.{went, Chain}
 use Rattle.drafts.proofs.Chains.{Quiet, AllMoved, chain-all, chain-after}
-use Rattle.drafts.proofs.Results.{Result, result, kept-short, all-moved, pool-small, pool-letters, parse-all}
+use Rattle.drafts.proofs.Results.{Result, result, kept-short, AllLie, good-letters, nothing-begins, packed-letters, all-moved, pool-small, pool-letters, parse-all}
 
 -- a command that may stand in an addition is judged as in any record --------------------------------------------------------------
 
-pub record Judges (s : Str) (n : ℕ) (c : Cursor) (j : Judged) : Type 0 where
-  pub as-current : judgedAt Current s n c ≡ j
+pub record Judges (s : Str) (pool : Str) (c : Cursor) (j : Judged) : Type 0 where
+  pub as-current : judgedAt Current s pool c ≡ j
   pub shaped : mayAdd (c .last) (getD s (c .at) 0) ≡ true
 
-module _ (s : Str) (n : ℕ) (c : Cursor) (j : Judged) (l : Lets j) where
-  pub judges : additionAt s n c ≡ j → Judges s n c j
+module _ (s : Str) (pool : Str) (c : Cursor) (j : Judged) (l : Lets j) where
+  pub judges : additionAt s pool c ≡ j → Judges s pool c j
   unfolding additionAt additionAs judgedAt judgedWith
   judges e = past (ltb (c .at) (length s)) refl e
     where
-      past : (b : Bool) → ltb (c .at) (length s) ≡ b → cond b (additionAs s n c (getD s (c .at) 0) (operands (getD s (c .at) 0))) (Refused R.Cut (c .at)) ≡ j → Judges s n c j
+      past : (b : Bool) → ltb (c .at) (length s) ≡ b → cond b (additionAs s pool c (getD s (c .at) 0) (operands (getD s (c .at) 0))) (Refused R.Cut (c .at)) ≡ j → Judges s pool c j
       past false q h = absurd (subst Lets (sym h) l)
       past true q h = row (operands (getD s (c .at) 0)) refl h
         where
-          row : (o : Option Str) → operands (getD s (c .at) 0) ≡ o → additionAs s n c (getD s (c .at) 0) o ≡ j → Judges s n c j
+          row : (o : Option Str) → operands (getD s (c .at) 0) ≡ o → additionAs s pool c (getD s (c .at) 0) o ≡ j → Judges s pool c j
           row none q2 h = absurd (subst Lets (sym h) l)
           row (some os) q2 h = cut (ltb (length s - c .at) (1 + widths os)) refl (mayStand c (getD s (c .at) 0)) refl (mayAdd (c .last) (getD s (c .at) 0)) refl h
             where
               cut : (b : Bool) → ltb (length s - c .at) (1 + widths os) ≡ b → (t : Bool) → mayStand c (getD s (c .at) 0) ≡ t → (u : Bool) → mayAdd (c .last) (getD s (c .at) 0) ≡ u
-                  → cond b (Refused R.Cut (c .at)) (cond (t && u) (faulted (c .at) (ready s c (getD s (c .at) 0) (1 + widths os)) (faultsFrom Current n (drop (c .at) s) 1 os)) (Refused R.Misplaced (c .at))) ≡ j → Judges s n c j
+                  → cond b (Refused R.Cut (c .at)) (cond (t && u) (faulted (c .at) (ready s c (getD s (c .at) 0) (1 + widths os)) (faultsFrom Current pool (drop (c .at) s) 1 os)) (Refused R.Misplaced (c .at))) ≡ j → Judges s pool c j
               cut true q3 t q4 u q5 h = absurd (subst Lets (sym h) l)
               cut false q3 false q4 u q5 h = absurd (subst Lets (sym h) l)
               cut false q3 true q4 false q5 h = absurd (subst Lets (sym h) l)
@@ -99,46 +103,46 @@ may-type : (b : ℕ) → mayAdd 1 b ≡ true → isType b ≡ true
 unfolding mayAdd
 may-type b h = h
 
-done-byte : (s : Str) (n : ℕ) (c : Cursor) → judgedAt Current s n c ≡ Done → getD s (c .at) 0 ≡ 15
+done-byte : (s : Str) (pool : Str) (c : Cursor) → judgedAt Current s pool c ≡ Done → getD s (c .at) 0 ≡ 15
 unfolding ready
-done-byte s n c e = let p = passed Current s n c Done tt e in go p (eqb (getD s (c .at) 0) 15) refl (p .is-ready)
+done-byte s pool c e = let p = passed Current s pool c Done tt e in go p (eqb (getD s (c .at) 0) 15) refl (p .is-ready)
   where
-    go : (p : Passed Current s n c Done) (t : Bool) → eqb (getD s (c .at) 0) 15 ≡ t
+    go : (p : Passed Current s pool c Done) (t : Bool) → eqb (getD s (c .at) 0) 15 ≡ t
         → cond t (cond (eqb (c .at + (1 + widths (p .row))) (length s)) Done (Refused R.Misplaced (c .at + (1 + widths (p .row))))) (Next (commandOf (getD s (c .at) 0) (drop (c .at) s)) (moved c (getD s (c .at) 0) (1 + widths (p .row)))) ≡ Done
         → getD s (c .at) 0 ≡ 15
     go p true q h = eqb-true (getD s (c .at) 0) 15 q
     go p false q h = absurd (let y : _≡_ {A = ℕ} 0 1 = cc in omega arith)
 
-module _ (s : Str) (n : ℕ) where
-  pub addition-parse : (k : ℕ) (c : Cursor) (ps : List ℕ) → parseAddition k s n c ≡ ok ps → parse k Current s n c ≡ ok ps
+module _ (s : Str) (pool : Str) where
+  pub addition-parse : (k : ℕ) (c : Cursor) (ps : List ℕ) → parseAddition k s pool c ≡ ok ps → parse k Current s pool c ≡ ok ps
   unfolding parseAddition parse continued onto
   addition-parse zero c ps h = h
-  addition-parse (suc k) c ps h = go (additionAt s n c) refl h (λ d qs e. addition-parse k d qs e)
+  addition-parse (suc k) c ps h = go (additionAt s pool c) refl h (λ d qs e. addition-parse k d qs e)
     where
-      go : (j : Judged) → additionAt s n c ≡ j → continued (c .at) (parseAddition k s n) j ≡ ok ps
-          → ((d : Cursor) (qs : List ℕ) → parseAddition k s n d ≡ ok qs → parse k Current s n d ≡ ok qs) → continued (c .at) (parse k Current s n) (judgedAt Current s n c) ≡ ok ps
+      go : (j : Judged) → additionAt s pool c ≡ j → continued (c .at) (parseAddition k s pool) j ≡ ok ps
+          → ((d : Cursor) (qs : List ℕ) → parseAddition k s pool d ≡ ok qs → parse k Current s pool d ≡ ok qs) → continued (c .at) (parse k Current s pool) (judgedAt Current s pool c) ≡ ok ps
       go (Next d j) e h ih =
-          let t = onto-ok (c .at) (parseAddition k s n j) ps h in
-          rw (judges s n c (Next d j) tt e .as-current) (rw (ih j (t .more) (t .parsed-so)) (ap ok (t .whole)))
-      go Done e h ih = rw (judges s n c Done tt e .as-current) h
+          let t = onto-ok (c .at) (parseAddition k s pool j) ps h in
+          rw (judges s pool c (Next d j) tt e .as-current) (rw (ih j (t .more) (t .parsed-so)) (ap ok (t .whole)))
+      go Done e h ih = rw (judges s pool c Done tt e .as-current) h
       go (Refused r q) e h ih = absurd (let z : _≡_ {A = ℕ} 0 1 = cc in omega arith)
 
   -- after the type only its parts
-  pub only-parts : (k : ℕ) (c : Cursor) (ps : List ℕ) → parseAddition k s n c ≡ ok ps → (c .last ≡ 0 → ⊥) → (c .last ≡ 1 → ⊥) → (at : ℕ) → List·Memᴰ at ps → isPart (getD s at 0) ≡ true
+  pub only-parts : (k : ℕ) (c : Cursor) (ps : List ℕ) → parseAddition k s pool c ≡ ok ps → (c .last ≡ 0 → ⊥) → (c .last ≡ 1 → ⊥) → (at : ℕ) → List·Memᴰ at ps → isPart (getD s at 0) ≡ true
   unfolding parseAddition continued
   only-parts zero c ps h a b at m = absurd (let z : _≡_ {A = ℕ} 0 1 = cc in omega arith)
-  only-parts (suc k) c ps h a b at m = go (additionAt s n c) refl h (λ d qs e x y. only-parts k d qs e x y at)
+  only-parts (suc k) c ps h a b at m = go (additionAt s pool c) refl h (λ d qs e x y. only-parts k d qs e x y at)
     where
       at-head : (qs : List ℕ) → isPart (getD s (c .at) 0) ≡ true → (List·Memᴰ at qs → isPart (getD s at 0) ≡ true) → List·Memᴰ at (c .at ∷ qs) → isPart (getD s at 0) ≡ true
       at-head qs q r (List·Memᴰ·head e) = subst (λ (x : ℕ). isPart (getD s x 0) ≡ true) (sym e) q
       at-head qs q r (List·Memᴰ·tail l) = r l
 
-      go : (j : Judged) → additionAt s n c ≡ j → continued (c .at) (parseAddition k s n) j ≡ ok ps
-          → ((d : Cursor) (qs : List ℕ) → parseAddition k s n d ≡ ok qs → (d .last ≡ 0 → ⊥) → (d .last ≡ 1 → ⊥) → List·Memᴰ at qs → isPart (getD s at 0) ≡ true) → isPart (getD s at 0) ≡ true
+      go : (j : Judged) → additionAt s pool c ≡ j → continued (c .at) (parseAddition k s pool) j ≡ ok ps
+          → ((d : Cursor) (qs : List ℕ) → parseAddition k s pool d ≡ ok qs → (d .last ≡ 0 → ⊥) → (d .last ≡ 1 → ⊥) → List·Memᴰ at qs → isPart (getD s at 0) ≡ true) → isPart (getD s at 0) ≡ true
       go (Next d j) e h ih =
-          let t = onto-ok (c .at) (parseAddition k s n j) ps h in
-          let x = judges s n c (Next d j) tt e in
-          let w = went Current s n c d j (x .as-current) in
+          let t = onto-ok (c .at) (parseAddition k s pool j) ps h in
+          let x = judges s pool c (Next d j) tt e in
+          let w = went Current s pool c d j (x .as-current) in
           let q = may-part (c .last) (getD s (c .at) 0) (x .shaped) a b (w .going) in
           let f = part-far (getD s (c .at) 0) q in
           let l : getD s (c .at) 0 ≡ j .last = ap (λ (y : Cursor). y .last) (w .next) in
@@ -154,7 +158,7 @@ module _ (s : Str) (n : ℕ) where
     pub parts : List ℕ
     pub whole : 0 ∷ type-at ∷ parts ≡ ps
     pub head : getD s 0 0 ≡ 1
-    pub parses : parse fuel Current s n after-head ≡ ok (type-at ∷ parts)
+    pub parses : parse fuel Current s pool after-head ≡ ok (type-at ∷ parts)
     pub quiet : Quiet (after-head .last)
     pub is-type : isType (getD s type-at 0) ≡ true
     pub are-parts : (at : ℕ) → List·Memᴰ at parts → isPart (getD s at 0) ≡ true
@@ -167,16 +171,16 @@ module _ (s : Str) (n : ℕ) where
     is-type : isType (getD s type-at 0) ≡ true
     are-parts : (at : ℕ) → List·Memᴰ at parts → isPart (getD s at 0) ≡ true
 
-  second : (k : ℕ) (c : Cursor) (ps : List ℕ) → c .last ≡ 1 → parseAddition k s n c ≡ ok ps → Second k c ps
+  second : (k : ℕ) (c : Cursor) (ps : List ℕ) → c .last ≡ 1 → parseAddition k s pool c ≡ ok ps → Second k c ps
   unfolding parseAddition continued isType
   second zero c ps l h = absurd (let z : _≡_ {A = ℕ} 0 1 = cc in omega arith)
-  second (suc k) c ps l h = go (additionAt s n c) refl h
+  second (suc k) c ps l h = go (additionAt s pool c) refl h
     where
-      go : (j : Judged) → additionAt s n c ≡ j → continued (c .at) (parseAddition k s n) j ≡ ok ps → Second (suc k) c ps
+      go : (j : Judged) → additionAt s pool c ≡ j → continued (c .at) (parseAddition k s pool) j ≡ ok ps → Second (suc k) c ps
       go (Next d j) e h =
-          let t = onto-ok (c .at) (parseAddition k s n j) ps h in
-          let x = judges s n c (Next d j) tt e in
-          let w = went Current s n c d j (x .as-current) in
+          let t = onto-ok (c .at) (parseAddition k s pool j) ps h in
+          let x = judges s pool c (Next d j) tt e in
+          let w = went Current s pool c d j (x .as-current) in
           let b = may-type (getD s (c .at) 0) (ap (λ (y : ℕ). mayAdd y (getD s (c .at) 0)) (sym l) ∙ x .shaped) in
           let f = type-far (getD s (c .at) 0) b in
           let f0 = f .0 in
@@ -189,23 +193,23 @@ module _ (s : Str) (n : ℕ) where
             are-parts = only-parts k j (t .more) (t .parsed-so) (λ z. omega arith) (λ z. omega arith);
           }
       go Done e h =
-          let x = judges s n c Done tt e in
+          let x = judges s pool c Done tt e in
           let f = type-far (getD s (c .at) 0) (may-type (getD s (c .at) 0) (ap (λ (y : ℕ). mayAdd y (getD s (c .at) 0)) (sym l) ∙ x .shaped)) in
-          let q = done-byte s n c (x .as-current) in
+          let q = done-byte s pool c (x .as-current) in
           let z = f .1 in
           absurd (omega arith)
       go (Refused r q) e h = absurd (let z : _≡_ {A = ℕ} 0 1 = cc in omega arith)
 
-  pub shape : (k : ℕ) (ps : List ℕ) → parseAddition k s n start ≡ ok ps → Shaped ps
+  pub shape : (k : ℕ) (ps : List ℕ) → parseAddition k s pool start ≡ ok ps → Shaped ps
   unfolding parseAddition continued
   shape zero ps h = absurd (let z : _≡_ {A = ℕ} 0 1 = cc in omega arith)
-  shape (suc k) ps h = go (additionAt s n start) refl h
+  shape (suc k) ps h = go (additionAt s pool start) refl h
     where
-      go : (j : Judged) → additionAt s n start ≡ j → continued 0 (parseAddition k s n) j ≡ ok ps → Shaped ps
+      go : (j : Judged) → additionAt s pool start ≡ j → continued 0 (parseAddition k s pool) j ≡ ok ps → Shaped ps
       go (Next d j) e h =
-          let t = onto-ok 0 (parseAddition k s n j) ps h in
-          let x = judges s n start (Next d j) tt e in
-          let w = went Current s n start d j (x .as-current) in
+          let t = onto-ok 0 (parseAddition k s pool j) ps h in
+          let x = judges s pool start (Next d j) tt e in
+          let w = went Current s pool start d j (x .as-current) in
           let one = may-first (getD s 0 0) (x .shaped) in
           let l : j .last ≡ 1 = sym (ap (λ (y : Cursor). y .last) (w .next)) ∙ one in
           let u = second k j (t .more) l (t .parsed-so) in
@@ -222,33 +226,35 @@ module _ (s : Str) (n : ℕ) where
             are-parts = u .are-parts;
           }
       go Done e h =
-          let x = judges s n start Done tt e in
+          let x = judges s pool start Done tt e in
           let one = may-first (getD s 0 0) (x .shaped) in
-          let q = done-byte s n start (x .as-current) in
+          let q = done-byte s pool start (x .as-current) in
           absurd (omega arith)
       go (Refused r q) e h = absurd (let z : _≡_ {A = ℕ} 0 1 = cc in omega arith)
 
 -- what an accepted addition has passed
 pub record Addable (a : Rec) (ps : List ℕ) : Type 0 where
   pub pool-short : length (a .pool) ≤ 16384
-  pub letters : oddLetter 0 (a .pool) ≡ Good
+  pub letters : oddLetter (a .pool) ≡ Good
+  pub parses : parse (length (a .stream) + 1) Current (a .stream) (a .pool) start ≡ ok ps
   pub are-commands : ps ≡ commandsAt (a .stream) 0
-  pub shaped : Shaped (a .stream) (length (a .pool)) ps
+  pub shaped : Shaped (a .stream) (a .pool) ps
 
 pub addable : (a : Rec) (ps : List ℕ) → addition a ≡ ok ps → Addable a ps
 unfolding addition concludedAddition streamLimit poolLimit parsed
-addable a ps h = go (leb (length (a .stream)) 32768) (leb (length (a .pool)) 16384) refl (oddLetter 0 (a .pool)) refl h
+addable a ps h = go (leb (length (a .stream)) 32768) (leb (length (a .pool)) 16384) refl (oddLetter (a .pool)) refl h
   where
-    go : (x y : Bool) → leb (length (a .pool)) 16384 ≡ y → (l : Letters) → oddLetter 0 (a .pool) ≡ l
-        → concludedAddition (x && y) l (parseAddition (length (a .stream) + 1) (a .stream) (length (a .pool)) start) ≡ ok ps → Addable a ps
+    go : (x y : Bool) → leb (length (a .pool)) 16384 ≡ y → (l : Letters) → oddLetter (a .pool) ≡ l
+        → concludedAddition (x && y) l (parseAddition (length (a .stream) + 1) (a .stream) (a .pool) start) ≡ ok ps → Addable a ps
     go false y e l g h = absurd (let z : _≡_ {A = ℕ} 0 1 = cc in omega arith)
     go true false e l g h = absurd (let z : _≡_ {A = ℕ} 0 1 = cc in omega arith)
     go true true e (Odd i) g h = absurd (let z : _≡_ {A = ℕ} 0 1 = cc in omega arith)
     go true true e Good g h = record {
       pool-short = leb-true (length (a .pool)) 16384 e;
       letters = g;
-      are-commands = parsed-is Current a ps (addition-parse (a .stream) (length (a .pool)) (length (a .stream) + 1) start ps h);
-      shaped = shape (a .stream) (length (a .pool)) (length (a .stream) + 1) ps h;
+      parses = addition-parse (a .stream) (a .pool) (length (a .stream) + 1) start ps h;
+      are-commands = parsed-is Current a ps (addition-parse (a .stream) (a .pool) (length (a .stream) + 1) start ps h);
+      shaped = shape (a .stream) (a .pool) (length (a .stream) + 1) ps h;
     }
 
 -- the result -----------------------------------------------------------------------------------------------------------------------
@@ -268,13 +274,28 @@ module _ (r : Rec) (t : Schema) (h : reading Current r ≡ read t) (a : Rec) (xs
   unfolding packedPool
   q2-small = let x = addable a xs g .pool-short in let y = kept-short (covered (textsOf (a .stream) qs)) 0 (a .pool) in omega arith
 
-  q2-letters : (n : ℕ) → oddLetter n q2 ≡ Good
-  unfolding packedPool
-  q2-letters n = kept-letters (covered (textsOf (a .stream) qs)) 0 0 n (a .pool) (addable a xs g .letters)
+  tail-in : (l : List ℕ) (at : ℕ) → List·Memᴰ at (tail l) → List·Memᴰ at l
+  unfolding tail
+  tail-in [] at m = m
+  tail-in (x ∷ l) at m = List·Memᴰ·tail m
 
-  pub added-letters : oddLetter 0 (added r a .pool) ≡ Good
+  -- the texts of the addition lie in its pool
+  qs-lie : AllLie (a .stream) (a .pool) qs
+  qs-lie at m u n =
+      parse-lies (a .pool) (length (a .stream) + 1) Current (a .stream) start (commandsAt (a .stream) 0)
+      (addable a xs g .parses ∙ ap ok (addable a xs g .are-commands)) at (tail-in (commandsAt (a .stream) 0) at m) u n
+
+  q2-letters : oddPlace q2 ≡ length q2
+  q2-letters = packed-letters (a .stream) (a .pool) qs qs-lie (addable a xs g .letters)
+
+  p1-letters : oddPlace p1 ≡ length p1
+  p1-letters = pool-letters Current r t h (commandsAt (r .stream) 0) (texts-lie Current r t h)
+
+  pub added-letters : oddLetter (added r a .pool) ≡ Good
   unfolding added
-  added-letters = letters-append 0 p1 q2 (pool-letters Current r t h 0 (commandsAt (r .stream) 0)) q2-letters
+  added-letters =
+      good-letters (p1 ++ q2)
+      (well-fine (p1 ++ q2) (well-join p1 q2 (fine-well p1 p1-letters) (fine-well q2 q2-letters)) (clean-join p1 q2 (fine-clean p1 p1-letters) (fine-clean q2 q2-letters)))
 
   small1 : length (p1 ++ q2) < 65535
   small1 = let x = pool-small Current r t h (commandsAt (r .stream) 0) in let y = q2-small in let z = length-append p1 q2 in omega arith
@@ -282,8 +303,8 @@ module _ (r : Rec) (t : Schema) (h : reading Current r ≡ read t) (a : Rec) (xs
   small2 : length (p1 ++ (q2 ++ [])) < 65535
   small2 = subst (λ (x : Str). length (p1 ++ x) < 65535) (sym (append-nil q2)) small1
 
-  pub body : Shaped (a .stream) (length (a .pool)) (commandsAt (a .stream) 0)
-  body = subst (λ (x : List ℕ). Shaped (a .stream) (length (a .pool)) x) (addable a xs g .are-commands) (addable a xs g .shaped)
+  pub body : Shaped (a .stream) (a .pool) (commandsAt (a .stream) 0)
+  body = subst (λ (x : List ℕ). Shaped (a .stream) (a .pool) x) (addable a xs g .are-commands) (addable a xs g .shaped)
 
   pub body-tail : body .type-at ∷ body .parts ≡ qs
   unfolding tail
@@ -299,7 +320,7 @@ module _ (r : Rec) (t : Schema) (h : reading Current r ≡ read t) (a : Rec) (xs
   added-chain k z =
       let f = movedTo (length p1) (textsOf (a .stream) qs) (a .pool) in
       let m : AllMoved Current (a .stream) (a .pool) (p1 ++ (q2 ++ [])) f small2 (afterParts (a .stream) qs) =
-      subst (λ (x : List ℕ). AllMoved Current (a .stream) (a .pool) (p1 ++ (q2 ++ [])) f small2 x) (sym body-parts) (all-moved Current (a .stream) (a .pool) p1 [] qs small2) in
+      subst (λ (x : List ℕ). AllMoved Current (a .stream) (a .pool) (p1 ++ (q2 ++ [])) f small2 x) (sym body-parts) (all-moved Current (a .stream) (a .pool) p1 [] qs small2 qs-lie nothing-begins) in
       let c = chain-after Current (a .stream) (a .pool) (p1 ++ (q2 ++ [])) f small2 [] [] (λ j n. n) (body .fuel) (body .after-head) qs (body .parses ∙ ap ok body-tail) (body .quiet) m k z in
       let c2 = subst (λ (x : List ℕ). Chain Current (p1 ++ (q2 ++ [])) k (written f (a .stream) x ++ []) (map (contentAt (a .stream) (a .pool)) x ++ [])) body-parts c in
       let c3 = subst (λ (x : Str). Chain Current (p1 ++ x) k (written f (a .stream) qs ++ []) (map (contentAt (a .stream) (a .pool)) qs ++ [])) (append-nil q2) c2 in
@@ -315,4 +336,4 @@ module _ (r : Rec) (t : Schema) (h : reading Current r ≡ read t) (a : Rec) (xs
       let zs = written (movedTo (length p1) (textsOf (a .stream) qs) (a .pool)) (a .stream) qs in
       result Current (p1 ++ q2) (r .scalars) (written f (r .stream) ps ++ zs) (map (contentAt (r .stream) (r .pool)) ps ++ map (contentAt (a .stream) (a .pool)) qs)
       (chain-all Current (r .stream) (r .pool) (p1 ++ q2) f small1 zs (map (contentAt (a .stream) (a .pool)) qs) added-chain (length (r .stream) + 1) start ps (parse-all Current r t h)
-      (all-moved Current (r .stream) (r .pool) [] q2 ps small1) 0)
+      (all-moved Current (r .stream) (r .pool) [] q2 ps small1 (texts-lie Current r t h) (well-begins q2 (fine-well q2 q2-letters))) 0)

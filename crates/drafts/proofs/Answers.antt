@@ -20,7 +20,7 @@ use Rattle.drafts.specs.Content.{Content, contentAt, contentsOf}
 use Rattle.drafts.specs.Parts.{heldRec, partsOf}
 use Rattle.drafts.specs.Addition.{addition}
 use Rattle.drafts.specs.Edits.{without, removed, tail, added}
-use Rattle.drafts.proofs.Results.{Settled, too-long, by-sizes, settles, removed-result, pool-letters}
+use Rattle.drafts.proofs.Results.{Settled, too-long, by-sizes, settles, good-letters, rest-lies, removed-result, pool-letters}
 use Rattle.drafts.proofs.PartLaws.{held-is}
 use Rattle.drafts.proofs.Additions.{added-result, added-letters}
 
@@ -36,9 +36,10 @@ long-or-vast side r (by-sizes e a b) n p h =
     inr (vast-or (schemaFrom r (commandsAt (r .stream) 0)) (find (vast (schemaFrom r (commandsAt (r .stream) 0))) (opened (r .stream) (r .pool) (commandsAt (r .stream) 0))) n p (sym e ∙ h))
 
 module _ (r : Rec) (t : Schema) (h : reading Current r ≡ read t) where
-  pub removed-letters : (v : Str) → oddLetter 0 (removed v r .pool) ≡ Good
+  pub removed-letters : (v : Str) → oddLetter (removed v r .pool) ≡ Good
   unfolding removed
-  removed-letters v = pool-letters Current r t h 0 (without (r .stream) (r .pool) v (commandsAt (r .stream) 0))
+  removed-letters v =
+      good-letters (removed v r .pool) (pool-letters Current r t h (without (r .stream) (r .pool) v (commandsAt (r .stream) 0)) (rest-lies Current r t h v))
 
   pub removed-refusal : (v : Str) (n : Refusal) (p : ℕ) → reading Current (removed v r) ≡ refuse n p → (n ≡ R.Long) ⊎ (n ≡ R.Vast)
   removed-refusal v n p =

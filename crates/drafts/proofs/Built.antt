@@ -20,7 +20,7 @@ use Rattle.drafts.proofs.Links.{Link, Chain}
 -- the places of the commands, and what they say
 pub record Built (side : Side) (s p : Str) (n : ℕ) (k : Cursor) (ds : List Content) : Type 0 where
   pub places : List ℕ
-  pub parses : parse n side s (length p) k ≡ ok places
+  pub parses : parse n side s p k ≡ ok places
   pub says : map (contentAt s p) places ≡ ds
 
 module _ (side : Side) (p : Str) where
@@ -43,7 +43,7 @@ module _ (side : Side) (p : Str) where
     long : k .at + length z ≤ length S
     long = let a = length-append pre (z ++ y) in let b = length-append z y in omega arith
 
-    link-judged : judgedAt side S (length p) k ≡ Next (commandOf (getD z 0 0) (z ++ y)) (moved k (getD z 0 0) (length z))
+    link-judged : judgedAt side S p k ≡ Next (commandOf (getD z 0 0) (z ++ y)) (moved k (getD z 0 0) (length z))
     unfolding judgedAt judgedWith ready
     link-judged =
         let n = l .sized in
@@ -56,7 +56,7 @@ module _ (side : Side) (p : Str) where
     link-says = ap₂ (contentAs p) rest-is byte ∙ l .says y
 
   -- 0F behind a front
-  end-judged : (pre : Str) (k : Cursor) → length pre ≡ k .at → (k .last ≡ 0 → ⊥) → judgedAt side (pre ++ (15 ∷ [])) (length p) k ≡ Done
+  end-judged : (pre : Str) (k : Cursor) → length pre ≡ k .at → (k .last ≡ 0 → ⊥) → judgedAt side (pre ++ (15 ∷ [])) p k ≡ Done
   unfolding judgedAt judgedWith ready operands bytes widths faultsFrom mayStand
   end-judged pre k e n =
       let a = length-append pre (15 ∷ []) in

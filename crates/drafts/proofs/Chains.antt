@@ -3,7 +3,7 @@ use mathlib.Core.Path.{_≡_, refl, sym, ap, _∙_, subst}
 use mathlib.Core.List.{List, [], _∷_, _++_, map, List·Memᴰ, List·Memᴰ·head, List·Memᴰ·tail}
 use mathlib.Core.Option.{some}
 use mathlib.Core.Bool.{Bool, true, false, _||_, cond, false≢true}
-use Prim.Native.Nat.{ℕ, zero, suc, _+_, _≤_, _<_}
+use Prim.Native.Nat.{ℕ, zero, suc, _+_, _<_}
 use native.Mathlib.Omega.{arith}
 use lib.ListN.{length, getD, drop}
 use lib.Dec.{eqb}
@@ -23,7 +23,8 @@ use Rattle.record.specs.declared.judge.Judged.the-variants.{Next, Done, Refused
 use Rattle.record.proofs.Basics.{both}
 use Rattle.record.proofs.Accepted.{Rest, onto-ok}
 use Rattle.drafts.specs.Content.{Operand, Content, contentAs, contentAt, operandsWith}
-use Rattle.drafts.specs.Packing.{textsWith, textsAt, rowBytes, rowWith, writtenAt, written}
+use Rattle.record.specs.CommandTexts.{textsWith, textsAt}
+use Rattle.drafts.specs.Packing.{rowBytes, rowWith, writtenAt, written}
 use Rattle.drafts.specs.Addition.{isType, isPart}
 use Rattle.drafts.specs.Edits.{named, afterParts, without}
 use Rattle.drafts.proofs.Pools.{Moved}
@@ -120,10 +121,10 @@ content-as b l = record { number = b; operands = l }
 module _ (side : Side) (s p p2 : Str) (f : ℕ → ℕ) (small : length p2 < 65535) where
   -- every text of the commands at these places is moved
   abbrev pub AllMoved : List ℕ → Type 0
-  AllMoved ps = (at : ℕ) → List·Memᴰ at ps → (u : Text) → List·Memᴰ u (textsAt s at) → u .start + u .len ≤ length p → Moved f p p2 u
+  AllMoved ps = (at : ℕ) → List·Memᴰ at ps → (u : Text) → List·Memᴰ u (textsAt s at) → Moved f p p2 u
 
-  pub link : (at : ℕ) (k : Cursor) (row : Str) → operands (getD s at 0) ≡ some row → mayStand k (getD s at 0) ≡ true → faultsFrom side (length p) (drop at s) 1 row ≡ Fine
-      → (getD s at 0 ≡ 15 → ⊥) → ((u : Text) → List·Memᴰ u (textsAt s at) → u .start + u .len ≤ length p → Moved f p p2 u)
+  pub link : (at : ℕ) (k : Cursor) (row : Str) → operands (getD s at 0) ≡ some row → mayStand k (getD s at 0) ≡ true → faultsFrom side p (drop at s) 1 row ≡ Fine
+      → (getD s at 0 ≡ 15 → ⊥) → ((u : Text) → List·Memᴰ u (textsAt s at) → Moved f p p2 u)
       → Link side p2 k (writtenAt f s at) (contentAt s p at)
   unfolding writtenAt contentAt contentAs operandsWith rowWith textsAt textsWith
   link at k row e st fi g m = record {
@@ -143,14 +144,14 @@ module _ (side : Side) (s p p2 : Str) (f : ℕ → ℕ) (small : length p2 < 655
       sized = rw e (let n = length-row p p2 small f side (drop at s) 1 row in omega arith)
 
       same : (rest : Str) → Same p p2 small f side (drop at s) (getD s at 0 ∷ (rowBytes f (drop at s) 1 row ++ rest)) 1 row
-      same rest = row-same p p2 small f side (drop at s) (getD s at 0 ∷ []) rest 1 row refl fi (λ u q b. m u (rw e q) b) (flag-kept f (drop at s) rest (getD s at 0) row e)
+      same rest = row-same p p2 small f side (drop at s) (getD s at 0 ∷ []) rest 1 row refl fi (λ u q. m u (rw e q)) (flag-kept f (drop at s) rest (getD s at 0) row e)
 
   module _ (zs : List Str) (ds : List Content) (more : (k : Cursor) → (k .last ≡ 0 → ⊥) → Chain side p2 k zs ds) where
     abbrev Chained : Cursor → List ℕ → Type 0
     Chained k ps = Chain side p2 k (written f s ps ++ zs) (map (contentAt s p) ps ++ ds)
 
     -- one command, and what follows it
-    linked : (c k j : Cursor) (ps : List ℕ) → Went side s (length p) c j → mayStand k (getD s (c .at) 0) ≡ true → AllMoved (c .at ∷ ps)
+    linked : (c k j : Cursor) (ps : List ℕ) → Went side s p c j → mayStand k (getD s (c .at) 0) ≡ true → AllMoved (c .at ∷ ps)
         → Chained (moved k (getD s (c .at) 0) (length (writtenAt f s (c .at)))) ps → Chained k (c .at ∷ ps)
     unfolding written writtenAt
     linked c k j ps w st m r = (link (c .at) k (w .row) (w .has-row) st (w .fine) (w .going) (m (c .at) (List·Memᴰ·head refl)), r)
@@ -160,35 +161,35 @@ module _ (side : Side) (s p p2 : Str) (f : ℕ → ℕ) (small : length p2 < 655
     ended c ps e k n = let q : [] ≡ ps = cc in subst (λ (l : List ℕ). Chained k l) q (more k n)
 
     -- all commands from a cursor on, begun at another place
-    pub chain-all : (n : ℕ) (c : Cursor) (ps : List ℕ) → parse n side s (length p) c ≡ ok ps → AllMoved ps → (a : ℕ) → Chained (shift a c) ps
+    pub chain-all : (n : ℕ) (c : Cursor) (ps : List ℕ) → parse n side s p c ≡ ok ps → AllMoved ps → (a : ℕ) → Chained (shift a c) ps
     unfolding parse continued
     chain-all zero c ps h m a = absurd (let z : _≡_ {A = ℕ} 0 1 = cc in omega arith)
-    chain-all (suc n) c ps h m a = go (judgedAt side s (length p) c) refl h (λ k qs e l b. chain-all n k qs e l b)
+    chain-all (suc n) c ps h m a = go (judgedAt side s p c) refl h (λ k qs e l b. chain-all n k qs e l b)
       where
-        step : (d : Command) (k : Cursor) → judgedAt side s (length p) c ≡ Next d k → Rest (c .at) (parse n side s (length p) k) ps
-            → ((k : Cursor) (qs : List ℕ) → parse n side s (length p) k ≡ ok qs → AllMoved qs → (b : ℕ) → Chained (shift b k) qs) → Chained (shift a c) ps
+        step : (d : Command) (k : Cursor) → judgedAt side s p c ≡ Next d k → Rest (c .at) (parse n side s p k) ps
+            → ((k : Cursor) (qs : List ℕ) → parse n side s p k ≡ ok qs → AllMoved qs → (b : ℕ) → Chained (shift b k) qs) → Chained (shift a c) ps
         step d k e t ih =
-            let w = went side s (length p) c d k e in
+            let w = went side s p c d k e in
             let m2 : AllMoved (c .at ∷ t .more) = subst (λ (l : List ℕ). AllMoved l) (sym (t .whole)) m in
             let r = ih k (t .more) (t .parsed-so) (λ at q. m2 at (List·Memᴰ·tail q)) (a + length (writtenAt f s (c .at))) in
             let r2 = subst (λ (q : Cursor). Chained (shift (a + length (writtenAt f s (c .at))) q) (t .more)) (sym (w .next)) r in
             subst (λ (l : List ℕ). Chained (shift a c) l) (t .whole) (linked c (shift a c) k (t .more) w (shift-stands a c (getD s (c .at) 0) (w .stands)) m2 r2)
 
-        go : (j : Judged) → judgedAt side s (length p) c ≡ j → continued (c .at) (parse n side s (length p)) j ≡ ok ps
-            → ((k : Cursor) (qs : List ℕ) → parse n side s (length p) k ≡ ok qs → AllMoved qs → (b : ℕ) → Chained (shift b k) qs) → Chained (shift a c) ps
-        go (Next d k) e h ih = step d k e (onto-ok (c .at) (parse n side s (length p) k) ps h) ih
-        go Done e h ih = ended c ps h (shift a c) (stopped side s (length p) c e)
+        go : (j : Judged) → judgedAt side s p c ≡ j → continued (c .at) (parse n side s p) j ≡ ok ps
+            → ((k : Cursor) (qs : List ℕ) → parse n side s p k ≡ ok qs → AllMoved qs → (b : ℕ) → Chained (shift b k) qs) → Chained (shift a c) ps
+        go (Next d k) e h ih = step d k e (onto-ok (c .at) (parse n side s p k) ps h) ih
+        go Done e h ih = ended c ps h (shift a c) (stopped side s p c e)
         go (Refused r q) e h ih = absurd (let z : _≡_ {A = ℕ} 0 1 = cc in omega arith)
 
     -- the commands after a type's parts, begun anywhere but at the front
-    pub chain-after : (n : ℕ) (c : Cursor) (ps : List ℕ) → parse n side s (length p) c ≡ ok ps → Quiet (c .last) → AllMoved (afterParts s ps) → (k : Cursor) → (k .last ≡ 0 → ⊥) → Chained k (afterParts s ps)
+    pub chain-after : (n : ℕ) (c : Cursor) (ps : List ℕ) → parse n side s p c ≡ ok ps → Quiet (c .last) → AllMoved (afterParts s ps) → (k : Cursor) → (k .last ≡ 0 → ⊥) → Chained k (afterParts s ps)
     unfolding parse continued afterParts
     chain-after zero c ps h u m k z = absurd (let z : _≡_ {A = ℕ} 0 1 = cc in omega arith)
-    chain-after (suc n) c ps h u m k z = go (judgedAt side s (length p) c) refl h (λ j qs e l b. chain-after n j qs e l b k z)
+    chain-after (suc n) c ps h u m k z = go (judgedAt side s p c) refl h (λ j qs e l b. chain-after n j qs e l b k z)
       where
-        part : (d : Command) (j : Cursor) → Went side s (length p) c j → (qs : List ℕ) → parse n side s (length p) j ≡ ok qs → (t : Bool) → isPart (getD s (c .at) 0) ≡ t
+        part : (d : Command) (j : Cursor) → Went side s p c j → (qs : List ℕ) → parse n side s p j ≡ ok qs → (t : Bool) → isPart (getD s (c .at) 0) ≡ t
             → AllMoved (cond t (afterParts s qs) (c .at ∷ qs))
-            → ((j : Cursor) (qs : List ℕ) → parse n side s (length p) j ≡ ok qs → Quiet (j .last) → AllMoved (afterParts s qs) → Chained k (afterParts s qs))
+            → ((j : Cursor) (qs : List ℕ) → parse n side s p j ≡ ok qs → Quiet (j .last) → AllMoved (afterParts s qs) → Chained k (afterParts s qs))
             → Chained k (cond t (afterParts s qs) (c .at ∷ qs))
         part d j w qs e true q m ih = ih j qs e (subst (λ (x : Cursor). Quiet (x .last)) (w .next) (part-quiet (getD s (c .at) 0) q)) m
         part d j w qs e false q m ih =
@@ -198,16 +199,16 @@ module _ (side : Side) (s p p2 : Str) (f : ℕ → ℕ) (small : length p2 < 655
             let r3 = subst (λ (x : Parent). Chained (record { at = k .at + length (writtenAt f s (c .at)); last = b; parent = x }) qs) (sym (parent-anew c k b q)) r2 in
             linked c k j qs w (stands-anew c k b q (w .stands) u z) m r3
 
-        step : (d : Command) (j : Cursor) → judgedAt side s (length p) c ≡ Next d j → Rest (c .at) (parse n side s (length p) j) ps
-            → ((j : Cursor) (qs : List ℕ) → parse n side s (length p) j ≡ ok qs → Quiet (j .last) → AllMoved (afterParts s qs) → Chained k (afterParts s qs)) → Chained k (afterParts s ps)
+        step : (d : Command) (j : Cursor) → judgedAt side s p c ≡ Next d j → Rest (c .at) (parse n side s p j) ps
+            → ((j : Cursor) (qs : List ℕ) → parse n side s p j ≡ ok qs → Quiet (j .last) → AllMoved (afterParts s qs) → Chained k (afterParts s qs)) → Chained k (afterParts s ps)
         step d j e t ih =
-            let w = went side s (length p) c d j e in
+            let w = went side s p c d j e in
             subst (λ (l : List ℕ). Chained k (afterParts s l)) (t .whole)
             (part d j w (t .more) (t .parsed-so) (isPart (getD s (c .at) 0)) refl (subst (λ (l : List ℕ). AllMoved (afterParts s l)) (sym (t .whole)) m) ih)
 
-        go : (j : Judged) → judgedAt side s (length p) c ≡ j → continued (c .at) (parse n side s (length p)) j ≡ ok ps
-            → ((j : Cursor) (qs : List ℕ) → parse n side s (length p) j ≡ ok qs → Quiet (j .last) → AllMoved (afterParts s qs) → Chained k (afterParts s qs)) → Chained k (afterParts s ps)
-        go (Next d j) e h ih = step d j e (onto-ok (c .at) (parse n side s (length p) j) ps h) ih
+        go : (j : Judged) → judgedAt side s p c ≡ j → continued (c .at) (parse n side s p) j ≡ ok ps
+            → ((j : Cursor) (qs : List ℕ) → parse n side s p j ≡ ok qs → Quiet (j .last) → AllMoved (afterParts s qs) → Chained k (afterParts s qs)) → Chained k (afterParts s ps)
+        go (Next d j) e h ih = step d j e (onto-ok (c .at) (parse n side s p j) ps h) ih
         go Done e h ih = let q : [] ≡ ps = cc in subst (λ (l : List ℕ). Chained k (afterParts s l)) q (ended c [] refl k z)
         go (Refused r q) e h ih = absurd (let z : _≡_ {A = ℕ} 0 1 = cc in omega arith)
 
@@ -216,14 +217,14 @@ module _ (side : Side) (s p p2 : Str) (f : ℕ → ℕ) (small : length p2 < 655
     named-type v at h = both (isType (getD s at 0)) _ h .0
 
     -- the commands without the first type of a name
-    pub chain-without : (v : Str) (n : ℕ) (c : Cursor) (ps : List ℕ) → parse n side s (length p) c ≡ ok ps → AllMoved (without s p v ps) → (a : ℕ) → Chained (shift a c) (without s p v ps)
+    pub chain-without : (v : Str) (n : ℕ) (c : Cursor) (ps : List ℕ) → parse n side s p c ≡ ok ps → AllMoved (without s p v ps) → (a : ℕ) → Chained (shift a c) (without s p v ps)
     unfolding parse continued without
     chain-without v zero c ps h m a = absurd (let z : _≡_ {A = ℕ} 0 1 = cc in omega arith)
-    chain-without v (suc n) c ps h m a = go (judgedAt side s (length p) c) refl h (λ k qs e l b. chain-without v n k qs e l b)
+    chain-without v (suc n) c ps h m a = go (judgedAt side s p c) refl h (λ k qs e l b. chain-without v n k qs e l b)
       where
-        type : (k : Cursor) → Went side s (length p) c k → (qs : List ℕ) → parse n side s (length p) k ≡ ok qs → (t : Bool) → named s p v (c .at) ≡ t
+        type : (k : Cursor) → Went side s p c k → (qs : List ℕ) → parse n side s p k ≡ ok qs → (t : Bool) → named s p v (c .at) ≡ t
             → AllMoved (cond t (afterParts s qs) (c .at ∷ without s p v qs))
-            → ((k : Cursor) (qs : List ℕ) → parse n side s (length p) k ≡ ok qs → AllMoved (without s p v qs) → (b : ℕ) → Chained (shift b k) (without s p v qs))
+            → ((k : Cursor) (qs : List ℕ) → parse n side s p k ≡ ok qs → AllMoved (without s p v qs) → (b : ℕ) → Chained (shift b k) (without s p v qs))
             → Chained (shift a c) (cond t (afterParts s qs) (c .at ∷ without s p v qs))
         type k w qs e true q m ih =
             let b = named-type v (c .at) q in
@@ -233,12 +234,12 @@ module _ (side : Side) (s p p2 : Str) (f : ℕ → ℕ) (small : length p2 < 655
             let r2 = subst (λ (x : Cursor). Chained (shift (a + length (writtenAt f s (c .at))) x) (without s p v qs)) (sym (w .next)) r in
             linked c (shift a c) k (without s p v qs) w (shift-stands a c (getD s (c .at) 0) (w .stands)) m r2
 
-        go : (j : Judged) → judgedAt side s (length p) c ≡ j → continued (c .at) (parse n side s (length p)) j ≡ ok ps
-            → ((k : Cursor) (qs : List ℕ) → parse n side s (length p) k ≡ ok qs → AllMoved (without s p v qs) → (b : ℕ) → Chained (shift b k) (without s p v qs))
+        go : (j : Judged) → judgedAt side s p c ≡ j → continued (c .at) (parse n side s p) j ≡ ok ps
+            → ((k : Cursor) (qs : List ℕ) → parse n side s p k ≡ ok qs → AllMoved (without s p v qs) → (b : ℕ) → Chained (shift b k) (without s p v qs))
             → Chained (shift a c) (without s p v ps)
         go (Next d k) e h ih =
-            let t = onto-ok (c .at) (parse n side s (length p) k) ps h in
+            let t = onto-ok (c .at) (parse n side s p k) ps h in
             subst (λ (l : List ℕ). Chained (shift a c) (without s p v l)) (t .whole)
-            (type k (went side s (length p) c d k e) (t .more) (t .parsed-so) (named s p v (c .at)) refl (subst (λ (l : List ℕ). AllMoved (without s p v l)) (sym (t .whole)) m) ih)
-        go Done e h ih = let q : [] ≡ ps = cc in subst (λ (l : List ℕ). Chained (shift a c) (without s p v l)) q (ended c [] refl (shift a c) (stopped side s (length p) c e))
+            (type k (went side s p c d k e) (t .more) (t .parsed-so) (named s p v (c .at)) refl (subst (λ (l : List ℕ). AllMoved (without s p v l)) (sym (t .whole)) m) ih)
+        go Done e h ih = let q : [] ≡ ps = cc in subst (λ (l : List ℕ). Chained (shift a c) (without s p v l)) q (ended c [] refl (shift a c) (stopped side s p c e))
         go (Refused r q) e h ih = absurd (let z : _≡_ {A = ℕ} 0 1 = cc in omega arith)

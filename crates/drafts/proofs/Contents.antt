@@ -16,7 +16,8 @@ use Rattle.record.specs.Schema.{Schema, Heading, words, integer, Const, Alias, 
 use Rattle.record.specs.Lists.{listed, anything, nothing, aKey, aField, numberOf, heads, constants, aliases, values, enums, members, bitfields, keys, fields, structs, variants, families, unstored, versions, familyOf}
 use Rattle.record.specs.Shapes.{prefix}
 use Rattle.record.specs.Reading.{Rec, releaseOf, unreleasedOf, schemaFrom, schemaOf, Opened, openedAt, opened}
-use Rattle.drafts.specs.Content.{Operand, text, maybe, plain, Content, bytesAt, isPlain, operandAt, operandsAt, operandsWith, contentAs, contentAt, contentsOf}
+use Rattle.record.specs.CommandTexts.{isPlain}
+use Rattle.drafts.specs.Content.{Operand, text, maybe, plain, Content, bytesAt, operandAt, operandsAt, operandsWith, contentAs, contentAt, contentsOf}
 
 -- the operands of a content -----------------------------------------------------------------------------------------------
 

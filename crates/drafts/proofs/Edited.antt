@@ -21,7 +21,8 @@ use Rattle.record.specs.declared.judge.Judged.{Judged}
 use Rattle.record.specs.declared.judge.Judged.the-variants.{Next, Done, Refused}
 use Rattle.record.proofs.Basics.{both}
 use Rattle.record.proofs.Accepted.{onto-ok}
-use Rattle.drafts.specs.Content.{Content, isPlain, operandAt, operandsAt, operandsWith, contentAs, contentAt, contentsOf}
+use Rattle.record.specs.CommandTexts.{isPlain}
+use Rattle.drafts.specs.Content.{Content, operandAt, operandsAt, operandsWith, contentAs, contentAt, contentsOf}
 use Rattle.drafts.specs.Addition.{isType, isPart, addition}
 use Rattle.drafts.specs.Edits.{named, afterParts, without, removed, added}
 use Rattle.drafts.specs.Effects.{SameRest, Appended, lessFirst, structNamed, familyNamed, TakenOut, struct, family}
@@ -151,17 +152,17 @@ module _ (side : Side) (s p : Str) where
         rw n (x .not12),
       )
 
-  behind : (k : ℕ) (c : Cursor) (ps : List ℕ) → parse k side s (length p) c ≡ ok ps → Quiet (c .last) → Behind ps
+  behind : (k : ℕ) (c : Cursor) (ps : List ℕ) → parse k side s p c ≡ ok ps → Quiet (c .last) → Behind ps
   unfolding parse continued afterParts
   behind zero c ps h u = absurd (let z : _≡_ {A = ℕ} 0 1 = cc in omega arith)
-  behind (suc k) c ps h u = go (judgedAt side s (length p) c) refl h (λ j qs e q. behind k j qs e q)
+  behind (suc k) c ps h u = go (judgedAt side s p c) refl h (λ j qs e q. behind k j qs e q)
     where
       tails : (at : ℕ) (qs : List ℕ) → isPart (getD s at 0) ≡ true → (b : Behind qs) → (a : ℕ) → List·Memᴰ a (at ∷ b .parts) → isPart (getD s a 0) ≡ true
       tails at qs q b a (List·Memᴰ·head e) = subst (λ (x : ℕ). isPart (getD s x 0) ≡ true) (sym e) q
       tails at qs q b a (List·Memᴰ·tail m) = b .are-parts a m
 
-      part : (j : Cursor) → Went side s (length p) c j → (qs : List ℕ) → parse k side s (length p) j ≡ ok qs → (t : Bool) → isPart (getD s (c .at) 0) ≡ t
-          → ((j : Cursor) (qs : List ℕ) → parse k side s (length p) j ≡ ok qs → Quiet (j .last) → Behind qs) → Behind (c .at ∷ qs)
+      part : (j : Cursor) → Went side s p c j → (qs : List ℕ) → parse k side s p j ≡ ok qs → (t : Bool) → isPart (getD s (c .at) 0) ≡ t
+          → ((j : Cursor) (qs : List ℕ) → parse k side s p j ≡ ok qs → Quiet (j .last) → Behind qs) → Behind (c .at ∷ qs)
       part j w qs e true q ih =
           let b = ih j qs e (subst (λ (x : Cursor). Quiet (x .last)) (w .next) (part-quiet (getD s (c .at) 0) q)) in
           record {
@@ -177,11 +178,11 @@ module _ (side : Side) (s p : Str) where
         apart = rw q (by-itself (c .at) c q (w .stands) u (map (contentAt s p) qs));
       }
 
-      go : (j : Judged) → judgedAt side s (length p) c ≡ j → continued (c .at) (parse k side s (length p)) j ≡ ok ps
-          → ((j : Cursor) (qs : List ℕ) → parse k side s (length p) j ≡ ok qs → Quiet (j .last) → Behind qs) → Behind ps
+      go : (j : Judged) → judgedAt side s p c ≡ j → continued (c .at) (parse k side s p) j ≡ ok ps
+          → ((j : Cursor) (qs : List ℕ) → parse k side s p j ≡ ok qs → Quiet (j .last) → Behind qs) → Behind ps
       go (Next d j) e h ih =
-          let t = onto-ok (c .at) (parse k side s (length p) j) ps h in
-          subst (λ (l : List ℕ). Behind l) (t .whole) (part j (went side s (length p) c d j e) (t .more) (t .parsed-so) (isPart (getD s (c .at) 0)) refl ih)
+          let t = onto-ok (c .at) (parse k side s p j) ps h in
+          subst (λ (l : List ℕ). Behind l) (t .whole) (part j (went side s p c d j e) (t .more) (t .parsed-so) (isPart (getD s (c .at) 0)) refl ih)
       go Done e h ih = let q : [] ≡ ps = cc in subst (λ (l : List ℕ). Behind l) q (record { parts = []; whole = refl; are-parts = λ a m. absurd (List·Memᴰ·not-nil m); apart = tt })
       go (Refused r q) e h ih = absurd (let z : _≡_ {A = ℕ} 0 1 = cc in omega arith)
 
@@ -203,13 +204,13 @@ module _ (side : Side) (s p : Str) where
   unfolding named
   named-type v at h = both (isType (getD s at 0)) _ h .0
 
-  pub cut-out : (v : Str) (k : ℕ) (c : Cursor) (ps : List ℕ) → parse k side s (length p) c ≡ ok ps → any (named s p v) ps ≡ true → CutOut v ps
+  pub cut-out : (v : Str) (k : ℕ) (c : Cursor) (ps : List ℕ) → parse k side s p c ≡ ok ps → any (named s p v) ps ≡ true → CutOut v ps
   unfolding parse continued without any
   cut-out v zero c ps h y = absurd (let z : _≡_ {A = ℕ} 0 1 = cc in omega arith)
-  cut-out v (suc k) c ps h y = go (judgedAt side s (length p) c) refl h (λ j qs e z. cut-out v k j qs e z)
+  cut-out v (suc k) c ps h y = go (judgedAt side s p c) refl h (λ j qs e z. cut-out v k j qs e z)
     where
-      type : (j : Cursor) → Went side s (length p) c j → (qs : List ℕ) → parse k side s (length p) j ≡ ok qs → (t : Bool) → named s p v (c .at) ≡ t
-          → (t || any (named s p v) qs) ≡ true → ((j : Cursor) (qs : List ℕ) → parse k side s (length p) j ≡ ok qs → any (named s p v) qs ≡ true → CutOut v qs) → CutOut v (c .at ∷ qs)
+      type : (j : Cursor) → Went side s p c j → (qs : List ℕ) → parse k side s p j ≡ ok qs → (t : Bool) → named s p v (c .at) ≡ t
+          → (t || any (named s p v) qs) ≡ true → ((j : Cursor) (qs : List ℕ) → parse k side s p j ≡ ok qs → any (named s p v) qs ≡ true → CutOut v qs) → CutOut v (c .at ∷ qs)
       type j w qs e true q y ih =
           let z = named-type v (c .at) q in
           let b = behind k j qs e (subst (λ (x : Cursor). Quiet (x .last)) (w .next) (type-quiet (getD s (c .at) 0) z)) in
@@ -242,12 +243,12 @@ module _ (side : Side) (s p : Str) where
             apart = b .apart;
           }
 
-      go : (j : Judged) → judgedAt side s (length p) c ≡ j → continued (c .at) (parse k side s (length p)) j ≡ ok ps
-          → ((j : Cursor) (qs : List ℕ) → parse k side s (length p) j ≡ ok qs → any (named s p v) qs ≡ true → CutOut v qs) → CutOut v ps
+      go : (j : Judged) → judgedAt side s p c ≡ j → continued (c .at) (parse k side s p) j ≡ ok ps
+          → ((j : Cursor) (qs : List ℕ) → parse k side s p j ≡ ok qs → any (named s p v) qs ≡ true → CutOut v qs) → CutOut v ps
       go (Next d j) e h ih =
-          let t = onto-ok (c .at) (parse k side s (length p) j) ps h in
+          let t = onto-ok (c .at) (parse k side s p j) ps h in
           subst (λ (l : List ℕ). CutOut v l) (t .whole)
-          (type j (went side s (length p) c d j e) (t .more) (t .parsed-so) (named s p v (c .at)) refl (subst (λ (l : List ℕ). any (named s p v) l ≡ true) (sym (t .whole)) y) ih)
+          (type j (went side s p c d j e) (t .more) (t .parsed-so) (named s p v (c .at)) refl (subst (λ (l : List ℕ). any (named s p v) l ≡ true) (sym (t .whole)) y) ih)
       go Done e h ih = let q : [] ≡ ps = cc in absurd (false≢true (subst (λ (l : List ℕ). any (named s p v) l ≡ true) (sym q) y))
       go (Refused r q) e h ih = absurd (let z : _≡_ {A = ℕ} 0 1 = cc in omega arith)
 

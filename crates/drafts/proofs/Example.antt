@@ -15,7 +15,9 @@ use Rattle.record.specs.Operands as Operands
 use Rattle.record.specs.Commands as Commands
 use Rattle.record.specs.Lists as Lists
 use Rattle.record.specs.Judge as Judge
+use Rattle.texts.specs.Utf8 as Utf8
 use Rattle.record.specs.Letters as Letters
+use Rattle.record.specs.CommandTexts as CommandTexts
 use Rattle.record.specs.Reading as Reading
 use Rattle.record.specs.Shapes as Shapes
 use Rattle.record.specs.Kind as Kind
@@ -93,8 +95,9 @@ unfolding Base.bytes Base.eqs Base.isText Base.isSome Base.before Base.decimal B
     Commands.widthWith Commands.widthOf Commands.commandOf Commands.stepAt Commands.commandsFrom Commands.commandsAt Lists.listed
     Lists.heads Lists.constants Lists.aliases Lists.values Lists.enums Lists.members Lists.bitfields Lists.keys Lists.fields Lists.structs
     Lists.variants Lists.families Lists.unstored Lists.versions Judge.ifAbsent Judge.flagFault Judge.operandFault Judge.faultsFrom
-    Judge.faultsOf Judge.follows Judge.mayStand Judge.rowAt Judge.parentAfter Judge.ready Judge.judgedWith Judge.judgedAt Letters.isLetter
-    Letters.allLetters Letters.oddLetter Reading.releaseOf Reading.unreleasedOf Reading.schemaFrom Reading.schemaOf Reading.openedAt
+    Judge.faultsOf Judge.follows Judge.mayStand Judge.rowAt Judge.parentAfter Judge.ready Judge.judgedWith Judge.judgedAt Letters.oddLetter
+    Utf8.inside Utf8.isTail Utf8.utf81 Utf8.utf82 Utf8.utf83 Utf8.utf84 Utf8.charOf Utf8.charLength Utf8.isControl Utf8.letterLength
+    Utf8.oddAfter Utf8.oddPlace Utf8.noTail Reading.releaseOf Reading.unreleasedOf Reading.schemaFrom Reading.schemaOf Reading.openedAt
     Reading.opened Reading.large Reading.vast Reading.onto Reading.continued Reading.parse Reading.parsed Reading.streamLimit
     Reading.poolLimit Reading.vastOr Reading.sizesOf Reading.concluded Reading.reading Shapes.enumSize Shapes.aliasSize Shapes.bitfieldSize
     Shapes.sized Shapes.scalarSize Shapes.sizeAs Shapes.shapeSize Shapes.spaced Shapes.named Shapes.restAs Shapes.shapeType Shapes.placeOf
@@ -103,8 +106,8 @@ unfolding Base.bytes Base.eqs Base.isText Base.isSome Base.before Base.decimal B
     Scalars.builtIn Scalars.builtInRows Fill.joined Fill.placed Fill.fronted Layout.variantName Layout.layStruct Layout.layFamily
     Layout.layVariant Layout.layFamilies Layout.flattened Layout.types Layout.typeIn Sorted.insert Sorted.insertAll Sorted.sorted
     Fields.placeIn Fields.checkKept Fields.checkPlace Fields.checkPlaces Fields.checkType Fields.checkFields Fields.eqPlace Fields.eqPlaces
-    Fields.sameAs Fields.changed Content.bytesAt Content.isPlain Content.operandAt Content.operandsAt Content.operandsWith Content.contentAs
-    Content.contentAt Content.contentsOf Packing.textsFrom Packing.textsWith Packing.textsAt Packing.textsOf Packing.covers Packing.covered
+    Fields.sameAs Fields.changed Content.bytesAt CommandTexts.isPlain Content.operandAt Content.operandsAt Content.operandsWith Content.contentAs
+    Content.contentAt Content.contentsOf CommandTexts.textsFrom CommandTexts.textsWith CommandTexts.textsAt Packing.textsOf Packing.covers Packing.covered
     Packing.kept Packing.keptBefore Packing.le2 Packing.operandBytes Packing.rowBytes Packing.rowWith Packing.writtenAt Packing.written
     Packing.movedTo Packing.packedPool Packing.packedCommands Packing.streamOf Parts.stated Parts.part Parts.afterPart Parts.heldRec
     Parts.readHeld Parts.le4 Parts.partsOf Addition.isType Addition.isPart Addition.mayAdd Addition.additionAs Addition.additionAt

@@ -85,11 +85,11 @@ first-faulted at j F.Missing h = refl
 first-faulted at j F.Flag h = refl
 
 -- a command that is there and stands, by its operands
-abbrev judgedHere : Str → ℕ → Cursor → Str → ℕ → Judged
-judgedHere s n c os w = faulted (c .at) (ready s c (getD s (c .at) 0) w) (faultsFrom Current n (drop (c .at) s) 1 os)
+abbrev judgedHere : Str → Str → Cursor → Str → ℕ → Judged
+judgedHere s pool c os w = faulted (c .at) (ready s c (getD s (c .at) 0) w) (faultsFrom Current pool (drop (c .at) s) 1 os)
 
-not-first : (s : Str) (n : ℕ) (c : Cursor) (os : Str) (w : ℕ) → comesFirst (judgedHere s n c os w) ≡ false
-not-first s n c os w = first-faulted (c .at) (ready s c (getD s (c .at) 0) w) (faultsFrom Current n (drop (c .at) s) 1 os) (first-ready s c (getD s (c .at) 0) w)
+not-first : (s : Str) (pool : Str) (c : Cursor) (os : Str) (w : ℕ) → comesFirst (judgedHere s pool c os w) ≡ false
+not-first s pool c os w = first-faulted (c .at) (ready s c (getD s (c .at) 0) w) (faultsFrom Current pool (drop (c .at) s) 1 os) (first-ready s c (getD s (c .at) 0) w)
 
 picked-of : (at : ℕ) (j : Judged) → comesFirst j ≡ false → (x m a : Bool)
     → cond x (Refused R.Cut at) (cond (m && a) j (Refused R.Misplaced at)) ≡ picked a at (cond x (Refused R.Cut at) (cond m j (Refused R.Misplaced at)))
@@ -99,18 +99,18 @@ picked-of at j e false true false = rw e
 picked-of at j e false false true = refl
 picked-of at j e false false false = refl
 
-added-with : (s : Str) (n : ℕ) (c : Cursor) (os : Str) (w : ℕ) (m a : Bool) → judgedWith Current s n c os w (m && a) ≡ picked a (c .at) (judgedWith Current s n c os w m)
+added-with : (s : Str) (pool : Str) (c : Cursor) (os : Str) (w : ℕ) (m a : Bool) → judgedWith Current s pool c os w (m && a) ≡ picked a (c .at) (judgedWith Current s pool c os w m)
 unfolding judgedWith
-added-with s n c os w m a = picked-of (c .at) (judgedHere s n c os w) (not-first s n c os w) (ltb (length s - c .at) w) m a
+added-with s pool c os w m a = picked-of (c .at) (judgedHere s pool c os w) (not-first s pool c os w) (ltb (length s - c .at) w) m a
 
-pub addition-is : (s : Str) (n : ℕ) (c : Cursor) → additionAt s n c ≡ picked (mayAdd (c .last) (getD s (c .at) 0)) (c .at) (judgedAt Current s n c)
+pub addition-is : (s : Str) (pool : Str) (c : Cursor) → additionAt s pool c ≡ picked (mayAdd (c .last) (getD s (c .at) 0)) (c .at) (judgedAt Current s pool c)
 unfolding additionAt judgedAt additionAs
-addition-is s n c = go (ltb (c .at) (length s)) (getD s (c .at) 0) (operands (getD s (c .at) 0))
+addition-is s pool c = go (ltb (c .at) (length s)) (getD s (c .at) 0) (operands (getD s (c .at) 0))
   where
-    go : (x : Bool) (b : ℕ) (o : Option Str) → cond x (additionAs s n c b o) (Refused R.Cut (c .at)) ≡ picked (mayAdd (c .last) b) (c .at) (cond x (judgedAs Current s n c b o) (Refused R.Cut (c .at)))
+    go : (x : Bool) (b : ℕ) (o : Option Str) → cond x (additionAs s pool c b o) (Refused R.Cut (c .at)) ≡ picked (mayAdd (c .last) b) (c .at) (cond x (judgedAs Current s pool c b o) (Refused R.Cut (c .at)))
     go false b o = refl
     go true b none = refl
-    go true b (some os) = added-with s n c os (1 + widths os) (mayStand c b) (mayAdd (c .last) b)
+    go true b (some os) = added-with s pool c os (1 + widths os) (mayStand c b) (mayAdd (c .last) b)
 
 -- the commands, one at a time --------------------------------------------------------------------------------------------------------------
 
@@ -122,30 +122,30 @@ next-of a at j d k e = go (comesFirst j) a e
     go false true h = h
     go false false h = absurd (let z : _≡_ {A = ℕ} 0 1 = cc in omega arith)
 
-module _ (s : Str) (n : ℕ) where
-  was-next : (c : Cursor) (d : Command) (k : Cursor) → additionAt s n c ≡ Next d k → judgedAt Current s n c ≡ Next d k
-  was-next c d k e = next-of (mayAdd (c .last) (getD s (c .at) 0)) (c .at) (judgedAt Current s n c) d k (sym (addition-is s n c) ∙ e)
+module _ (s : Str) (pool : Str) where
+  was-next : (c : Cursor) (d : Command) (k : Cursor) → additionAt s pool c ≡ Next d k → judgedAt Current s pool c ≡ Next d k
+  was-next c d k e = next-of (mayAdd (c .last) (getD s (c .at) 0)) (c .at) (judgedAt Current s pool c) d k (sym (addition-is s pool c) ∙ e)
 
-  past : (c : Cursor) → length s ≤ c .at → additionAt s n c ≡ Refused R.Cut (c .at)
-  past c h = addition-is s n c ∙ rw (← judged-past Current s n c h)
+  past : (c : Cursor) → length s ≤ c .at → additionAt s pool c ≡ Refused R.Cut (c .at)
+  past c h = addition-is s pool c ∙ rw (← judged-past Current s pool c h)
 
-  enough : (k m : ℕ) (c : Cursor) → length s < k + c .at → length s < m + c .at → parseAddition k s n c ≡ parseAddition m s n c
+  enough : (k m : ℕ) (c : Cursor) → length s < k + c .at → length s < m + c .at → parseAddition k s pool c ≡ parseAddition m s pool c
   unfolding parseAddition continued
   enough zero zero c p q = refl
   enough zero (suc m) c p q = rw (past c (omega arith))
   enough (suc k) zero c p q = rw (past c (omega arith))
-  enough (suc k) (suc m) c p q = go (enough k m) (additionAt s n c) refl
+  enough (suc k) (suc m) c p q = go (enough k m) (additionAt s pool c) refl
     where
-      go : ((d : Cursor) → length s < k + d .at → length s < m + d .at → parseAddition k s n d ≡ parseAddition m s n d) → (j : Judged) → additionAt s n c ≡ j
-          → continued (c .at) (parseAddition k s n) j ≡ continued (c .at) (parseAddition m s n) j
+      go : ((d : Cursor) → length s < k + d .at → length s < m + d .at → parseAddition k s pool d ≡ parseAddition m s pool d) → (j : Judged) → additionAt s pool c ≡ j
+          → continued (c .at) (parseAddition k s pool) j ≡ continued (c .at) (parseAddition m s pool) j
       go ih (Next d j) e =
-          let f = step-found s (c .at) _ _ (judged-step Current s n c d j (was-next c d j e)) in
+          let f = step-found s (c .at) _ _ (judged-step Current s pool c d j (was-next c d j e)) in
           let on = f .on in
           ap (onto (c .at)) (ih j (omega arith) (omega arith))
       go ih Done e = refl
       go ih (Refused r p) e = refl
 
-  from-here : (c : Cursor) → additionFrom s n c ≡ continued (c .at) (parseAddition (length s + 1 - c .at) s n) (additionAt s n c)
+  from-here : (c : Cursor) → additionFrom s pool c ≡ continued (c .at) (parseAddition (length s + 1 - c .at) s pool) (additionAt s pool c)
   unfolding additionFrom parseAddition
   from-here c = enough (length s + 1 - c .at) (suc (length s + 1 - c .at)) c (omega arith) (omega arith)
 
@@ -154,21 +154,21 @@ module _ (s : Str) (n : ℕ) where
   onto-outcome at (ok ps) = refl
   onto-outcome at (bad r p) = refl
 
-  module _ (c : Cursor) (j : Judged) (e : j ≡ additionAt s n c) where
-    pub adds-on : (d : Command) (k : Cursor) → j ≡ Next d k → outcomeOf (additionFrom s n c) ≡ outcomeOf (additionFrom s n k)
+  module _ (c : Cursor) (j : Judged) (e : j ≡ additionAt s pool c) where
+    pub adds-on : (d : Command) (k : Cursor) → j ≡ Next d k → outcomeOf (additionFrom s pool c) ≡ outcomeOf (additionFrom s pool k)
     unfolding continued additionFrom
     adds-on d k h =
-        let f = step-found s (c .at) _ _ (judged-step Current s n c d k (was-next c d k (sym e ∙ h))) in
+        let f = step-found s (c .at) _ _ (judged-step Current s pool c d k (was-next c d k (sym e ∙ h))) in
         let on = f .on in
         let within = f .within in
         ap outcomeOf (from-here c ∙ (rw (sym e ∙ h) (ap (onto (c .at)) (enough (length s + 1 - c .at) (length s + 1 - k .at) k (omega arith) (omega arith)))))
-        ∙ onto-outcome (c .at) (parseAddition (length s + 1 - k .at) s n k)
+        ∙ onto-outcome (c .at) (parseAddition (length s + 1 - k .at) s pool k)
 
-    pub adds-done : j ≡ Done → outcomeOf (additionFrom s n c) ≡ O.Readable
+    pub adds-done : j ≡ Done → outcomeOf (additionFrom s pool c) ≡ O.Readable
     unfolding continued outcomeOf
     adds-done h = ap outcomeOf (from-here c) ∙ rw (sym e ∙ h)
 
-    pub adds-refused : (r : Refusal) (p : ℕ) → j ≡ Refused r p → outcomeOf (additionFrom s n c) ≡ O.Refused r p
+    pub adds-refused : (r : Refusal) (p : ℕ) → j ≡ Refused r p → outcomeOf (additionFrom s pool c) ≡ O.Refused r p
     unfolding continued outcomeOf
     adds-refused r p h = ap outcomeOf (from-here c) ∙ rw (sym e ∙ h)
 
@@ -183,17 +183,17 @@ module _ (s p : Str) where
   unfolding addition concludedAddition outcomeOf poolLimit
   addition-wide h = rw (lt-leb (length p) 16384 h) (either (leb (length s) streamLimit))
     where
-      either : (b : Bool) → O.Refused R.Long 0 ≡ outcomeOf (concludedAddition (b && false) (oddLetter 0 p) (parseAddition (length s + 1) s (length p) start))
+      either : (b : Bool) → O.Refused R.Long 0 ≡ outcomeOf (concludedAddition (b && false) (oddLetter p) (parseAddition (length s + 1) s p start))
       either true = refl
       either false = refl
 
-  module _ (a : length s ≤ 32768) (b : length p ≤ 16384) (l : Letters) (e : l ≡ oddLetter 0 p) where
+  module _ (a : length s ≤ 32768) (b : length p ≤ 16384) (l : Letters) (e : l ≡ oddLetter p) where
     pub addition-letter : (i : ℕ) → l ≡ Odd i → O.Refused R.Letter i ≡ outcomeOf (addition (rec s p []))
     unfolding addition concludedAddition outcomeOf streamLimit poolLimit
     addition-letter i h = rw (le-leb (length s) 32768 a, le-leb (length p) 16384 b, ← e, h)
 
-    pub addition-whole : OneOf (0 ∷ []) (tagOf letters-type.the-type l) → (r : Outcome) → r ≡ outcomeOf (additionFrom s (length p) start) → r ≡ outcomeOf (addition (rec s p []))
+    pub addition-whole : OneOf (0 ∷ []) (tagOf letters-type.the-type l) → (r : Outcome) → r ≡ outcomeOf (additionFrom s p start) → r ≡ outcomeOf (addition (rec s p []))
     unfolding addition concludedAddition streamLimit poolLimit additionFrom
     addition-whole g r h =
         let z : length s + 1 - 0 ≡ length s + 1 = omega arith in
-        rw (le-leb (length s) 32768 a, le-leb (length p) 16384 b, ← e, good l g) (h ∙ ap (λ (k : ℕ). outcomeOf (parseAddition k s (length p) start)) z)
+        rw (le-leb (length s) 32768 a, le-leb (length p) 16384 b, ← e, good l g) (h ∙ ap (λ (k : ℕ). outcomeOf (parseAddition k s p start)) z)

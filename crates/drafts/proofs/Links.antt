@@ -19,7 +19,8 @@ use Rattle.record.specs.declared.refusal.Refusal.the-variants as R
 use Rattle.record.specs.declared.judge.Fault.the-variants.{Fine}
 use Rattle.record.specs.declared.judge.Judged.the-variants.{Next, Done, Refused}
 use Rattle.record.proofs.Accepted.{Passed, passed}
-use Rattle.drafts.specs.Content.{Content, contentAs, isPlain, bytesAt}
+use Rattle.record.specs.CommandTexts.{isPlain}
+use Rattle.drafts.specs.Content.{Content, contentAs, bytesAt}
 use Rattle.drafts.specs.Packing.{le2, operandBytes, rowBytes, rowWith}
 use Rattle.drafts.proofs.Pools.{any-mem}
 
@@ -81,7 +82,7 @@ pub record Link (side : Side) (p : Str) (k : Cursor) (z : Str) (d : Content) : T
   pub sized : length z ≡ 1 + widths row
   pub going : getD z 0 0 ≡ 15 → ⊥
   pub stands : mayStand k (getD z 0 0) ≡ true
-  pub fine : (rest : Str) → faultsFrom side (length p) (z ++ rest) 1 row ≡ Fine
+  pub fine : (rest : Str) → faultsFrom side p (z ++ rest) 1 row ≡ Fine
   pub says : (rest : Str) → contentAs p (z ++ rest) (getD z 0 0) ≡ d
 
 abbrev pub Chain : Side → Str → Cursor → List Str → List Content → Type 0
@@ -92,36 +93,36 @@ Chain side p k (z ∷ zs) (d ∷ ds) = Link side p k z d × Chain side p (moved 
 
 -- what a judged command has passed ---------------------------------------------------------------------------------------------
 
-pub record Went (side : Side) (s : Str) (n : ℕ) (c k : Cursor) : Type 0 where
+pub record Went (side : Side) (s : Str) (pool : Str) (c k : Cursor) : Type 0 where
   pub row : Str
   pub has-row : operands (getD s (c .at) 0) ≡ some row
   pub stands : mayStand c (getD s (c .at) 0) ≡ true
-  pub fine : faultsFrom side n (drop (c .at) s) 1 row ≡ Fine
+  pub fine : faultsFrom side pool (drop (c .at) s) 1 row ≡ Fine
   pub going : getD s (c .at) 0 ≡ 15 → ⊥
   pub next : moved c (getD s (c .at) 0) (1 + widths row) ≡ k
 
-module _ (side : Side) (s : Str) (n : ℕ) (c : Cursor) where
-  pub went : (d : Command) (k : Cursor) → judgedAt side s n c ≡ Next d k → Went side s n c k
+module _ (side : Side) (s : Str) (pool : Str) (c : Cursor) where
+  pub went : (d : Command) (k : Cursor) → judgedAt side s pool c ≡ Next d k → Went side s pool c k
   unfolding ready
   went d k e =
-      let p = passed side s n c (Next d k) tt e in
+      let p = passed side s pool c (Next d k) tt e in
       go p (eqb (getD s (c .at) 0) 15) refl (eqb (c .at + (1 + widths (p .row))) (length s)) (p .is-ready)
     where
-      go : (p : Passed side s n c (Next d k)) (t : Bool) → eqb (getD s (c .at) 0) 15 ≡ t → (u : Bool)
+      go : (p : Passed side s pool c (Next d k)) (t : Bool) → eqb (getD s (c .at) 0) 15 ≡ t → (u : Bool)
           → cond t (cond u Done (Refused R.Misplaced (c .at + (1 + widths (p .row))))) (Next (commandOf (getD s (c .at) 0) (drop (c .at) s)) (moved c (getD s (c .at) 0) (1 + widths (p .row)))) ≡ Next d k
-          → Went side s n c k
+          → Went side s pool c k
       go p true q true h = absurd (let z : _≡_ {A = ℕ} 0 1 = cc in omega arith)
       go p true q false h = absurd (let z : _≡_ {A = ℕ} 0 1 = cc in omega arith)
       go p false q u h = record { row = p .row; has-row = p .has-row; stands = p .stands; fine = p .fine; going = eqb-false (getD s (c .at) 0) 15 q; next = cc }
 
   -- at 0F something stood before
-  pub stopped : judgedAt side s n c ≡ Done → c .last ≡ 0 → ⊥
+  pub stopped : judgedAt side s pool c ≡ Done → c .last ≡ 0 → ⊥
   unfolding ready mayStand
   stopped e z =
-      let p = passed side s n c Done tt e in
+      let p = passed side s pool c Done tt e in
       go p (eqb (getD s (c .at) 0) 15) refl (p .is-ready) (p .stands)
     where
-      go : (p : Passed side s n c Done) (t : Bool) → eqb (getD s (c .at) 0) 15 ≡ t
+      go : (p : Passed side s pool c Done) (t : Bool) → eqb (getD s (c .at) 0) 15 ≡ t
           → cond t (cond (eqb (c .at + (1 + widths (p .row))) (length s)) Done (Refused R.Misplaced (c .at + (1 + widths (p .row))))) (Next (commandOf (getD s (c .at) 0) (drop (c .at) s)) (moved c (getD s (c .at) 0) (1 + widths (p .row)))) ≡ Done
           → mayStand c (getD s (c .at) 0) ≡ true → ⊥
       go p true q h m = false≢true (rw (eqb-true (getD s (c .at) 0) 15 q, z) at m)

@@ -20,8 +20,8 @@ use Rattle.record.specs.declared.text.Text.{Text}
 use Rattle.record.specs.declared.operands.OptText.{OptText}
 use Rattle.record.specs.declared.operands.OptText.the-variants.{Absent, Given}
 use Rattle.record.proofs.operands.OptText.{the-type}
-use Rattle.drafts.specs.Content.{isPlain}
-use Rattle.drafts.specs.Packing.{given, textsFrom, textsWith, textsAt, textsOf, covers, covered, kept}
+use Rattle.record.specs.CommandTexts.{isPlain, given, textsFrom, textsWith, textsAt}
+use Rattle.drafts.specs.Packing.{textsOf, covers, covered, kept}
 use Rattle.drafts.specs.Code.{orNone, upTo, operandTexts, Marks, isMarked, marksBefore, Ranked}
 use Rattle.drafts.proofs.PutLaws.{range-end, range-stop, range-on}
 

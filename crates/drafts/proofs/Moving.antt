@@ -3,12 +3,12 @@ use mathlib.Core.Path.{_≡_, refl, sym, ap, ap₂, _∙_}
 use mathlib.Core.List.{List, [], _∷_, _++_, append-assoc, List·Memᴰ, List·Memᴰ·head, List·Memᴰ·tail}
 use mathlib.Core.Option.{some}
 use mathlib.Core.Bool.{Bool, true, false, cond, false≢true}
-use Prim.Native.Nat.{ℕ, zero, suc, _+_, _*_, _/_, _%_, _≤_, _<_}
+use Prim.Native.Nat.{ℕ, zero, suc, _+_, _*_, _/_, _%_, _<_}
 use native.Mathlib.Omega.{arith}
 use lib.ListN.{length, getD, length-append}
 use lib.Seq.{getD-append-add, getD-at}
-use lib.Dec.{eqb, leb}
-use borrow.Author.Tests.{eqb-true, ne-eqb, leb-true, le-leb}
+use lib.Dec.{eqb}
+use borrow.Author.Tests.{eqb-true, ne-eqb, le-leb}
 use Rattle.record.specs.Base.{Str, withSome}
 use Rattle.record.specs.Le.{u16At}
 use Rattle.record.specs.Stretch.{textOf}
@@ -21,9 +21,11 @@ use Rattle.record.specs.declared.operands.OptText.{OptText}
 use Rattle.record.specs.declared.operands.OptText.the-variants.{Absent, Given}
 use Rattle.record.specs.declared.refusal.Side.{Side}
 use Rattle.record.specs.declared.judge.Fault.{Fault}
-use Rattle.record.specs.declared.judge.Fault.the-variants.{Fine, Outside, Missing, Flag}
-use Rattle.drafts.specs.Content.{text, maybe, plain, Operand, bytesAt, isPlain, operandAt, operandsAt}
-use Rattle.drafts.specs.Packing.{given, textsFrom, movedStart, le2, operandBytes, rowBytes}
+use Rattle.record.specs.declared.judge.Fault.the-variants.{Fine, Outside, Missing}
+use Rattle.record.specs.CommandTexts.{isPlain, given, textsFrom}
+use Rattle.record.proofs.Sides.{worse-both}
+use Rattle.drafts.specs.Content.{text, maybe, plain, Operand, bytesAt, operandAt, operandsAt}
+use Rattle.drafts.specs.Packing.{movedStart, le2, operandBytes, rowBytes}
 use Rattle.drafts.proofs.Pools.{Moved}
 
 -- bytes in a row ----------------------------------------------------------------------------------------------------------
@@ -99,18 +101,6 @@ module _ (f : ℕ → ℕ) (t : Text) where
 
 -- one operand ------------------------------------------------------------------------------------------------------------------
 
-worse-both : (a b : Fault) → worseOf a b ≡ Fine → (a ≡ Fine) × (b ≡ Fine)
-worse-both Fine b e = (refl, e)
-worse-both Outside b e = absurd (let z : _≡_ {A = ℕ} 0 1 = cc in omega arith)
-worse-both Missing Fine e = absurd (let z : _≡_ {A = ℕ} 0 1 = cc in omega arith)
-worse-both Missing Outside e = absurd (let z : _≡_ {A = ℕ} 0 1 = cc in omega arith)
-worse-both Missing Missing e = absurd (let z : _≡_ {A = ℕ} 0 1 = cc in omega arith)
-worse-both Missing Flag e = absurd (let z : _≡_ {A = ℕ} 0 1 = cc in omega arith)
-worse-both Flag Fine e = absurd (let z : _≡_ {A = ℕ} 0 1 = cc in omega arith)
-worse-both Flag Outside e = absurd (let z : _≡_ {A = ℕ} 0 1 = cc in omega arith)
-worse-both Flag Missing e = absurd (let z : _≡_ {A = ℕ} 0 1 = cc in omega arith)
-worse-both Flag Flag e = absurd (let z : _≡_ {A = ℕ} 0 1 = cc in omega arith)
-
 -- the letters that are no text's, told apart
 data Letter (o : ℕ) : Type 0 where
   flag : eqb o 70 ≡ true → Letter o
@@ -148,29 +138,22 @@ module _ (p p2 : Str) (small : length p2 < 65535) (f : ℕ → ℕ) where
   opt-same Absent m = refl
   opt-same (Given u) m = ap some (m u refl .same)
 
-  pub fault-same : (absent : Fault) (o : OptText) → ((u : Text) → o ≡ Given u → Moved f p p2 u) → textFault (length p) absent o ≡ Fine → textFault (length p2) absent (movedOpt f o) ≡ Fine
+  pub fault-same : (absent : Fault) (o : OptText) → ((u : Text) → o ≡ Given u → Moved f p p2 u) → textFault p absent o ≡ Fine → textFault p2 absent (movedOpt f o) ≡ Fine
   fault-same absent Absent m e = e
-  fault-same absent (Given u) m e = let i = m u refl .inside in rw (le-leb (f (u .start) + u .len) (length p2) i)
-
-  text-fits : (absent : Fault) (u : Text) → textFault (length p) absent (Given u) ≡ Fine → u .start + u .len ≤ length p
-  text-fits absent u e = go (leb (u .start + u .len) (length p)) refl e
-    where
-      go : (b : Bool) → leb (u .start + u .len) (length p) ≡ b → cond b Fine Outside ≡ Fine → u .start + u .len ≤ length p
-      go true q h = leb-true (u .start + u .len) (length p) q
-      go false q h = absurd (let z : _≡_ {A = ℕ} 0 1 = cc in omega arith)
+  fault-same absent (Given u) m e = let k = m u refl in rw (le-leb (f (u .start) + u .len) (length p2) (k .inside), k .begins, k .ends)
 
   -- the row ----------------------------------------------------------------------------------------------------------------------
 
   pub record Same (side : Side) (x z : Str) (i : ℕ) (os : Str) : Type 0 where
     pub says : operandsAt p2 z i os ≡ operandsAt p x i os
-    pub fine : faultsFrom side (length p2) z i os ≡ Fine
+    pub fine : faultsFrom side p2 z i os ≡ Fine
 
   module _ (side : Side) (x : Str) where
-    plain-fault : (z : Str) (i o : ℕ) → isPlain o ≡ true → getD z i 0 ≡ getD x i 0 → operandFault side (length p) x i o ≡ Fine → operandFault side (length p2) z i o ≡ Fine
+    plain-fault : (z : Str) (i o : ℕ) → isPlain o ≡ true → getD z i 0 ≡ getD x i 0 → operandFault side p x i o ≡ Fine → operandFault side p2 z i o ≡ Fine
     unfolding operandFault isPlain
     plain-fault z i o q g h = go (letter o)
       where
-        go : Letter o → operandFault side (length p2) z i o ≡ Fine
+        go : Letter o → operandFault side p2 z i o ≡ Fine
         go (flag e) = rw (e, g) (rw e at h)
         go (number e k) = rw (e, k, g) (rw (e, k) at h)
         go (word e k l) = rw (e, k, l)
@@ -192,8 +175,8 @@ module _ (p p2 : Str) (small : length p2 < 65535) (f : ℕ → ℕ) where
         go false false false true h = cc
         go false false false false h = cc
 
-    plain-same : (pre rest : Str) (i o : ℕ) → length pre ≡ i → isPlain o ≡ true → operandFault side (length p) x i o ≡ Fine
-        → (operandAt p2 (pre ++ (operandBytes f x i o ++ rest)) i o ≡ operandAt p x i o) × (operandFault side (length p2) (pre ++ (operandBytes f x i o ++ rest)) i o ≡ Fine)
+    plain-same : (pre rest : Str) (i o : ℕ) → length pre ≡ i → isPlain o ≡ true → operandFault side p x i o ≡ Fine
+        → (operandAt p2 (pre ++ (operandBytes f x i o ++ rest)) i o ≡ operandAt p x i o) × (operandFault side p2 (pre ++ (operandBytes f x i o ++ rest)) i o ≡ Fine)
     unfolding operandAt operandBytes
     plain-same pre rest i o e q h =
         let b = plain-says pre rest i o e in
@@ -205,7 +188,7 @@ module _ (p p2 : Str) (small : length p2 < 65535) (f : ℕ → ℕ) where
       unfolding optTextAt textAt
       opt-after = ap optText tz ∙ opt-moved f (textAt x i) (optText (textAt x i)) refl (λ u e. let n = m u e .inside in omega arith)
 
-      text-says : (q : OptText) → optTextAt x i ≡ q → textFault (length p) Outside q ≡ Fine → textOf p2 (textAt z i) ≡ textOf p (textAt x i)
+      text-says : (q : OptText) → optTextAt x i ≡ q → textFault p Outside q ≡ Fine → textOf p2 (textAt z i) ≡ textOf p (textAt x i)
       unfolding optTextAt textOf textAt
       text-says Absent e h = absurd (let z : _≡_ {A = ℕ} 0 1 = cc in omega arith)
       text-says (Given u) e h =
@@ -214,12 +197,12 @@ module _ (p p2 : Str) (small : length p2 < 65535) (f : ℕ → ℕ) where
           let t2 : textAt z i ≡ textAs (f (u .start)) (u .len) = tz ∙ ap₂ textAs (ap (movedStart f) e) n in
           ap (textOf p2) t2 ∙ m u e .same ∙ ap (textOf p) (sym q)
 
-    module _ (i o : ℕ) (q : isPlain o ≡ false) (h : operandFault side (length p) x i o ≡ Fine) where
-      text-fault : textFault (length p) (ifAbsent side x o) (optTextAt x i) ≡ Fine
+    module _ (i o : ℕ) (q : isPlain o ≡ false) (h : operandFault side p x i o ≡ Fine) where
+      text-fault : textFault p (ifAbsent side x o) (optTextAt x i) ≡ Fine
       unfolding operandFault isPlain
       text-fault = go (letter o)
         where
-          go : Letter o → textFault (length p) (ifAbsent side x o) (optTextAt x i) ≡ Fine
+          go : Letter o → textFault p (ifAbsent side x o) (optTextAt x i) ≡ Fine
           go (flag e) = absurd (false≢true (sym q ∙ rw e))
           go (number e k) = absurd (false≢true (sym q ∙ rw (e, k)))
           go (word e k l) = absurd (false≢true (sym q ∙ rw (e, k, l)))
@@ -239,17 +222,17 @@ module _ (p p2 : Str) (small : length p2 < 65535) (f : ℕ → ℕ) where
             go : (t : Bool) → eqb o 84 ≡ t
                 → cond (isPlain o) (plain (bytesAt z i (wide o))) (cond t (text (textOf p2 (textAt z i))) (maybe (optOf p2 (optTextAt z i))))
                 ≡ cond (isPlain o) (plain (bytesAt x i (wide o))) (cond t (text (textOf p (textAt x i))) (maybe (optOf p (optTextAt x i))))
-            go true e = rw q (ap text (text-says z i o tz m (optTextAt x i) refl (ap (λ (k : Fault). textFault (length p) k (optTextAt x i)) (sym (required e)) ∙ text-fault)))
+            go true e = rw q (ap text (text-says z i o tz m (optTextAt x i) refl (ap (λ (k : Fault). textFault p k (optTextAt x i)) (sym (required e)) ∙ text-fault)))
             go false e = rw q (ap maybe (ap (optOf p2) (opt-after z i o tz m) ∙ opt-same (optTextAt x i) m))
 
-        text-faultless : operandFault side (length p2) z i o ≡ Fine
+        text-faultless : operandFault side p2 z i o ≡ Fine
         unfolding operandFault isPlain
         text-faultless = go (letter o)
           where
-            same : textFault (length p2) (ifAbsent side z o) (optTextAt z i) ≡ Fine
-            same = ap₂ (textFault (length p2)) (absent-same side x z o a) (opt-after z i o tz m) ∙ fault-same (ifAbsent side x o) (optTextAt x i) m text-fault
+            same : textFault p2 (ifAbsent side z o) (optTextAt z i) ≡ Fine
+            same = ap₂ (textFault p2) (absent-same side x z o a) (opt-after z i o tz m) ∙ fault-same (ifAbsent side x o) (optTextAt x i) m text-fault
 
-            go : Letter o → operandFault side (length p2) z i o ≡ Fine
+            go : Letter o → operandFault side p2 z i o ≡ Fine
             go (flag e) = absurd (false≢true (sym q ∙ rw e))
             go (number e k) = absurd (false≢true (sym q ∙ rw (e, k)))
             go (word e k l) = absurd (false≢true (sym q ∙ rw (e, k, l)))
@@ -304,39 +287,38 @@ module _ (p p2 : Str) (small : length p2 < 65535) (f : ℕ → ℕ) where
         go false (Given v) = List·Memᴰ·tail m
 
     -- one operand, written behind a front
-    operand-same : (pre rest : Str) (i o : ℕ) → length pre ≡ i → operandFault side (length p) x i o ≡ Fine
-        → ((u : Text) → isPlain o ≡ false → optTextAt x i ≡ Given u → u .start + u .len ≤ length p → Moved f p p2 u)
+    operand-same : (pre rest : Str) (i o : ℕ) → length pre ≡ i → operandFault side p x i o ≡ Fine
+        → ((u : Text) → isPlain o ≡ false → optTextAt x i ≡ Given u → Moved f p p2 u)
         → (eqb o 63 ≡ true → flagAt (pre ++ (operandBytes f x i o ++ rest)) 4 ≡ flagAt x 4)
-        → (operandAt p2 (pre ++ (operandBytes f x i o ++ rest)) i o ≡ operandAt p x i o) × (operandFault side (length p2) (pre ++ (operandBytes f x i o ++ rest)) i o ≡ Fine)
+        → (operandAt p2 (pre ++ (operandBytes f x i o ++ rest)) i o ≡ operandAt p x i o) × (operandFault side p2 (pre ++ (operandBytes f x i o ++ rest)) i o ≡ Fine)
     operand-same pre rest i o e h m a = go (isPlain o) refl
       where
         go : (t : Bool) → isPlain o ≡ t
-            → (operandAt p2 (pre ++ (operandBytes f x i o ++ rest)) i o ≡ operandAt p x i o) × (operandFault side (length p2) (pre ++ (operandBytes f x i o ++ rest)) i o ≡ Fine)
+            → (operandAt p2 (pre ++ (operandBytes f x i o ++ rest)) i o ≡ operandAt p x i o) × (operandFault side p2 (pre ++ (operandBytes f x i o ++ rest)) i o ≡ Fine)
         go true q = plain-same pre rest i o e q h
         go false q =
             let z : Str = pre ++ (operandBytes f x i o ++ rest) in
             let tz = text-written pre rest i o e q in
-            let n : (u : Text) → optTextAt x i ≡ Given u → Moved f p p2 u =
-            λ u k. m u q k (text-fits (ifAbsent side x o) u (ap (textFault (length p) (ifAbsent side x o)) (sym k) ∙ text-fault i o q h)) in
+            let n : (u : Text) → optTextAt x i ≡ Given u → Moved f p p2 u = λ u k. m u q k in
             (text-operand i o q h z tz n a, text-faultless i o q h z tz n a)
 
-    pub row-same : (pre rest : Str) (i : ℕ) (os : Str) → length pre ≡ i → faultsFrom side (length p) x i os ≡ Fine
-        → ((u : Text) → List·Memᴰ u (textsFrom x i os) → u .start + u .len ≤ length p → Moved f p p2 u)
+    pub row-same : (pre rest : Str) (i : ℕ) (os : Str) → length pre ≡ i → faultsFrom side p x i os ≡ Fine
+        → ((u : Text) → List·Memᴰ u (textsFrom x i os) → Moved f p p2 u)
         → ((o : ℕ) → List·Memᴰ o os → eqb o 63 ≡ true → flagAt (pre ++ (rowBytes f x i os ++ rest)) 4 ≡ flagAt x 4)
         → Same side x (pre ++ (rowBytes f x i os ++ rest)) i os
     unfolding faultsFrom rowBytes operandsAt
     row-same pre rest i [] e h m a = record { says = refl; fine = refl }
     row-same pre rest i (o ∷ os) e h m a =
-        let k = worse-both (operandFault side (length p) x i o) (faultsFrom side (length p) x (i + wide o) os) h in
+        let k = worse-both (operandFault side p x i o) (faultsFrom side p x (i + wide o) os) h in
         let ob : Str = operandBytes f x i o in
         let rb : Str = rowBytes f x (i + wide o) os in
         let z : Str = pre ++ ((ob ++ rb) ++ rest) in
         let e1 : z ≡ pre ++ (ob ++ (rb ++ rest)) = ap (λ (y : Str). pre ++ y) (append-assoc ob rb rest) in
         let e2 : z ≡ (pre ++ ob) ++ (rb ++ rest) = e1 ∙ sym (append-assoc pre ob (rb ++ rest)) in
         let n : length (pre ++ ob) ≡ i + wide o = length-append pre ob ∙ ap₂ (λ (c d : ℕ). c + d) e (length-operand i o) in
-        let here = operand-same pre (rb ++ rest) i o e (k .0) (λ u q t b. m u (text-member i o os u q t) b) (λ t. ap (λ (y : Str). flagAt y 4) (sym e1) ∙ a o (List·Memᴰ·head refl) t) in
-        let later = row-same (pre ++ ob) rest (i + wide o) os n (k .1) (λ u q b. m u (text-later i o os u q) b) (λ c q t. ap (λ (y : Str). flagAt y 4) (sym e2) ∙ a c (List·Memᴰ·tail q) t) in
+        let here = operand-same pre (rb ++ rest) i o e (k .0) (λ u q t. m u (text-member i o os u q t)) (λ t. ap (λ (y : Str). flagAt y 4) (sym e1) ∙ a o (List·Memᴰ·head refl) t) in
+        let later = row-same (pre ++ ob) rest (i + wide o) os n (k .1) (λ u q. m u (text-later i o os u q)) (λ c q t. ap (λ (y : Str). flagAt y 4) (sym e2) ∙ a c (List·Memᴰ·tail q) t) in
         record {
           says = ap₂ (λ (y : Operand) (l : List Operand). y ∷ l) (ap (λ (y : Str). operandAt p2 y i o) e1 ∙ here .0) (ap (λ (y : Str). operandsAt p2 y (i + wide o) os) e2 ∙ later .says);
-          fine = ap₂ worseOf (ap (λ (y : Str). operandFault side (length p2) y i o) e1 ∙ here .1) (ap (λ (y : Str). faultsFrom side (length p2) y (i + wide o) os) e2 ∙ later .fine);
+          fine = ap₂ worseOf (ap (λ (y : Str). operandFault side p2 y i o) e1 ∙ here .1) (ap (λ (y : Str). faultsFrom side p2 y (i + wide o) os) e2 ∙ later .fine);
         }

@@ -18,7 +18,8 @@ use Rattle.record.specs.declared.command.Cursor.{Cursor}
 use Rattle.record.specs.declared.command.Step.the-variants.{Next, Stop}
 use Rattle.record.proofs.Stream.{commands-next, commands-stop, step-found, along}
 use Rattle.record.proofs.WriterLaws.{puts-then, puts-as}
-use Rattle.drafts.specs.Packing.{textsAt, textsOf, covered, kept, keptBefore, movedTo, writtenAt, written, packedCommands, packedPool}
+use Rattle.record.specs.CommandTexts.{textsAt}
+use Rattle.drafts.specs.Packing.{textsOf, covered, kept, keptBefore, movedTo, writtenAt, written, packedCommands, packedPool}
 use Rattle.drafts.specs.Code.{upTo, rankAt, startOf, chosen, Marks, isMarked, marksBefore, Ranked}
 use Rattle.drafts.specs.Packed.{Desk, Packed}
 use Rattle.drafts.specs.declared.pack.Ends.{Ends}

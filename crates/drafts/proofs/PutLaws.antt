@@ -23,7 +23,8 @@ use Rattle.record.specs.declared.command.Step.the-variants.{Next, Stop}
 use Rattle.record.proofs.Stream.{commands-next, commands-stop}
 use Rattle.record.proofs.SeekLaws.{stepped, ended-there}
 use Rattle.record.proofs.WriterLaws.{puts-none, puts-then, puts-as}
-use Rattle.drafts.specs.Content.{bytesAt, isPlain}
+use Rattle.record.specs.CommandTexts.{isPlain}
+use Rattle.drafts.specs.Content.{bytesAt}
 use Rattle.drafts.specs.Packing.{le2, movedStart, operandBytes, rowBytes, rowWith, writtenAt, written}
 use Rattle.drafts.specs.Code.{orNone, upTo, rankAt, startOf, textBytes}
 

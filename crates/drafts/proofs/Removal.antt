@@ -91,7 +91,7 @@ module _ (r : Rec) (t : Schema) (h : reading Current r ≡ read t) (v : Str) (y 
   stream-short =
       let ps = without (r .stream) (r .pool) v (commandsAt (r .stream) 0) in
       let f = movedTo 0 (textsOf (r .stream) ps) (r .pool) in
-      let a = length-all Current (r .stream) (length (r .pool)) f (length (r .stream) + 1) start (commandsAt (r .stream) 0) (parse-all Current r t h) in
+      let a = length-all Current (r .stream) (r .pool) f (length (r .stream) + 1) start (commandsAt (r .stream) 0) (parse-all Current r t h) in
       let b = without-short f (r .stream) (r .pool) v (commandsAt (r .stream) 0) in
       let c = length-append (joined (written f (r .stream) ps)) (15 ∷ []) in
       let d = accepting Current r t h .stream-short in

@@ -69,14 +69,14 @@ sizes-read r h =
 
 -- lengths --------------------------------------------------------------------------------------------------------------------------
 
-module _ (side : Side) (s : Str) (n : ℕ) (f : ℕ → ℕ) where
-  done-at : (c : Cursor) → judgedAt side s n c ≡ Done → c .at + 1 ≡ length s
+module _ (side : Side) (s : Str) (pool : Str) (f : ℕ → ℕ) where
+  done-at : (c : Cursor) → judgedAt side s pool c ≡ Done → c .at + 1 ≡ length s
   unfolding ready operands bytes widths
   done-at c e =
-      let p = passed side s n c Done tt e in
+      let p = passed side s pool c Done tt e in
       go p (eqb (getD s (c .at) 0) 15) refl (eqb (c .at + (1 + widths (p .row))) (length s)) refl (p .is-ready)
     where
-      go : (p : Passed side s n c Done) (t : Bool) → eqb (getD s (c .at) 0) 15 ≡ t → (u : Bool) → eqb (c .at + (1 + widths (p .row))) (length s) ≡ u
+      go : (p : Passed side s pool c Done) (t : Bool) → eqb (getD s (c .at) 0) 15 ≡ t → (u : Bool) → eqb (c .at + (1 + widths (p .row))) (length s) ≡ u
           → cond t (cond u Done (Refused R.Misplaced (c .at + (1 + widths (p .row))))) (Next (commandOf (getD s (c .at) 0) (drop (c .at) s)) (moved c (getD s (c .at) 0) (1 + widths (p .row)))) ≡ Done
           → c .at + 1 ≡ length s
       go p true q true w h =
@@ -93,16 +93,16 @@ module _ (side : Side) (s : Str) (n : ℕ) (f : ℕ → ℕ) where
   length-written at row e = rw e (let z = length-row [] [] (omega arith) f side (drop at s) 1 row in omega arith)
 
   -- commands written anew take as many bytes
-  pub length-all : (k : ℕ) (c : Cursor) (ps : List ℕ) → parse k side s n c ≡ ok ps → c .at + length (joined (written f s ps)) + 1 ≡ length s
+  pub length-all : (k : ℕ) (c : Cursor) (ps : List ℕ) → parse k side s pool c ≡ ok ps → c .at + length (joined (written f s ps)) + 1 ≡ length s
   unfolding parse continued joined written
   length-all zero c ps h = absurd (let z : _≡_ {A = ℕ} 0 1 = cc in omega arith)
-  length-all (suc k) c ps h = go (judgedAt side s n c) refl h (λ j qs e. length-all k j qs e)
+  length-all (suc k) c ps h = go (judgedAt side s pool c) refl h (λ j qs e. length-all k j qs e)
     where
-      go : (j : Judged) → judgedAt side s n c ≡ j → continued (c .at) (parse k side s n) j ≡ ok ps
-          → ((j : Cursor) (qs : List ℕ) → parse k side s n j ≡ ok qs → j .at + length (joined (written f s qs)) + 1 ≡ length s) → c .at + length (joined (written f s ps)) + 1 ≡ length s
+      go : (j : Judged) → judgedAt side s pool c ≡ j → continued (c .at) (parse k side s pool) j ≡ ok ps
+          → ((j : Cursor) (qs : List ℕ) → parse k side s pool j ≡ ok qs → j .at + length (joined (written f s qs)) + 1 ≡ length s) → c .at + length (joined (written f s ps)) + 1 ≡ length s
       go (Next d j) e h ih =
-          let t = onto-ok (c .at) (parse k side s n j) ps h in
-          let w = went side s n c d j e in
+          let t = onto-ok (c .at) (parse k side s pool j) ps h in
+          let w = went side s pool c d j e in
           let i = ih j (t .more) (t .parsed-so) in
           let a : c .at + (1 + widths (w .row)) ≡ j .at = ap (λ (x : Cursor). x .at) (w .next) in
           let b = length-append (writtenAt f s (c .at)) (joined (written f s (t .more))) in

@@ -102,7 +102,7 @@ pub too-wide : (s p : Str) (w : List Scalar) → 16384 < length p → reading Cu
 unfolding reading concluded poolLimit
 too-wide s p w h = rw (lt-leb (length p) 16384 h) (either (leb (length s) streamLimit))
   where
-    either : (x : Bool) → concluded (rec s p w) (x && false) (oddLetter 0 p) (parsed Current (rec s p w)) ≡ refuse R.Long 0
+    either : (x : Bool) → concluded (rec s p w) (x && false) (oddLetter p) (parsed Current (rec s p w)) ≡ refuse R.Long 0
     either true = refl
     either false = refl
 

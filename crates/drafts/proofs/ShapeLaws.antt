@@ -80,9 +80,9 @@ module _ (s : Str) (c : Cursor) (m : Refusal) (q : ℕ) where
           }
       go false z u h = absurd (let z : _≡_ {A = ℕ} 0 1 = cc in omega arith)
 
-  refusing : (n : ℕ) → judgedAt Current s n c ≡ Refused m q → Refusing s c m q
+  refusing : (pool : Str) → judgedAt Current s pool c ≡ Refused m q → Refusing s c m q
   unfolding judgedAt judgedWith
-  refusing n e = past (ltb (c .at) (length s)) (operands (getD s (c .at) 0)) e
+  refusing pool e = past (ltb (c .at) (length s)) (operands (getD s (c .at) 0)) e
     where
       whole : (os : Str) (b t : Bool) (f : Fault)
           → cond b (Refused R.Cut (c .at)) (cond t (faulted (c .at) (ready s c (getD s (c .at) 0) (1 + widths os)) f) (Refused R.Misplaced (c .at))) ≡ Refused m q
@@ -94,11 +94,11 @@ module _ (s : Str) (c : Cursor) (m : Refusal) (q : ℕ) where
       whole os false true F.Flag h = at-place R.Flag refl h
       whole os false true F.Fine h = at-end (getD s (c .at) 0) (1 + widths os) refl h
 
-      past : (b : Bool) (o : Option Str) → cond b (judgedAs Current s n c (getD s (c .at) 0) o) (Refused R.Cut (c .at)) ≡ Refused m q → Refusing s c m q
+      past : (b : Bool) (o : Option Str) → cond b (judgedAs Current s pool c (getD s (c .at) 0) o) (Refused R.Cut (c .at)) ≡ Refused m q → Refusing s c m q
       past false o h = at-place R.Cut refl h
       past true none h = at-place R.Unknown refl h
       past true (some os) h =
-          whole os (ltb (length s - c .at) (1 + widths os)) (mayStand c (getD s (c .at) 0)) (faultsFrom Current n (drop (c .at) s) 1 os) h
+          whole os (ltb (length s - c .at) (1 + widths os)) (mayStand c (getD s (c .at) 0)) (faultsFrom Current pool (drop (c .at) s) 1 os) h
 
 -- the first refusal among commands is none of sizes, and not before the cursor
 record Placed (c : Cursor) (m : Refusal) (q : ℕ) : Type 0 where
@@ -110,28 +110,28 @@ unfolding onto
 onto-bad at (ok ps) m q h = absurd (let z : _≡_ {A = ℕ} 0 1 = cc in omega arith)
 onto-bad at (bad n p) m q h = h
 
-module _ (s : Str) (n : ℕ) where
-  placed : (k : ℕ) (c : Cursor) (m : Refusal) (q : ℕ) → parse k Current s n c ≡ bad m q → Placed c m q
+module _ (s : Str) (pool : Str) where
+  placed : (k : ℕ) (c : Cursor) (m : Refusal) (q : ℕ) → parse k Current s pool c ≡ bad m q → Placed c m q
   unfolding parse continued
   placed zero c m q h =
       let a : R.Cut ≡ m = cc in
       let b : c .at ≡ q = cc in
       record { ahead = omega arith; command = subst (λ (y : Refusal). isVast y ≡ false) a refl }
-  placed (suc k) c m q h = go (placed k) (judgedAt Current s n c) refl h
+  placed (suc k) c m q h = go (placed k) (judgedAt Current s pool c) refl h
     where
-      go : ((d : Cursor) (m : Refusal) (q : ℕ) → parse k Current s n d ≡ bad m q → Placed d m q) → (j : Judged) → judgedAt Current s n c ≡ j
-          → continued (c .at) (parse k Current s n) j ≡ bad m q → Placed c m q
+      go : ((d : Cursor) (m : Refusal) (q : ℕ) → parse k Current s pool d ≡ bad m q → Placed d m q) → (j : Judged) → judgedAt Current s pool c ≡ j
+          → continued (c .at) (parse k Current s pool) j ≡ bad m q → Placed c m q
       go ih (Next d j) e h =
-          let f = step-found s (c .at) _ _ (judged-step Current s n c d j e) in
+          let f = step-found s (c .at) _ _ (judged-step Current s pool c d j e) in
           let on = f .on in
-          let r = ih j m q (onto-bad (c .at) (parse k Current s n j) m q h) in
+          let r = ih j m q (onto-bad (c .at) (parse k Current s pool j) m q h) in
           let on2 = r .ahead in
           record { ahead = omega arith; command = r .command }
       go ih Done e h = absurd (let z : _≡_ {A = ℕ} 0 1 = cc in omega arith)
       go ih (Refused x p) e h =
           let a : x ≡ m = cc in
           let b : p ≡ q = cc in
-          let r = refusing s c x p n e in
+          let r = refusing s c x p pool e in
           let on = r .ahead in
           record { ahead = omega arith; command = subst (λ (y : Refusal). isVast y ≡ false) a (r .command) }
 
@@ -140,9 +140,9 @@ module _ (s : Str) (n : ℕ) where
   outcome-bad (ok ps) m q h = absurd (let z : _≡_ {A = ℕ} 0 1 = cc in omega arith)
   outcome-bad (bad x p) m q h = let a : m ≡ x = cc in let b : q ≡ p = cc in rw (a, b)
 
-  placed-from : (c : Cursor) (m : Refusal) (q : ℕ) → O.Refused m q ≡ outcomeOf (parsedFrom Current s n c) → Placed c m q
+  placed-from : (c : Cursor) (m : Refusal) (q : ℕ) → O.Refused m q ≡ outcomeOf (parsedFrom Current s pool c) → Placed c m q
   unfolding parsedFrom
-  placed-from c m q h = placed (length s + 1 - c .at) c m q (outcome-bad (parsedFrom Current s n c) m q h)
+  placed-from c m q h = placed (length s + 1 - c .at) c m q (outcome-bad (parsedFrom Current s pool c) m q h)
 
 -- one command -----------------------------------------------------------------------------------------------------------------------------------
 
@@ -164,55 +164,55 @@ moved-last s c b w d k e = go (eqb b 15) (eqb (c .at + w) (length s)) e
     go true false h = absurd (let z : _≡_ {A = ℕ} 0 1 = cc in omega arith)
     go false u h = let a : moved c b w ≡ k = cc in ap (λ (j : Cursor). j .last) (sym a)
 
-module _ (s : Str) (n : ℕ) (c : Cursor) (o : Outcome) (e : o ≡ outcomeOf (parsedFrom Current s n c)) where
+module _ (s : Str) (pool : Str) (c : Cursor) (o : Outcome) (e : o ≡ outcomeOf (parsedFrom Current s pool c)) where
   -- a reading that passes this command is refused later, if at all
-  not-here : (d : Command) (k : Cursor) → judgedAt Current s n c ≡ Next d k → refusedAt o (c .at) ≡ false
+  not-here : (d : Command) (k : Cursor) → judgedAt Current s pool c ≡ Next d k → refusedAt o (c .at) ≡ false
   not-here d k j = go o e
     where
       step : c .at < k .at
-      step = step-found s (c .at) _ _ (judged-step Current s n c d k j) .on
+      step = step-found s (c .at) _ _ (judged-step Current s pool c d k j) .on
 
-      go : (x : Outcome) → x ≡ outcomeOf (parsedFrom Current s n c) → refusedAt x (c .at) ≡ false
+      go : (x : Outcome) → x ≡ outcomeOf (parsedFrom Current s pool c) → refusedAt x (c .at) ≡ false
       go O.Readable f = refl
       go (O.Refused m q) f =
-          let r = placed-from s n k m q (f ∙ commands-on Current s n c (judgedAt Current s n c) refl d k j) in
+          let r = placed-from s pool k m q (f ∙ commands-on Current s pool c (judgedAt Current s pool c) refl d k j) in
           let a = r .ahead in
           let b = step in
           ne-eqb q (c .at) (λ z. omega arith)
 
   -- where the command may stand in an addition, it is judged as a current record's
   module _ (a : mayAdd (c .last) (getD s (c .at) 0) ≡ true) where
-    as-plain : additionAt s n c ≡ judgedAt Current s n c
-    as-plain = addition-is s n c ∙ rw a (either (comesFirst (judgedAt Current s n c)))
+    as-plain : additionAt s pool c ≡ judgedAt Current s pool c
+    as-plain = addition-is s pool c ∙ rw a (either (comesFirst (judgedAt Current s pool c)))
       where
-        either : (b : Bool) → cond b (judgedAt Current s n c) (judgedAt Current s n c) ≡ judgedAt Current s n c
+        either : (b : Bool) → cond b (judgedAt Current s pool c) (judgedAt Current s pool c) ≡ judgedAt Current s pool c
         either true = refl
         either false = refl
 
-    fits-last : onward s o (c .at) ≡ 0 → o ≡ outcomeOf (additionFrom s n c)
+    fits-last : onward s o (c .at) ≡ 0 → o ≡ outcomeOf (additionFrom s pool c)
     unfolding onward
-    fits-last z = go (judgedAt Current s n c) refl
+    fits-last z = go (judgedAt Current s pool c) refl
       where
-        go : (j : Judged) → judgedAt Current s n c ≡ j → o ≡ outcomeOf (additionFrom s n c)
+        go : (j : Judged) → judgedAt Current s pool c ≡ j → o ≡ outcomeOf (additionFrom s pool c)
         go (Next d k) h =
-            let t = judged-step Current s n c d k h in
+            let t = judged-step Current s pool c d k h in
             let b = step-found s (c .at) _ _ t .on in
             let y : afterAt s (c .at) ≡ 0 = rw (not-here d k h) at z in
             let x = after-next s (c .at) _ _ t in
             absurd (omega arith)
-        go Done h = e ∙ commands-done Current s n c (judgedAt Current s n c) refl h ∙ sym (adds-done s n c (additionAt s n c) refl (as-plain ∙ h))
+        go Done h = e ∙ commands-done Current s pool c (judgedAt Current s pool c) refl h ∙ sym (adds-done s pool c (additionAt s pool c) refl (as-plain ∙ h))
         go (Refused m q) h =
-            e ∙ commands-refused Current s n c (judgedAt Current s n c) refl m q h
-            ∙ sym (adds-refused s n c (additionAt s n c) refl m q (as-plain ∙ h))
+            e ∙ commands-refused Current s pool c (judgedAt Current s pool c) refl m q h
+            ∙ sym (adds-refused s pool c (additionAt s pool c) refl m q (as-plain ∙ h))
 
-  fits-not : mayAdd (c .last) (getD s (c .at) 0) ≡ false → misfit o (c .at) ≡ outcomeOf (additionFrom s n c)
-  fits-not a = go (judgedAt Current s n c) refl
+  fits-not : mayAdd (c .last) (getD s (c .at) 0) ≡ false → misfit o (c .at) ≡ outcomeOf (additionFrom s pool c)
+  fits-not a = go (judgedAt Current s pool c) refl
     where
-      third : comesFirst (judgedAt Current s n c) ≡ false → additionAt s n c ≡ Refused R.Misplaced (c .at)
-      third f = addition-is s n c ∙ rw (f, a)
+      third : comesFirst (judgedAt Current s pool c) ≡ false → additionAt s pool c ≡ Refused R.Misplaced (c .at)
+      third f = addition-is s pool c ∙ rw (f, a)
 
-      said : additionAt s n c ≡ Refused R.Misplaced (c .at) → O.Refused R.Misplaced (c .at) ≡ outcomeOf (additionFrom s n c)
-      said h = sym (adds-refused s n c (additionAt s n c) refl R.Misplaced (c .at) h)
+      said : additionAt s pool c ≡ Refused R.Misplaced (c .at) → O.Refused R.Misplaced (c .at) ≡ outcomeOf (additionFrom s pool c)
+      said h = sym (adds-refused s pool c (additionAt s pool c) refl R.Misplaced (c .at) h)
 
       later : (x : Outcome) → refusedAt x (c .at) ≡ false → misfit x (c .at) ≡ O.Refused R.Misplaced (c .at)
       later O.Readable h = refl
@@ -222,51 +222,51 @@ module _ (s : Str) (n : ℕ) (c : Cursor) (o : Outcome) (e : o ≡ outcomeOf (pa
           either true = refl
           either false = refl
 
-      go : (j : Judged) → judgedAt Current s n c ≡ j → misfit o (c .at) ≡ outcomeOf (additionFrom s n c)
+      go : (j : Judged) → judgedAt Current s pool c ≡ j → misfit o (c .at) ≡ outcomeOf (additionFrom s pool c)
       go (Next d k) h = later o (not-here d k h) ∙ said (third (ap comesFirst h))
-      go Done h = rw (e ∙ commands-done Current s n c (judgedAt Current s n c) refl h) (said (third (ap comesFirst h)))
-      go (Refused m q) h = rw (e ∙ commands-refused Current s n c (judgedAt Current s n c) refl m q h) (either (isFirst m) refl)
+      go Done h = rw (e ∙ commands-done Current s pool c (judgedAt Current s pool c) refl h) (said (third (ap comesFirst h)))
+      go (Refused m q) h = rw (e ∙ commands-refused Current s pool c (judgedAt Current s pool c) refl m q h) (either (isFirst m) refl)
         where
           either : (b : Bool) → isFirst m ≡ b
-              → cond (b && eqb q (c .at)) (O.Refused m q) (O.Refused R.Misplaced (c .at)) ≡ outcomeOf (additionFrom s n c)
+              → cond (b && eqb q (c .at)) (O.Refused m q) (O.Refused R.Misplaced (c .at)) ≡ outcomeOf (additionFrom s pool c)
           either true f =
-              rw (eq-eqb q (c .at) (refusing s c m q n h .first f))
-              (sym (adds-refused s n c (additionAt s n c) refl m q (addition-is s n c ∙ rw (h, f))))
+              rw (eq-eqb q (c .at) (refusing s c m q pool h .first f))
+              (sym (adds-refused s pool c (additionAt s pool c) refl m q (addition-is s pool c ∙ rw (h, f))))
           either false f = said (third (ap comesFirst h ∙ f))
 
 -- along the commands ------------------------------------------------------------------------------------------------------------------------------
 
 -- the reading passes a cursor at this place after a command of this number, and the addition's judgement too
-pub record Passing (s : Str) (n : ℕ) (o : Outcome) (at last : ℕ) : Type 0 where
+pub record Passing (s : Str) (pool : Str) (o : Outcome) (at last : ℕ) : Type 0 where
   pub cursor : Cursor
   pub is-at : cursor .at ≡ at
   pub is-last : cursor .last ≡ last
-  pub plain : o ≡ outcomeOf (parsedFrom Current s n cursor)
-  pub added : outcomeOf (additionFrom s n start) ≡ outcomeOf (additionFrom s n cursor)
+  pub plain : o ≡ outcomeOf (parsedFrom Current s pool cursor)
+  pub added : outcomeOf (additionFrom s pool start) ≡ outcomeOf (additionFrom s pool cursor)
 
 pub record Along (s : Str) (o : Outcome) (at last : ℕ) : Type 0 where
-  pub so : (n : ℕ) → o ≡ outcomeOf (parsedFrom Current s n start) → Passing s n o at last
+  pub so : (pool : Str) → o ≡ outcomeOf (parsedFrom Current s pool start) → Passing s pool o at last
 
 pub along-front : (s : Str) (o : Outcome) → Along s o 0 0
-along-front s o = record { so = λ n e. record { cursor = start; is-at = refl; is-last = refl; plain = e; added = refl } }
+along-front s o = record { so = λ pool e. record { cursor = start; is-at = refl; is-last = refl; plain = e; added = refl } }
 
 module _ (s : Str) (o : Outcome) (at last : ℕ) (w : Along s o at last) (b : ℕ) (i : b ≡ getD s at 0) (t : Bool) (f : t ≡ mayAdd last b) where
-  may : (n : ℕ) (p : Passing s n o at last) → mayAdd (p .cursor .last) (getD s (p .cursor .at) 0) ≡ t
-  may n p = rw (p .is-at, p .is-last, ← i, ← f)
+  may : (pool : Str) (p : Passing s pool o at last) → mayAdd (p .cursor .last) (getD s (p .cursor .at) 0) ≡ t
+  may pool p = rw (p .is-at, p .is-last, ← i, ← f)
 
   pub shape-misfit : (r : Outcome) → t ≡ false → r ≡ misfit o at → Shaped s o r
   shape-misfit r h g = record {
-    so = λ n e.
-        let p = w .so n e in
-        g ∙ ap (misfit o) (sym (p .is-at)) ∙ fits-not s n (p .cursor) o (p .plain) (may n p ∙ h) ∙ sym (p .added);
+    so = λ pool e.
+        let p = w .so pool e in
+        g ∙ ap (misfit o) (sym (p .is-at)) ∙ fits-not s pool (p .cursor) o (p .plain) (may pool p ∙ h) ∙ sym (p .added);
   }
 
   module _ (h : t ≡ true) (k : ℕ) (g : k ≡ onward s o at) where
     pub shape-whole : k ≡ 0 → Shaped s o o
     shape-whole z = record {
-      so = λ n e.
-          let p = w .so n e in
-          fits-last s n (p .cursor) o (p .plain) (may n p ∙ h) (ap (onward s o) (p .is-at) ∙ sym g ∙ z) ∙ sym (p .added);
+      so = λ pool e.
+          let p = w .so pool e in
+          fits-last s pool (p .cursor) o (p .plain) (may pool p ∙ h) (ap (onward s o) (p .is-at) ∙ sym g ∙ z) ∙ sym (p .added);
     }
 
     module _ (z : k ≡ 0 → ⊥) where
@@ -278,8 +278,8 @@ module _ (s : Str) (o : Outcome) (at last : ℕ) (w : Along s o at last) (b : �
       pub shape-nearer : length s - k < length s - at
       shape-nearer = after-nearer s at k (on (refusedAt o at) refl .0) z
 
-      step-on : (n : ℕ) (p : Passing s n o at last) → Passing s n o k b
-      step-on n p = go (judgedAt Current s n c) refl
+      step-on : (pool : Str) (p : Passing s pool o at last) → Passing s pool o k b
+      step-on pool p = go (judgedAt Current s pool c) refl
         where
           c : Cursor
           c = p .cursor
@@ -290,27 +290,27 @@ module _ (s : Str) (o : Outcome) (at last : ℕ) (w : Along s o at last) (b : �
           to : k ≡ afterAt s (c .at)
           to = going .0 ∙ ap (afterAt s) (sym (p .is-at))
 
-          go : (j : Judged) → judgedAt Current s n c ≡ j → Passing s n o k b
+          go : (j : Judged) → judgedAt Current s pool c ≡ j → Passing s pool o k b
           go (Next d j) q =
-              let r = judged-step Current s n c d j q in
-              let l = passed Current s n c (Next d j) tt q in
+              let r = judged-step Current s pool c d j q in
+              let l = passed Current s pool c (Next d j) tt q in
               record {
                 cursor = j;
                 is-at = sym (to ∙ after-next s (c .at) _ _ r);
                 is-last = moved-last s c (getD s (c .at) 0) (1 + widths (l .row)) d j (l .is-ready) ∙ ap (λ (a : ℕ). getD s a 0) (p .is-at) ∙ sym i;
-                plain = p .plain ∙ commands-on Current s n c (judgedAt Current s n c) refl d j q;
-                added = p .added ∙ adds-on s n c (additionAt s n c) refl d j (as-plain s n c o (p .plain) (may n p ∙ h) ∙ q);
+                plain = p .plain ∙ commands-on Current s pool c (judgedAt Current s pool c) refl d j q;
+                added = p .added ∙ adds-on s pool c (additionAt s pool c) refl d j (as-plain s pool c o (p .plain) (may pool p ∙ h) ∙ q);
               }
-          go Done q = absurd (z (to ∙ after-stop s (c .at) (judged-stop Current s n c q)))
+          go Done q = absurd (z (to ∙ after-stop s (c .at) (judged-stop Current s pool c q)))
           go (Refused m y) q =
               let st = stepped s (c .at) k to z in
-              let a : y ≡ at = refusing s c m y n q .here (st .command) (st .cursor) (st .step) ∙ p .is-at in
-              let e : o ≡ O.Refused m y = p .plain ∙ commands-refused Current s n c (judgedAt Current s n c) refl m y q in
+              let a : y ≡ at = refusing s c m y pool q .here (st .command) (st .cursor) (st .step) ∙ p .is-at in
+              let e : o ≡ O.Refused m y = p .plain ∙ commands-refused Current s pool c (judgedAt Current s pool c) refl m y q in
               let u : eqb y at ≡ false = sym (ap (λ (x : Outcome). refusedAt x at) e) ∙ going .1 in
               absurd (eqb-false y at u a)
 
       pub shape-on : Along s o k b
-      shape-on = record { so = λ n e. step-on n (w .so n e) }
+      shape-on = record { so = λ pool e. step-on pool (w .so pool e) }
 
 -- the functions on the way --------------------------------------------------------------------------------------------------------------------------
 
@@ -349,7 +349,7 @@ module _ (o : Outcome) (at : ℕ) (m : Refusal) (q : ℕ) (e : o ≡ O.Refused m
 
 -- the whole addition --------------------------------------------------------------------------------------------------------------------------------
 
-module _ (s p : Str) (a : length s ≤ 32768) (b : length p ≤ 16384) (l : Letters) (e : l ≡ oddLetter 0 p)
+module _ (s p : Str) (a : length s ≤ 32768) (b : length p ≤ 16384) (l : Letters) (e : l ≡ oddLetter p)
     (g : OneOf (0 ∷ []) (tagOf letters-type.the-type l)) where
   commands-only : (ws : List Scalar) (o : Outcome) → readingOf (rec s p ws) o ≡ reading Current (rec s p ws)
       → commandsRead o ≡ outcomeOf (parsed Current (rec s p ws))
@@ -369,7 +369,7 @@ module _ (s p : Str) (a : length s ≤ 32768) (b : length p ≤ 16384) (l : Lett
 
       go : (x : Parsed) → parsed Current (rec s p ws) ≡ x → readingOf (rec s p ws) o ≡ concluded (rec s p ws) true Good x
           → commandsRead o ≡ outcomeOf x
-      go (bad m q) f h = refused o m q (placed s (length p) (length s + 1) start m q f .command) h
+      go (bad m q) f h = refused o m q (placed s p (length s + 1) start m q f .command) h
       go (ok ps) f h = vasts o (find (vast (schemaFrom (rec s p ws) ps)) (opened s p ps)) ps h
 
   pub addition-shaped : (ws : List Scalar) (o c r : Outcome) → Read Current (rec s p ws) o → c ≡ commandsRead o → Shaped s c r
@@ -377,5 +377,5 @@ module _ (s p : Str) (a : length s ≤ 32768) (b : length p ≤ 16384) (l : Lett
   unfolding parsedFrom parsed
   addition-shaped ws o c r h i k =
       let z : length s + 1 ≡ length s + 1 - 0 = omega arith in
-      let f = ap (λ (m : ℕ). outcomeOf (parse m Current s (length p) start)) z in
-      addition-whole s p a b l e g r (k .so (length p) (i ∙ commands-only ws o (h .answer) ∙ f))
+      let f = ap (λ (m : ℕ). outcomeOf (parse m Current s p start)) z in
+      addition-whole s p a b l e g r (k .so p (i ∙ commands-only ws o (h .answer) ∙ f))

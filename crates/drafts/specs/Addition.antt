@@ -31,18 +31,18 @@ unfoldable pub mayAdd : ℕ → ℕ → Bool
 mayAdd last b = cond (eqb last 0) (eqb b 1) (cond (eqb last 1) (isType b) (isPart b || eqb b 15))
 
 -- the command at a cursor, judged as a current record's with this one rule of place more
-unfoldable pub additionAs : Str → ℕ → Cursor → ℕ → Option Str → Judged
-additionAs s n c b none = Refused R.Unknown (c .at)
-additionAs s n c b (some os) = judgedWith Current s n c os (1 + widths os) (mayStand c b && mayAdd (c .last) b)
+unfoldable pub additionAs : Str → Str → Cursor → ℕ → Option Str → Judged
+additionAs s p c b none = Refused R.Unknown (c .at)
+additionAs s p c b (some os) = judgedWith Current s p c os (1 + widths os) (mayStand c b && mayAdd (c .last) b)
 
-unfoldable pub additionAt : Str → ℕ → Cursor → Judged
-additionAt s n c =
-    cond (ltb (c .at) (length s)) (additionAs s n c (getD s (c .at) 0) (operands (getD s (c .at) 0))) (Refused R.Cut (c .at))
+unfoldable pub additionAt : Str → Str → Cursor → Judged
+additionAt s p c =
+    cond (ltb (c .at) (length s)) (additionAs s p c (getD s (c .at) 0) (operands (getD s (c .at) 0))) (Refused R.Cut (c .at))
 
 -- the places of the commands from a cursor on, or the first refusal
-unfoldable pub parseAddition : ℕ → Str → ℕ → Cursor → Parsed
-parseAddition zero s n c = bad R.Cut (c .at)
-parseAddition (suc k) s n c = continued (c .at) (parseAddition k s n) (additionAt s n c)
+unfoldable pub parseAddition : ℕ → Str → Str → Cursor → Parsed
+parseAddition zero s p c = bad R.Cut (c .at)
+parseAddition (suc k) s p c = continued (c .at) (parseAddition k s p) (additionAt s p c)
 
 -- 8 and 7 go before the commands
 unfoldable pub concludedAddition : Bool → Letters → Parsed → Parsed
@@ -53,5 +53,5 @@ concludedAddition true Good c = c
 -- the places of an addition's commands, or its refusal
 unfoldable pub addition : Rec → Parsed
 addition r =
-    concludedAddition (leb (length (r .stream)) streamLimit && leb (length (r .pool)) poolLimit) (oddLetter 0 (r .pool))
-    (parseAddition (length (r .stream) + 1) (r .stream) (length (r .pool)) start)
+    concludedAddition (leb (length (r .stream)) streamLimit && leb (length (r .pool)) poolLimit) (oddLetter (r .pool))
+    (parseAddition (length (r .stream) + 1) (r .stream) (r .pool) start)

@@ -14,9 +14,9 @@ use Rattle.record.specs.Read.{readingOf, Exact}
 use Rattle.record.specs.declared.text.Text.{Text}
 use Rattle.record.specs.declared.read.Outcome.{Outcome}
 use Rattle.record.specs.declared.read.Outcome.the-variants.{Readable}
-use Rattle.drafts.specs.Content.{isPlain}
+use Rattle.record.specs.CommandTexts.{isPlain, given}
 use Rattle.drafts.specs.Parts.{heldRec, readHeld}
-use Rattle.drafts.specs.Packing.{le2, given, covered}
+use Rattle.drafts.specs.Packing.{le2, covered}
 
 -- the reading of the record in a buffer
 pub record HeldRead (w : List Scalar) (b : Str) (r : Outcome) : Type 0 where

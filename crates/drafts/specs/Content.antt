@@ -3,13 +3,14 @@
 use Prim.Native.Nat.{ℕ, zero, suc, _+_}
 use mathlib.Core.List.{List, [], _∷_, map}
 use mathlib.Core.Option.{Option, none, some}
-use mathlib.Core.Bool.{Bool, _||_, cond}
+use mathlib.Core.Bool.{cond}
 use lib.ListN.{getD, drop}
 use lib.Dec.{eqb}
 use Rattle.record.specs.Base.{Str}
 use Rattle.record.specs.Stretch.{textOf}
 use Rattle.record.specs.Operands.{textAt, optTextAt}
 use Rattle.record.specs.Commands.{operands, wide, commandsAt}
+use Rattle.record.specs.CommandTexts.{isPlain}
 use Rattle.record.specs.Lists.{optOf}
 use Rattle.record.specs.Reading.{Rec}
 
@@ -26,10 +27,6 @@ pub record Content : Type 0 where
 unfoldable pub bytesAt : Str → ℕ → ℕ → Str
 bytesAt x i zero = []
 bytesAt x i (suc n) = getD x i 0 ∷ bytesAt x (i + 1) n
-
--- 01's F, N, W and V; every other operand is a text
-unfoldable pub isPlain : ℕ → Bool
-isPlain o = eqb o 70 || eqb o 78 || eqb o 87 || eqb o 86
 
 -- the operand of a letter at a place of the command's bytes; a T is there, an O may be absent
 unfoldable pub operandAt : Str → Str → ℕ → ℕ → Operand

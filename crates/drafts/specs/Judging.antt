@@ -59,9 +59,9 @@ misfit O.Readable at = O.Refused R.Misplaced at
 misfit (O.Refused n p) at = cond (isFirst n && eqb p at) (O.Refused n p) (O.Refused R.Misplaced at)
 
 -- an addition's commands judged from a cursor on
-unfoldable pub additionFrom : Str → ℕ → Cursor → Parsed
-additionFrom s n c = parseAddition (length s + 1 - c .at) s n c
+unfoldable pub additionFrom : Str → Str → Cursor → Parsed
+additionFrom s p c = parseAddition (length s + 1 - c .at) s p c
 
 -- what the commands of a current record come to, as those of an addition
 pub record Shaped (s : Str) (plain r : Outcome) : Type 0 where
-  pub so : (n : ℕ) → plain ≡ outcomeOf (parsedFrom Current s n start) → r ≡ outcomeOf (additionFrom s n start)
+  pub so : (p : Str) → plain ≡ outcomeOf (parsedFrom Current s p start) → r ≡ outcomeOf (additionFrom s p start)

@@ -6,34 +6,17 @@ use mathlib.Core.Option.{Option, none, some}
 use mathlib.Core.Bool.{Bool, _&&_, cond}
 use lib.ListN.{length, getD, take, drop}
 use lib.Dec.{ltb, leb}
-use Rattle.record.specs.Base.{Str, any, withSome}
+use Rattle.record.specs.Base.{Str, any}
 use Rattle.record.specs.Fill.{joined}
 use Rattle.record.specs.Operands.{optTextAt}
 use Rattle.record.specs.Commands.{operands, wide}
 use Rattle.record.specs.declared.text.Text.{Text}
 use Rattle.record.specs.declared.operands.OptText.{OptText}
 use Rattle.record.specs.declared.operands.OptText.the-variants.{Absent, Given}
-use Rattle.drafts.specs.Content.{bytesAt, isPlain}
+use Rattle.record.specs.CommandTexts.{isPlain, textsAt}
+use Rattle.drafts.specs.Content.{bytesAt}
 
 -- the texts of commands ---------------------------------------------------------------------------------------------------
-
-abbrev pub given : OptText → Option Text
-given Absent = none
-given (Given t) = some t
-
--- every text among the operands of these letters, also one that its command does not use
-unfoldable pub textsFrom : Str → ℕ → Str → List Text
-textsFrom x i [] = []
-textsFrom x i (o ∷ os) =
-    let rest = textsFrom x (i + wide o) os in
-    cond (isPlain o) rest (withSome (given (optTextAt x i)) rest)
-
-unfoldable pub textsWith : Str → Option Str → List Text
-textsWith x none = []
-textsWith x (some os) = textsFrom x 1 os
-
-unfoldable pub textsAt : Str → ℕ → List Text
-textsAt s at = textsWith (drop at s) (operands (getD s at 0))
 
 unfoldable pub textsOf : Str → List ℕ → List Text
 textsOf s [] = []

@@ -17,8 +17,8 @@ ghost use lib.Dec.{eqb};
 ghost use Rattle.record.specs.Base.{Str, withSome};
 ghost use Rattle.record.specs.Commands.{commandsAt};
 ghost use Rattle.record.specs.Write.{Puts};
-ghost use Rattle.drafts.specs.Content.{isPlain};
-ghost use Rattle.drafts.specs.Packing.{given, textsFrom, textsAt, textsOf, kept};
+ghost use Rattle.record.specs.CommandTexts.{isPlain, given, textsFrom, textsAt};
+ghost use Rattle.drafts.specs.Packing.{textsOf, kept};
 ghost use Rattle.drafts.specs.Code.{upTo, operandTexts, Marks, isMarked, Ranked};
 
 // Marks the bytes of a text.

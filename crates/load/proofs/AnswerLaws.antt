@@ -18,7 +18,7 @@ use Rattle.load.specs.Range.{InRange}
 use Rattle.load.specs.Generator.{releasedCommands, currentCommands, streamOf}
 use Rattle.load.specs.Load.{part, nowStream, wasStream, pairOf, outcomeAt, unfit, loadAs, load}
 use Rattle.load.specs.Bytes.{partsOf}
-use Rattle.load.proofs.RoundTrip.{pool-long}
+use Rattle.load.proofs.CommandLaws.{pool-long}
 use Rattle.load.proofs.Pairs.{released-short, current-short}
 use Rattle.load.specs.declared.outcomes.Outcome.{Outcome}
 use Rattle.load.specs.declared.outcomes.Outcome.the-variants as O

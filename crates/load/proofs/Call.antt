@@ -19,7 +19,7 @@ use Rattle.load.specs.Draws.{settingOf}
 use Rattle.load.specs.Generator.{planOf}
 use Rattle.load.specs.Load.{nowStream, wasStream, pairOf, outcomeAt, unfit, loadAs, load}
 use Rattle.load.specs.Met.{Met}
-use Rattle.load.proofs.RoundTrip.{pool-long}
+use Rattle.load.proofs.CommandLaws.{pool-long}
 use Rattle.load.proofs.Generated.{in-range}
 use Rattle.load.proofs.Pairs.{now-record, was-record, current-read, released-read, current-short, released-short}
 use Rattle.load.proofs.Shown.{as-drawn, each-as-drawn}

@@ -5,7 +5,12 @@ use mathlib.Core.Logic.{_⊎_, inl, inr}
 use Prim.Native.Nat.{ℕ, _+_, _*_, _/_, _%_, _<_, _≤_}
 use native.Mathlib.Omega.{arith}
 use native.Mathlib.Nat.{div-add-mod}
+use mathlib.Core.Bool.{true}
+use lib.ListN.{length}
 use borrow.Author.Tests.{ne-eqb, lt-ltb, le-leb}
+use Rattle.texts.specs.Utf8.{inside}
+use Rattle.texts.specs.Plain.{isPlain, allPlain}
+use Rattle.texts.proofs.LetterLaws.{plain-no-tail}
 use Rattle.record.specs.Base.{Str, bytes}
 use Rattle.record.specs.Le.{u16At}
 use Rattle.record.specs.Operands.{textAt, optText, optTextAt}
@@ -51,13 +56,29 @@ pub given : (t : Text) → InPool t → optText t ≡ Given t
 unfolding optText
 given t h = rw (ne-eqb (t .start) 65535 (λ e. omega arith))
 
-pub text-fine : (t : Text) → InPool t → (a : Fault) → textFault 971 a (optText (back t)) ≡ Fine
-text-fine t h a = rw (back-is t, given t h, le-leb (t .start + t .len) 971 h)
+pub pool-long : length W.pool ≡ 971
+unfolding W.pool W.structNames W.fieldNames W.kindTexts W.wordTexts bytes
+pool-long = refl
 
-may-fine : (t : Text) → MayPool t → textFault 971 Fine (optText (back t)) ≡ Fine
+pub pool-plain : allPlain W.pool ≡ true
+unfolding W.pool W.structNames W.fieldNames W.kindTexts W.wordTexts bytes allPlain isPlain inside
+pool-plain = refl
+
+pub text-fine : (t : Text) → InPool t → (a : Fault) → textFault W.pool a (optText (back t)) ≡ Fine
+text-fine t h a =
+    let e : t .start + t .len ≤ length W.pool = omega (arith, pool-long, h) in
+    rw (
+      back-is t,
+      given t h,
+      le-leb (t .start + t .len) (length W.pool) e,
+      plain-no-tail W.pool (t .start) pool-plain,
+      plain-no-tail W.pool (t .start + t .len) pool-plain,
+    )
+
+may-fine : (t : Text) → MayPool t → textFault W.pool Fine (optText (back t)) ≡ Fine
 unfolding optText
 may-fine t (inl h) = text-fine t h Fine
-may-fine t (inr e) = ap (λ (x : Text). textFault 971 Fine (optText (back x))) e
+may-fine t (inr e) = ap (λ (x : Text). textFault W.pool Fine (optText (back x))) e
 
 flag-fine : (n : ℕ) → n < 2 → flagFault n ≡ Fine
 unfolding flagFault
@@ -81,7 +102,7 @@ pub record StructFits (s : StructCommand) : Type 0 where
   pub fields : (f : FieldCommand) → List·Memᴰ f (s .fields) → FieldFits f
 
 module _ (side : Side) where
-  field-fits : (last : ℕ) (f : FieldCommand) → FieldFits f → Fits side 971 last InStruct (fieldBytes f)
+  field-fits : (last : ℕ) (f : FieldCommand) → FieldFits f → Fits side W.pool last InStruct (fieldBytes f)
   unfolding fieldBytes opcode operands widths wide mayStand bytes faultsFrom operandFault ifAbsent optTextAt textAt u16At
   field-fits last f h = record {
     row = bytes "TTOONNNN";
@@ -101,7 +122,7 @@ module _ (side : Side) where
     going = λ e. omega arith;
   }
 
-  struct-fits : (last : ℕ) (parent : Parent) → (last ≡ 0 → ⊥) → (s : StructCommand) → StructFits s → Fits side 971 last parent (structBytes s)
+  struct-fits : (last : ℕ) (parent : Parent) → (last ≡ 0 → ⊥) → (s : StructCommand) → StructFits s → Fits side W.pool last parent (structBytes s)
   unfolding structBytes opcode operands widths wide mayStand bytes faultsFrom operandFault ifAbsent optTextAt textAt u16At
   struct-fits last parent n s h = record {
     row = bytes "TOO";
@@ -113,14 +134,14 @@ module _ (side : Side) where
   }
 
   -- fields before commands that may follow them
-  fields-fit : (fs : List FieldCommand) → ((f : FieldCommand) → List·Memᴰ f fs → FieldFits f) → (cs : List Str) → ((last : ℕ) → (last ≡ 0 → ⊥) → AllFit side 971 last InStruct cs)
-      → (last : ℕ) → (last ≡ 0 → ⊥) → AllFit side 971 last InStruct (fieldCommands fs cs)
+  fields-fit : (fs : List FieldCommand) → ((f : FieldCommand) → List·Memᴰ f fs → FieldFits f) → (cs : List Str) → ((last : ℕ) → (last ≡ 0 → ⊥) → AllFit side W.pool last InStruct cs)
+      → (last : ℕ) → (last ≡ 0 → ⊥) → AllFit side W.pool last InStruct (fieldCommands fs cs)
   unfolding fieldCommands fieldBytes opcode parentAfter
   fields-fit [] h cs k last n = k last n
   fields-fit (f ∷ fs) h cs k last n =
       (field-fits last f (h f (List·Memᴰ·head refl)), fields-fit fs (λ x m. h x (List·Memᴰ·tail m)) cs k 11 (λ e. omega arith))
 
-  pub structs-fit : (ss : List StructCommand) → ((s : StructCommand) → List·Memᴰ s ss → StructFits s) → (last : ℕ) (parent : Parent) → (last ≡ 0 → ⊥) → AllFit side 971 last parent (structCommands ss [])
+  pub structs-fit : (ss : List StructCommand) → ((s : StructCommand) → List·Memᴰ s ss → StructFits s) → (last : ℕ) (parent : Parent) → (last ≡ 0 → ⊥) → AllFit side W.pool last parent (structCommands ss [])
   unfolding structCommands structBytes opcode parentAfter
   structs-fit [] h last parent n = n
   structs-fit (s ∷ ss) h last parent n = (

@@ -25,10 +25,10 @@ front-byte (b ∷ c) x w h = refl
 seam-byte : (pre x : Str) → getD (pre ++ x) (length pre) 0 ≡ getD x 0 0
 seam-byte pre x = subst (λ (n : ℕ). getD (pre ++ x) n 0 ≡ getD x 0 0) (omega arith) (getD-append-add pre x 0 0)
 
-module _ (side : Side) (n : ℕ) where
+module _ (side : Side) (pool : Str) where
   -- one command
-  judged-next : (pre c x : Str) (last : ℕ) (parent : Parent) (f : Fits side n last parent c)
-      → judgedAt side (pre ++ (c ++ x)) n (cursorAt (length pre) last parent) ≡ Next (commandOf (opcode c) (c ++ x)) (cursorAt (length pre + length c) (opcode c) (parentAfter parent (opcode c)))
+  judged-next : (pre c x : Str) (last : ℕ) (parent : Parent) (f : Fits side pool last parent c)
+      → judgedAt side (pre ++ (c ++ x)) pool (cursorAt (length pre) last parent) ≡ Next (commandOf (opcode c) (c ++ x)) (cursorAt (length pre + length c) (opcode c) (parentAfter parent (opcode c)))
   unfolding judgedAt judgedWith ready
   judged-next pre c x last parent f =
       let w = f .whole in
@@ -52,7 +52,7 @@ module _ (side : Side) (n : ℕ) where
       )
 
   -- the end
-  judged-end : (pre : Str) (last : ℕ) (parent : Parent) → (last ≡ 0 → ⊥) → judgedAt side (pre ++ (15 ∷ [])) n (cursorAt (length pre) last parent) ≡ Done
+  judged-end : (pre : Str) (last : ℕ) (parent : Parent) → (last ≡ 0 → ⊥) → judgedAt side (pre ++ (15 ∷ [])) pool (cursorAt (length pre) last parent) ≡ Done
   unfolding judgedAt judgedWith ready operands widths mayStand faultsFrom bytes
   judged-end pre last parent h =
       let e = length-append pre (15 ∷ []) in
@@ -61,14 +61,14 @@ module _ (side : Side) (n : ℕ) where
       let q : length pre + (1 + 0) ≡ length (pre ++ (15 ∷ [])) = omega arith in
       rw (lt-ltb (length pre) (length (pre ++ (15 ∷ []))) i, seam-byte pre (15 ∷ []), le-ltb (length (pre ++ (15 ∷ [])) - length pre) (1 + 0) o, ne-eqb last 0 h, seam-byte pre (15 ∷ []), eq-eqb (length pre + (1 + 0)) (length (pre ++ (15 ∷ []))) q)
 
-  pub parse-written : (k : ℕ) (pre : Str) (cs : List Str) (last : ℕ) (parent : Parent) → AllFit side n last parent cs → length cs < k
-      → parse k side (pre ++ streamOf cs) n (cursorAt (length pre) last parent) ≡ ok (placesFrom (length pre) cs)
+  pub parse-written : (k : ℕ) (pre : Str) (cs : List Str) (last : ℕ) (parent : Parent) → AllFit side pool last parent cs → length cs < k
+      → parse k side (pre ++ streamOf cs) pool (cursorAt (length pre) last parent) ≡ ok (placesFrom (length pre) cs)
   unfolding parse continued onto streamOf placesFrom
   parse-written zero pre cs last parent f h = absurd (omega arith)
   parse-written (suc k) pre [] last parent f h = rw (judged-end pre last parent f)
   parse-written (suc k) pre (c ∷ cs) last parent f h =
       let e = length-append pre c in
       rw (judged-next pre c (streamOf cs) last parent (f .0))
-      (ap (onto (length pre)) (subst (λ (s : Str). parse k side s n (cursorAt (length pre + length c) (opcode c) (parentAfter parent (opcode c))) ≡ ok (placesFrom (length pre + length c) cs)) (append-assoc pre c (streamOf cs))
-      (subst (λ (m : ℕ). parse k side ((pre ++ c) ++ streamOf cs) n (cursorAt m (opcode c) (parentAfter parent (opcode c))) ≡ ok (placesFrom m cs)) e
+      (ap (onto (length pre)) (subst (λ (s : Str). parse k side s pool (cursorAt (length pre + length c) (opcode c) (parentAfter parent (opcode c))) ≡ ok (placesFrom (length pre + length c) cs)) (append-assoc pre c (streamOf cs))
+      (subst (λ (m : ℕ). parse k side ((pre ++ c) ++ streamOf cs) pool (cursorAt m (opcode c) (parentAfter parent (opcode c))) ≡ ok (placesFrom m cs)) e
       (parse-written k (pre ++ c) cs (opcode c) (parentAfter parent (opcode c)) (f .1) (omega arith)))))

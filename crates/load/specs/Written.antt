@@ -36,17 +36,17 @@ abbrev pub cursorAt : ℕ → ℕ → Parent → Cursor
 cursorAt at last parent = record { at = at; last = last; parent = parent }
 
 -- a command that is whole, may stand after another, and is without fault beside a pool of n bytes
-pub record Fits (side : Side) (n last : ℕ) (parent : Parent) (c : Str) : Type 0 where
+pub record Fits (side : Side) (pool : Str) (last : ℕ) (parent : Parent) (c : Str) : Type 0 where
   pub row : Str
   pub has-row : operands (opcode c) ≡ some row
   pub whole : length c ≡ 1 + widths row
   pub stands : (at : ℕ) → mayStand (cursorAt at last parent) (opcode c) ≡ true
-  pub fine : (x : Str) → faultsFrom side n (c ++ x) 1 row ≡ Fine
+  pub fine : (x : Str) → faultsFrom side pool (c ++ x) 1 row ≡ Fine
   pub going : opcode c ≡ 15 → ⊥
 
-abbrev pub AllFit : Side → ℕ → ℕ → Parent → List Str → Type 0
-AllFit side n last parent [] = last ≡ 0 → ⊥
-AllFit side n last parent (c ∷ cs) = Fits side n last parent c × AllFit side n (opcode c) (parentAfter parent (opcode c)) cs
+abbrev pub AllFit : Side → Str → ℕ → Parent → List Str → Type 0
+AllFit side pool last parent [] = last ≡ 0 → ⊥
+AllFit side pool last parent (c ∷ cs) = Fits side pool last parent c × AllFit side pool (opcode c) (parentAfter parent (opcode c)) cs
 
 -- the elements that commands give, each from its bytes with all that follow, and the commands after it
 unfoldable pub listedIn : {A : Type 0} → (ℕ → Bool) → ℕ → (Str → List Str → A) → List Str → List A

@@ -22,7 +22,8 @@ use Rattle.record.specs.Kind as Kind
 use Rattle.record.specs.Shapes.{enumSize, aliasSize, bitfieldSize, sized, scalarSize, sizeAs, shapeSize, placeOf, places, plain, prefix}
 use Rattle.record.specs.Owner.{referencedAs, referenced}
 use Rattle.record.specs.Judge.{ifAbsent, flagFault, operandFault, faultsFrom, follows, mayStand, parentAfter, ready, judgedWith, judgedAt}
-use Rattle.record.specs.Letters.{isLetter, oddLetter}
+use Rattle.texts.specs.Utf8.{inside, isTail, utf81, utf82, utf83, utf84, charOf, charLength, isControl, letterLength, oddAfter, oddPlace, noTail}
+use Rattle.record.specs.Letters.{oddLetter}
 use Rattle.record.specs.Reading.{Rec, read, rec, releaseOf, unreleasedOf, schemaFrom, openedAt, opened, large, vast, onto, continued, parse, parsed, streamLimit, poolLimit, vastOr, sizesOf, concluded, reading}
 use Rattle.record.specs.Schema.{Schema}
 use Rattle.record.specs.declared.refusal.Side.the-variants.{Current}
@@ -69,7 +70,8 @@ unfolding bytes eqs isSome orElse orOption mapOption find first any scalarIn pri
     listed heads constants aliases values enums members bitfields keys fields structs variants families unstored versions
     aliasIn enumIn bitfieldIn structIn familyIn placesOf words kindOf Kind.meaning Kind.ofLength
     enumSize aliasSize bitfieldSize sized scalarSize sizeAs shapeSize placeOf places plain prefix referencedAs referenced
-    ifAbsent flagFault operandFault faultsFrom follows mayStand parentAfter ready judgedWith judgedAt isLetter oddLetter
+    ifAbsent flagFault operandFault faultsFrom follows mayStand parentAfter ready judgedWith judgedAt
+    inside isTail utf81 utf82 utf83 utf84 charOf charLength isControl letterLength oddAfter oddPlace noTail oddLetter
     releaseOf unreleasedOf schemaFrom openedAt opened large vast onto continued parse parsed streamLimit poolLimit vastOr sizesOf concluded reading
     refusalOf nameFault isStruct isFamily pointeeFault fieldFault orNext firstFault pointersRead pointers stream pool t o
 says kind ty element number place =

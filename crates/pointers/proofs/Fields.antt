@@ -238,19 +238,19 @@ parent-after s c b w d k e = go (eqb b 15) (eqb (c .at + w) (length s)) e
     go false u h = let z : moved c b w ≡ k = cc in ap (λ (x : Cursor). x .parent) z
 
 module _ (side : Side) (s p : Str) where
-  found : (k : ℕ) (c : Cursor) (ps : List ℕ) → parse k side s (length p) c ≡ ok ps → (at : ℕ) → List·Memᴰ at ps → eqb (getD s at 0) 11 ≡ true
+  found : (k : ℕ) (c : Cursor) (ps : List ℕ) → parse k side s p c ≡ ok ps → (at : ℕ) → List·Memᴰ at ps → eqb (getD s at 0) 11 ≡ true
       → Found s p (c .parent) ps at
   unfolding parse continued
   found zero c ps h at m e = absurd (let z : _≡_ {A = ℕ} 0 1 = cc in omega arith)
-  found (suc k) c ps h at m e = go (λ d qs g n. found k d qs g at n e) (judgedAt side s (length p) c) refl h
+  found (suc k) c ps h at m e = go (λ d qs g n. found k d qs g at n e) (judgedAt side s p c) refl h
     where
-      go : ((d : Cursor) (qs : List ℕ) → parse k side s (length p) d ≡ ok qs → List·Memᴰ at qs → Found s p (d .parent) qs at) → (j : Judged)
-          → judgedAt side s (length p) c ≡ j → continued (c .at) (parse k side s (length p)) j ≡ ok ps → Found s p (c .parent) ps at
+      go : ((d : Cursor) (qs : List ℕ) → parse k side s p d ≡ ok qs → List·Memᴰ at qs → Found s p (d .parent) qs at) → (j : Judged)
+          → judgedAt side s p c ≡ j → continued (c .at) (parse k side s p) j ≡ ok ps → Found s p (c .parent) ps at
       go ih Done q g = absurd (List·Memᴰ·not-nil (subst (λ (l : List ℕ). List·Memᴰ at l) (sym (let z : [] ≡ ps = cc in z)) m))
       go ih (Refused x y) q g = absurd (let z : _≡_ {A = ℕ} 0 1 = cc in omega arith)
       go ih (Next d j) q g =
-          let t = onto-ok (c .at) (parse k side s (length p) j) ps g in
-          let w = passed side s (length p) c (Next d j) tt q in
+          let t = onto-ok (c .at) (parse k side s p j) ps g in
+          let w = passed side s p c (Next d j) tt q in
           subst (λ (l : List ℕ). Found s p (c .parent) l at) (t .whole)
           (each (t .more) (w .stands) (parent-after s c (getD s (c .at) 0) (1 + widths (w .row)) d j (w .is-ready))
           (λ n. ih j (t .more) (t .parsed-so) n) (subst (λ (l : List ℕ). List·Memᴰ at l) (sym (t .whole)) m))

@@ -35,30 +35,30 @@ Lets Done = Unit {0}
 Lets (Refused n p) = ⊥
 
 -- a command whose row is known, that may stand here, whole and without fault
-pub record Passed (side : Side) (s : Str) (n : ℕ) (c : Cursor) (j : Judged) : Type 0 where
+pub record Passed (side : Side) (s : Str) (pool : Str) (c : Cursor) (j : Judged) : Type 0 where
   pub row : Str
   pub inside : c .at < length s
   pub has-row : operands (getD s (c .at) 0) ≡ some row
   pub whole : 1 + widths row ≤ length s - c .at
   pub stands : mayStand c (getD s (c .at) 0) ≡ true
-  pub fine : faultsFrom side n (drop (c .at) s) 1 row ≡ Fine
+  pub fine : faultsFrom side pool (drop (c .at) s) 1 row ≡ Fine
   pub is-ready : ready s c (getD s (c .at) 0) (1 + widths row) ≡ j
 
-module _ (side : Side) (s : Str) (n : ℕ) (c : Cursor) (j : Judged) (l : Lets j) where
-  pub passed : judgedAt side s n c ≡ j → Passed side s n c j
+module _ (side : Side) (s : Str) (pool : Str) (c : Cursor) (j : Judged) (l : Lets j) where
+  pub passed : judgedAt side s pool c ≡ j → Passed side s pool c j
   unfolding judgedAt judgedWith
   passed e = past (ltb (c .at) (length s)) refl e
     where
-      past : (b : Bool) → ltb (c .at) (length s) ≡ b → cond b (judgedAs side s n c (getD s (c .at) 0) (operands (getD s (c .at) 0))) (Refused R.Cut (c .at)) ≡ j → Passed side s n c j
+      past : (b : Bool) → ltb (c .at) (length s) ≡ b → cond b (judgedAs side s pool c (getD s (c .at) 0) (operands (getD s (c .at) 0))) (Refused R.Cut (c .at)) ≡ j → Passed side s pool c j
       past false q h = absurd (subst Lets (sym h) l)
       past true q h = row (operands (getD s (c .at) 0)) refl h
         where
-          row : (o : Option Str) → operands (getD s (c .at) 0) ≡ o → judgedAs side s n c (getD s (c .at) 0) o ≡ j → Passed side s n c j
+          row : (o : Option Str) → operands (getD s (c .at) 0) ≡ o → judgedAs side s pool c (getD s (c .at) 0) o ≡ j → Passed side s pool c j
           row none q2 h = absurd (subst Lets (sym h) l)
-          row (some os) q2 h = cut (ltb (length s - c .at) (1 + widths os)) refl (mayStand c (getD s (c .at) 0)) refl (faultsFrom side n (drop (c .at) s) 1 os) refl h
+          row (some os) q2 h = cut (ltb (length s - c .at) (1 + widths os)) refl (mayStand c (getD s (c .at) 0)) refl (faultsFrom side pool (drop (c .at) s) 1 os) refl h
             where
-              cut : (b : Bool) → ltb (length s - c .at) (1 + widths os) ≡ b → (t : Bool) → mayStand c (getD s (c .at) 0) ≡ t → (f : Fault) → faultsFrom side n (drop (c .at) s) 1 os ≡ f
-                  → cond b (Refused R.Cut (c .at)) (cond t (faulted (c .at) (ready s c (getD s (c .at) 0) (1 + widths os)) f) (Refused R.Misplaced (c .at))) ≡ j → Passed side s n c j
+              cut : (b : Bool) → ltb (length s - c .at) (1 + widths os) ≡ b → (t : Bool) → mayStand c (getD s (c .at) 0) ≡ t → (f : Fault) → faultsFrom side pool (drop (c .at) s) 1 os ≡ f
+                  → cond b (Refused R.Cut (c .at)) (cond t (faulted (c .at) (ready s c (getD s (c .at) 0) (1 + widths os)) f) (Refused R.Misplaced (c .at))) ≡ j → Passed side s pool c j
               cut true q3 t q4 f q5 h = absurd (subst Lets (sym h) l)
               cut false q3 false q4 f q5 h = absurd (subst Lets (sym h) l)
               cut false q3 true q4 Outside q5 h = absurd (subst Lets (sym h) l)
@@ -97,21 +97,21 @@ ended s c b w e = go (eqb b 15) refl (eqb (c .at + w) (length s)) e
     go true q u h = eqb-true b 15 q
     go false q u h = absurd (let z : _≡_ {A = ℕ} 0 1 = cc in omega arith)
 
-module _ (side : Side) (s : Str) (n : ℕ) (c : Cursor) where
-  pub judged-step : (d : Command) (k : Cursor) → judgedAt side s n c ≡ Next d k → stepAt s (c .at) ≡ S.Next d (place (k .at))
+module _ (side : Side) (s : Str) (pool : Str) (c : Cursor) where
+  pub judged-step : (d : Command) (k : Cursor) → judgedAt side s pool c ≡ Next d k → stepAt s (c .at) ≡ S.Next d (place (k .at))
   unfolding stepAt widthOf widthWith
   judged-step d k e =
-      let p = passed side s n c (Next d k) tt e in
+      let p = passed side s pool c (Next d k) tt e in
       let t = taken s c (getD s (c .at) 0) (1 + widths (p .row)) d k (p .is-ready) in
       let w = p .whole in
       let z : 1 + widths (p .row) ≡ 0 → ⊥ = λ q. omega arith in
-      let n : c .at + (1 + widths (p .row)) ≡ k .at = ap (λ (j : Cursor). j .at) (t .next) in
-      rw (lt-ltb (c .at) (length s) (p .inside), ne-eqb (getD s (c .at) 0) 15 (t .going), p .has-row, ne-eqb (1 + widths (p .row)) 0 z, le-ltb (length s - c .at) (1 + widths (p .row)) w, t .that, n)
+      let pool : c .at + (1 + widths (p .row)) ≡ k .at = ap (λ (j : Cursor). j .at) (t .next) in
+      rw (lt-ltb (c .at) (length s) (p .inside), ne-eqb (getD s (c .at) 0) 15 (t .going), p .has-row, ne-eqb (1 + widths (p .row)) 0 z, le-ltb (length s - c .at) (1 + widths (p .row)) w, t .that, pool)
 
-  pub judged-stop : judgedAt side s n c ≡ Done → stepAt s (c .at) ≡ S.Stop
+  pub judged-stop : judgedAt side s pool c ≡ Done → stepAt s (c .at) ≡ S.Stop
   unfolding stepAt
   judged-stop e =
-      let p = passed side s n c Done tt e in
+      let p = passed side s pool c Done tt e in
       let q = ended s c (getD s (c .at) 0) (1 + widths (p .row)) (p .is-ready) in
       rw (lt-ltb (c .at) (length s) (p .inside), q)
 
@@ -125,23 +125,23 @@ unfolding onto
 onto-ok at (ok ds) ps h = record { more = ds; parsed-so = refl; whole = cc }
 onto-ok at (bad n q) ps h = absurd (let z : _≡_ {A = ℕ} 0 1 = cc in omega arith)
 
-pub parse-is : (k : ℕ) (side : Side) (s : Str) (n : ℕ) (c : Cursor) (ps : List ℕ) → parse k side s n c ≡ ok ps → ps ≡ commandsAt s (c .at)
+pub parse-is : (k : ℕ) (side : Side) (s : Str) (pool : Str) (c : Cursor) (ps : List ℕ) → parse k side s pool c ≡ ok ps → ps ≡ commandsAt s (c .at)
 unfolding parse continued
-parse-is zero side s n c ps h = absurd (let z : _≡_ {A = ℕ} 0 1 = cc in omega arith)
-parse-is (suc k) side s n c ps h = go (parse-is k side s n) (judgedAt side s n c) refl h
+parse-is zero side s pool c ps h = absurd (let z : _≡_ {A = ℕ} 0 1 = cc in omega arith)
+parse-is (suc k) side s pool c ps h = go (parse-is k side s pool) (judgedAt side s pool c) refl h
   where
-    go : ((d : Cursor) (qs : List ℕ) → parse k side s n d ≡ ok qs → qs ≡ commandsAt s (d .at)) → (j : Judged) → judgedAt side s n c ≡ j → continued (c .at) (parse k side s n) j ≡ ok ps → ps ≡ commandsAt s (c .at)
+    go : ((d : Cursor) (qs : List ℕ) → parse k side s pool d ≡ ok qs → qs ≡ commandsAt s (d .at)) → (j : Judged) → judgedAt side s pool c ≡ j → continued (c .at) (parse k side s pool) j ≡ ok ps → ps ≡ commandsAt s (c .at)
     go ih (Next d j) e h =
-        let t = onto-ok (c .at) (parse k side s n j) ps h in
-        sym (t .whole) ∙ ap (λ (l : List ℕ). c .at ∷ l) (ih j (t .more) (t .parsed-so)) ∙ sym (commands-next s (c .at) d (place (j .at)) (judged-step side s n c d j e))
+        let t = onto-ok (c .at) (parse k side s pool j) ps h in
+        sym (t .whole) ∙ ap (λ (l : List ℕ). c .at ∷ l) (ih j (t .more) (t .parsed-so)) ∙ sym (commands-next s (c .at) d (place (j .at)) (judged-step side s pool c d j e))
     go ih Done e h =
         let z : ps ≡ [] = sym cc in
-        z ∙ sym (commands-stop s (c .at) (judged-stop side s n c e))
+        z ∙ sym (commands-stop s (c .at) (judged-stop side s pool c e))
     go ih (Refused r p) e h = absurd (let z : _≡_ {A = ℕ} 0 1 = cc in omega arith)
 
 pub parsed-is : (side : Side) (r : Rec) (ps : List ℕ) → parsed side r ≡ ok ps → ps ≡ commandsAt (r .stream) 0
 unfolding parsed
-parsed-is side r ps e = parse-is (length (r .stream) + 1) side (r .stream) (length (r .pool)) start ps e
+parsed-is side r ps e = parse-is (length (r .stream) + 1) side (r .stream) (r .pool) start ps e
 
 -- what an accepted reading has passed
 pub record Accepted (side : Side) (r : Rec) (t : Schema) : Type 0 where
@@ -153,7 +153,7 @@ pub record Accepted (side : Side) (r : Rec) (t : Schema) : Type 0 where
 pub accepting : (side : Side) (r : Rec) (t : Schema) → reading side r ≡ read t → Accepted side r t
 unfolding reading concluded sizesOf vastOr schemaOf streamLimit
 accepting side r t h =
-    go (leb (length (r .stream)) streamLimit) (leb (length (r .pool)) poolLimit) (oddLetter 0 (r .pool)) (parsed side r) refl refl h
+    go (leb (length (r .stream)) streamLimit) (leb (length (r .pool)) poolLimit) (oddLetter (r .pool)) (parsed side r) refl refl h
   where
     last : leb (length (r .stream)) streamLimit ≡ true → (ps : List ℕ) → parsed side r ≡ ok ps → ps ≡ commandsAt (r .stream) 0 → (o : Option Opened)
         → find (vast (schemaFrom r ps)) (opened (r .stream) (r .pool) ps) ≡ o → vastOr (schemaFrom r ps) o ≡ read t → Accepted side r t

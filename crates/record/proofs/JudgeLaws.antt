@@ -8,7 +8,8 @@ use native.Mathlib.Omega.{arith}
 use lib.ListN.{length, take, drop, getD, length-drop}
 use lib.Seq.{take-all}
 use lib.Dec.{eqb, ltb}
-use borrow.Author.Tests.{eq-eqb, ne-eqb, lt-ltb, le-ltb, le-leb, lt-leb}
+use borrow.Author.Tests.{eq-eqb, ne-eqb, lt-ltb, le-ltb, le-leb, lt-leb, not-true, not-false}
+use Rattle.texts.specs.Utf8.{noTail}
 use Rattle.record.specs.Base.{Str}
 use Rattle.record.specs.Operands.{textAt, flagAt, optText}
 use Rattle.record.specs.Commands.{operands, wide, widthWith, widthOf, commandOf}
@@ -58,17 +59,23 @@ module _ (side : Side) (x : Str) (o : ℕ) where
 
 pub ruleset absent-laws = (absent-optional, absent-current, absent-released, absent-words, absent-unused, absent-plain)
 
-module _ (n : ℕ) (a : Fault) (x : OptText) where
-  pub text-absent : x ≡ Absent → a ≡ textFault n a x
+module _ (pool : Str) (a : Fault) (x : OptText) where
+  pub text-absent : x ≡ Absent → a ≡ textFault pool a x
   text-absent e = rw e
 
-  pub text-inside : (t : Text) → x ≡ Given t → t .start + t .len ≤ n → Fine ≡ textFault n a x
-  text-inside t e h = rw (e, le-leb (t .start + t .len) n h)
+  pub text-outside : (t : Text) → x ≡ Given t → length pool < t .start + t .len → Outside ≡ textFault pool a x
+  text-outside t e h = rw (e, lt-leb (t .start + t .len) (length pool) h)
 
-  pub text-outside : (t : Text) → x ≡ Given t → n < t .start + t .len → Outside ≡ textFault n a x
-  text-outside t e h = rw (e, lt-leb (t .start + t .len) n h)
+  pub text-begins : (t : Text) (b : Bool) → x ≡ Given t → t .start + t .len ≤ length pool → b ≡ noTail pool (t .start) → not b ≡ true → Outside ≡ textFault pool a x
+  text-begins t b e h f g = rw (e, le-leb (t .start + t .len) (length pool) h, ← f, not-true b g)
 
-pub ruleset text-fault-laws = (text-absent, text-inside, text-outside)
+  pub text-ends : (t : Text) (b c : Bool) → x ≡ Given t → t .start + t .len ≤ length pool → b ≡ noTail pool (t .start) → not b ≡ false → c ≡ noTail pool (t .start + t .len) → not c ≡ true → Outside ≡ textFault pool a x
+  text-ends t b c e h f g k l = rw (e, le-leb (t .start + t .len) (length pool) h, ← f, not-false b g, ← k, not-true c l)
+
+  pub text-inside : (t : Text) (b c : Bool) → x ≡ Given t → t .start + t .len ≤ length pool → b ≡ noTail pool (t .start) → not b ≡ false → c ≡ noTail pool (t .start + t .len) → not c ≡ false → Fine ≡ textFault pool a x
+  text-inside t b c e h f g k l = rw (e, le-leb (t .start + t .len) (length pool) h, ← f, not-false b g, ← k, not-false c l)
+
+pub ruleset text-fault-laws = (text-absent, text-outside, text-begins, text-ends, text-inside)
 
 pub flag-low : (b : ℕ) → b < 2 → Fine ≡ flagFault b
 unfolding flagFault
@@ -95,24 +102,24 @@ module _ (o i n : ℕ) (h : i + wide o ≤ n) where
   text-there a b c d = let w : wide o ≡ 3 = rw (ne-eqb o 70 a, ne-eqb o 87 c, ne-eqb o 86 d, ne-eqb o 78 b) in omega arith
 
 -- an operand, by its letter
-module _ (side : Side) (n : ℕ) (x : Str) (i o : ℕ) where
-  pub operand-flag : (b : ℕ) (r : Fault) → o ≡ 70 → b ≡ getD x i 0 → r ≡ flagFault b → r ≡ operandFault side n x i o
+module _ (side : Side) (pool : Str) (x : Str) (i o : ℕ) where
+  pub operand-flag : (b : ℕ) (r : Fault) → o ≡ 70 → b ≡ getD x i 0 → r ≡ flagFault b → r ≡ operandFault side pool x i o
   unfolding operandFault
   operand-flag b r e h g = rw (e, ← h) g
 
-  pub operand-number : (b : ℕ) (r : Fault) → o ≡ 78 → b ≡ getD x i 0 → r ≡ flagFault b → r ≡ operandFault side n x i o
+  pub operand-number : (b : ℕ) (r : Fault) → o ≡ 78 → b ≡ getD x i 0 → r ≡ flagFault b → r ≡ operandFault side pool x i o
   unfolding operandFault
   operand-number b r e h g = rw (e, ← h) g
 
-  pub operand-four : o ≡ 87 → Fine ≡ operandFault side n x i o
+  pub operand-four : o ≡ 87 → Fine ≡ operandFault side pool x i o
   unfolding operandFault
   operand-four e = rw e
 
-  pub operand-eight : o ≡ 86 → Fine ≡ operandFault side n x i o
+  pub operand-eight : o ≡ 86 → Fine ≡ operandFault side pool x i o
   unfolding operandFault
   operand-eight e = rw e
 
-  pub operand-text : (a : Fault) (w : Text) (t : OptText) (r : Fault) → (o ≡ 70 → ⊥) → (o ≡ 78 → ⊥) → (o ≡ 87 → ⊥) → (o ≡ 86 → ⊥) → a ≡ ifAbsent side x o → w ≡ textAt x i → t ≡ optText w → r ≡ textFault n a t → r ≡ operandFault side n x i o
+  pub operand-text : (a : Fault) (w : Text) (t : OptText) (r : Fault) → (o ≡ 70 → ⊥) → (o ≡ 78 → ⊥) → (o ≡ 87 → ⊥) → (o ≡ 86 → ⊥) → a ≡ ifAbsent side x o → w ≡ textAt x i → t ≡ optText w → r ≡ textFault pool a t → r ≡ operandFault side pool x i o
   unfolding operandFault
   operand-text a w t r f m w4 v e k h g = rw (ne-eqb o 70 f, ne-eqb o 78 m, ne-eqb o 87 w4, ne-eqb o 86 v, ← e, ← opt-read x i w t k h) g
 
@@ -125,35 +132,35 @@ worse-fine Outside = refl
 worse-fine Missing = refl
 worse-fine Flag = refl
 
-module _ (side : Side) (n : ℕ) (x : Str) (i : ℕ) where
-  pub operand-then : (o : ℕ) (os : Str) (r q v : Fault) → r ≡ operandFault side n x i o → q ≡ faultsFrom side n x (i + wide o) os → v ≡ worseOf r q → v ≡ faultsFrom side n x i (o ∷ os)
+module _ (side : Side) (pool : Str) (x : Str) (i : ℕ) where
+  pub operand-then : (o : ℕ) (os : Str) (r q v : Fault) → r ≡ operandFault side pool x i o → q ≡ faultsFrom side pool x (i + wide o) os → v ≡ worseOf r q → v ≡ faultsFrom side pool x i (o ∷ os)
   unfolding faultsFrom
   operand-then o os r q v e f g = rw (g, e, f)
 
-  pub operand-alone : (o : ℕ) (r : Fault) → r ≡ operandFault side n x i o → r ≡ faultsFrom side n x i (o ∷ [])
+  pub operand-alone : (o : ℕ) (r : Fault) → r ≡ operandFault side pool x i o → r ≡ faultsFrom side pool x i (o ∷ [])
   unfolding faultsFrom
-  operand-alone o r e = e ∙ sym (worse-fine (operandFault side n x i o))
+  operand-alone o r e = e ∙ sym (worse-fine (operandFault side pool x i o))
 
   -- four bytes and eight bytes are never at fault
-  pub skip-four : (os : Str) (q : Fault) → q ≡ faultsFrom side n x (i + 4) os → q ≡ faultsFrom side n x i (87 ∷ os)
+  pub skip-four : (os : Str) (q : Fault) → q ≡ faultsFrom side pool x (i + 4) os → q ≡ faultsFrom side pool x i (87 ∷ os)
   unfolding faultsFrom operandFault wide
   skip-four os q f = f
 
-  pub skip-eight : (os : Str) (q : Fault) → q ≡ faultsFrom side n x (i + 8) os → q ≡ faultsFrom side n x i (86 ∷ os)
+  pub skip-eight : (os : Str) (q : Fault) → q ≡ faultsFrom side pool x (i + 8) os → q ≡ faultsFrom side pool x i (86 ∷ os)
   unfolding faultsFrom operandFault wide
   skip-eight os q f = f
 
-  pub operand-word : (r : Fault) → r ≡ operandFault side n x i 84 → r ≡ faultsFrom side n x i (84 ∷ 87 ∷ [])
+  pub operand-word : (r : Fault) → r ≡ operandFault side pool x i 84 → r ≡ faultsFrom side pool x i (84 ∷ 87 ∷ [])
   unfolding faultsFrom operandFault
-  operand-word r e = e ∙ sym (worse-fine (operandFault side n x i 84))
+  operand-word r e = e ∙ sym (worse-fine (operandFault side pool x i 84))
 
 -- so many bytes are there as the command of a number takes
 pub command-there : (k w b n : ℕ) → widthOf k ≡ w → b ≡ k → widthOf b ≤ n → w ≤ n
 command-there k w b n e h l = let q : widthOf b ≡ w = ap widthOf h ∙ e in omega arith
 
-pub faults-unknown : (side : Side) (n : ℕ) (x : Str) (b : ℕ) → (b ≡ 1 → ⊥) → (b ≡ 2 → ⊥) → (b ≡ 3 → ⊥) → (b ≡ 4 → ⊥) → (b ≡ 5 → ⊥) → (b ≡ 6 → ⊥) → (b ≡ 7 → ⊥) → (b ≡ 8 → ⊥) → (b ≡ 9 → ⊥) → (b ≡ 10 → ⊥) → (b ≡ 11 → ⊥) → (b ≡ 12 → ⊥) → (b ≡ 13 → ⊥) → (b ≡ 14 → ⊥) → (b ≡ 15 → ⊥) → Fine ≡ faultsOf side n x (operands b)
+pub faults-unknown : (side : Side) (pool : Str) (x : Str) (b : ℕ) → (b ≡ 1 → ⊥) → (b ≡ 2 → ⊥) → (b ≡ 3 → ⊥) → (b ≡ 4 → ⊥) → (b ≡ 5 → ⊥) → (b ≡ 6 → ⊥) → (b ≡ 7 → ⊥) → (b ≡ 8 → ⊥) → (b ≡ 9 → ⊥) → (b ≡ 10 → ⊥) → (b ≡ 11 → ⊥) → (b ≡ 12 → ⊥) → (b ≡ 13 → ⊥) → (b ≡ 14 → ⊥) → (b ≡ 15 → ⊥) → Fine ≡ faultsOf side pool x (operands b)
 unfolding faultsOf
-faults-unknown side n x b h1 h2 h3 h4 h5 h6 h7 h8 h9 h10 h11 h12 h13 h14 h15 = rw (none-operands b h1 h2 h3 h4 h5 h6 h7 h8 h9 h10 h11 h12 h13 h14 h15)
+faults-unknown side pool x b h1 h2 h3 h4 h5 h6 h7 h8 h9 h10 h11 h12 h13 h14 h15 = rw (none-operands b h1 h2 h3 h4 h5 h6 h7 h8 h9 h10 h11 h12 h13 h14 h15)
 
 -- the rules of place
 module _ (c : Cursor) (a b : ℕ) where
@@ -225,36 +232,36 @@ module _ (s : Str) (c : Cursor) (b w : ℕ) where
 pub ruleset ready-laws = (ready-done, ready-more, ready-next)
 
 -- a whole command that may stand where it does, by its operands
-module _ (side : Side) (s : Str) (n : ℕ) (c : Cursor) (b w : ℕ) (f : Fault) (e : f ≡ faultsOf side n (take (length s - c .at) (drop (c .at) s)) (operands b)) where
-  fault-is : faultsOf side n (drop (c .at) s) (operands b) ≡ f
-  fault-is = ap (λ (y : Str). faultsOf side n y (operands b)) (sym (take-all (length s - c .at) (drop (c .at) s) (rw length-drop (omega arith)))) ∙ sym e
+module _ (side : Side) (s : Str) (pool : Str) (c : Cursor) (b w : ℕ) (f : Fault) (e : f ≡ faultsOf side pool (take (length s - c .at) (drop (c .at) s)) (operands b)) where
+  fault-is : faultsOf side pool (drop (c .at) s) (operands b) ≡ f
+  fault-is = ap (λ (y : Str). faultsOf side pool y (operands b)) (sym (take-all (length s - c .at) (drop (c .at) s) (rw length-drop (omega arith)))) ∙ sym e
 
-  pub fault-outside : f ≡ Outside → Refused R.Outside (c .at) ≡ faulted (c .at) (ready s c b w) (faultsOf side n (drop (c .at) s) (operands b))
+  pub fault-outside : f ≡ Outside → Refused R.Outside (c .at) ≡ faulted (c .at) (ready s c b w) (faultsOf side pool (drop (c .at) s) (operands b))
   fault-outside g = rw (fault-is, g)
 
-  pub fault-missing : f ≡ Missing → Refused R.Missing (c .at) ≡ faulted (c .at) (ready s c b w) (faultsOf side n (drop (c .at) s) (operands b))
+  pub fault-missing : f ≡ Missing → Refused R.Missing (c .at) ≡ faulted (c .at) (ready s c b w) (faultsOf side pool (drop (c .at) s) (operands b))
   fault-missing g = rw (fault-is, g)
 
-  pub fault-flag : f ≡ Flag → Refused R.Flag (c .at) ≡ faulted (c .at) (ready s c b w) (faultsOf side n (drop (c .at) s) (operands b))
+  pub fault-flag : f ≡ Flag → Refused R.Flag (c .at) ≡ faulted (c .at) (ready s c b w) (faultsOf side pool (drop (c .at) s) (operands b))
   fault-flag g = rw (fault-is, g)
 
-  pub fault-none : (r : Judged) → f ≡ Fine → r ≡ ready s c b w → r ≡ faulted (c .at) (ready s c b w) (faultsOf side n (drop (c .at) s) (operands b))
+  pub fault-none : (r : Judged) → f ≡ Fine → r ≡ ready s c b w → r ≡ faulted (c .at) (ready s c b w) (faultsOf side pool (drop (c .at) s) (operands b))
   fault-none r g q = rw (fault-is, g) q
 
 pub ruleset fault-laws = (fault-outside, fault-missing, fault-flag, fault-none)
 
 -- the judgement by the command's row
-module _ (side : Side) (s : Str) (n : ℕ) (c : Cursor) where
-  pub judged-past : length s ≤ c .at → Refused R.Cut (c .at) ≡ judgedAt side s n c
+module _ (side : Side) (s : Str) (pool : Str) (c : Cursor) where
+  pub judged-past : length s ≤ c .at → Refused R.Cut (c .at) ≡ judgedAt side s pool c
   unfolding judgedAt
   judged-past h = rw (le-ltb (c .at) (length s) h)
 
-  by-operands : (o : Option Str) → (widthWith o ≡ 0 → ⊥) → judgedAs side s n c (getD s (c .at) 0) o ≡ cond (ltb (length s - c .at) (widthWith o)) (Refused R.Cut (c .at)) (cond (mayStand c (getD s (c .at) 0)) (faulted (c .at) (ready s c (getD s (c .at) 0) (widthWith o)) (faultsOf side n (drop (c .at) s) o)) (Refused R.Misplaced (c .at)))
+  by-operands : (o : Option Str) → (widthWith o ≡ 0 → ⊥) → judgedAs side s pool c (getD s (c .at) 0) o ≡ cond (ltb (length s - c .at) (widthWith o)) (Refused R.Cut (c .at)) (cond (mayStand c (getD s (c .at) 0)) (faulted (c .at) (ready s c (getD s (c .at) 0) (widthWith o)) (faultsOf side pool (drop (c .at) s) o)) (Refused R.Misplaced (c .at)))
   unfolding judgedWith widthWith faultsOf
   by-operands none z = absurd (z refl)
   by-operands (some os) z = refl
 
-  no-operands : (o : Option Str) → widthWith o ≡ 0 → judgedAs side s n c (getD s (c .at) 0) o ≡ Refused R.Unknown (c .at)
+  no-operands : (o : Option Str) → widthWith o ≡ 0 → judgedAs side s pool c (getD s (c .at) 0) o ≡ Refused R.Unknown (c .at)
   unfolding widthWith
   no-operands none z = refl
   no-operands (some os) z = absurd (omega (arith, z))
@@ -264,23 +271,23 @@ module _ (side : Side) (s : Str) (n : ℕ) (c : Cursor) where
     unfolding widthOf
     width-is = row-width c (getD s (c .at) 0) q e
 
-    pub judged-unknown : q .width ≡ 0 → Refused R.Unknown (c .at) ≡ judgedAt side s n c
+    pub judged-unknown : q .width ≡ 0 → Refused R.Unknown (c .at) ≡ judgedAt side s pool c
     unfolding judgedAt
     judged-unknown z = rw (lt-ltb (c .at) (length s) h) (sym (no-operands (operands (getD s (c .at) 0)) (sym width-is ∙ z)))
 
     module _ (z : q .width ≡ 0 → ⊥) where
-      by-row : judgedAt side s n c ≡ cond (ltb (length s - c .at) (q .width)) (Refused R.Cut (c .at)) (cond (q .stands) (faulted (c .at) (ready s c (getD s (c .at) 0) (q .width)) (faultsOf side n (drop (c .at) s) (operands (getD s (c .at) 0)))) (Refused R.Misplaced (c .at)))
+      by-row : judgedAt side s pool c ≡ cond (ltb (length s - c .at) (q .width)) (Refused R.Cut (c .at)) (cond (q .stands) (faulted (c .at) (ready s c (getD s (c .at) 0) (q .width)) (faultsOf side pool (drop (c .at) s) (operands (getD s (c .at) 0)))) (Refused R.Misplaced (c .at)))
       unfolding rowAt judgedAt
       by-row = rw (lt-ltb (c .at) (length s) h, ap (λ (r : Row). r .stands) e, width-is) (by-operands (operands (getD s (c .at) 0)) (λ y. z (width-is ∙ y)))
 
-      pub judged-cut : length s - c .at < q .width → Refused R.Cut (c .at) ≡ judgedAt side s n c
+      pub judged-cut : length s - c .at < q .width → Refused R.Cut (c .at) ≡ judgedAt side s pool c
       judged-cut l = rw (by-row, lt-ltb (length s - c .at) (q .width) l)
 
-      pub judged-misplaced : q .width ≤ length s - c .at → q .stands ≡ false → Refused R.Misplaced (c .at) ≡ judgedAt side s n c
+      pub judged-misplaced : q .width ≤ length s - c .at → q .stands ≡ false → Refused R.Misplaced (c .at) ≡ judgedAt side s pool c
       judged-misplaced l t = rw (by-row, le-ltb (length s - c .at) (q .width) l, t)
 
       pub judged-standing : (r : Judged) → q .width ≤ length s - c .at → q .stands ≡ true
-          → r ≡ faulted (c .at) (ready s c (getD s (c .at) 0) (q .width)) (faultsOf side n (drop (c .at) s) (operands (getD s (c .at) 0))) → r ≡ judgedAt side s n c
+          → r ≡ faulted (c .at) (ready s c (getD s (c .at) 0) (q .width)) (faultsOf side pool (drop (c .at) s) (operands (getD s (c .at) 0))) → r ≡ judgedAt side s pool c
       judged-standing r l t g = rw (by-row, le-ltb (length s - c .at) (q .width) l, t) g
 
 pub ruleset judged-laws = (judged-past, judged-unknown, judged-cut, judged-misplaced, judged-standing)

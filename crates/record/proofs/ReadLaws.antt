@@ -44,25 +44,25 @@ use Rattle.record.proofs.Accepted.{judged-step, parsed-is, accepting}
 
 -- the commands, one at a time -----------------------------------------------------------------------------------------------
 
-module _ (side : Side) (s : Str) (n : ℕ) where
+module _ (side : Side) (s : Str) (pool : Str) where
   -- more commands than bytes change nothing
-  enough : (k m : ℕ) (c : Cursor) → length s < k + c .at → length s < m + c .at → parse k side s n c ≡ parse m side s n c
+  enough : (k m : ℕ) (c : Cursor) → length s < k + c .at → length s < m + c .at → parse k side s pool c ≡ parse m side s pool c
   unfolding parse continued
   enough zero zero c p q = refl
-  enough zero (suc m) c p q = rw (← judged-past side s n c (omega arith))
-  enough (suc k) zero c p q = rw (← judged-past side s n c (omega arith))
-  enough (suc k) (suc m) c p q = go (enough k m) (judgedAt side s n c) refl
+  enough zero (suc m) c p q = rw (← judged-past side s pool c (omega arith))
+  enough (suc k) zero c p q = rw (← judged-past side s pool c (omega arith))
+  enough (suc k) (suc m) c p q = go (enough k m) (judgedAt side s pool c) refl
     where
-      go : ((d : Cursor) → length s < k + d .at → length s < m + d .at → parse k side s n d ≡ parse m side s n d) → (j : Judged) → judgedAt side s n c ≡ j
-          → continued (c .at) (parse k side s n) j ≡ continued (c .at) (parse m side s n) j
+      go : ((d : Cursor) → length s < k + d .at → length s < m + d .at → parse k side s pool d ≡ parse m side s pool d) → (j : Judged) → judgedAt side s pool c ≡ j
+          → continued (c .at) (parse k side s pool) j ≡ continued (c .at) (parse m side s pool) j
       go ih (Next d j) e =
-          let f = step-found s (c .at) _ _ (judged-step side s n c d j e) in
+          let f = step-found s (c .at) _ _ (judged-step side s pool c d j e) in
           let on = f .on in
           ap (onto (c .at)) (ih j (omega arith) (omega arith))
       go ih Done e = refl
       go ih (Refused r p) e = refl
 
-  from-here : (c : Cursor) → parsedFrom side s n c ≡ continued (c .at) (parse (length s + 1 - c .at) side s n) (judgedAt side s n c)
+  from-here : (c : Cursor) → parsedFrom side s pool c ≡ continued (c .at) (parse (length s + 1 - c .at) side s pool) (judgedAt side s pool c)
   unfolding parsedFrom parse
   from-here c = enough (length s + 1 - c .at) (suc (length s + 1 - c .at)) c (omega arith) (omega arith)
 
@@ -71,28 +71,28 @@ module _ (side : Side) (s : Str) (n : ℕ) where
   onto-outcome at (ok ps) = refl
   onto-outcome at (bad r p) = refl
 
-  module _ (c : Cursor) (j : Judged) (e : j ≡ judgedAt side s n c) where
-    pub commands-on : (d : Command) (k : Cursor) → j ≡ Next d k → outcomeOf (parsedFrom side s n c) ≡ outcomeOf (parsedFrom side s n k)
+  module _ (c : Cursor) (j : Judged) (e : j ≡ judgedAt side s pool c) where
+    pub commands-on : (d : Command) (k : Cursor) → j ≡ Next d k → outcomeOf (parsedFrom side s pool c) ≡ outcomeOf (parsedFrom side s pool k)
     unfolding continued parsedFrom
     commands-on d k h =
-        let f = step-found s (c .at) _ _ (judged-step side s n c d k (sym e ∙ h)) in
+        let f = step-found s (c .at) _ _ (judged-step side s pool c d k (sym e ∙ h)) in
         let on = f .on in
         let within = f .within in
         ap outcomeOf (from-here c ∙ (rw (sym e ∙ h) (ap (onto (c .at)) (enough (length s + 1 - c .at) (length s + 1 - k .at) k (omega arith) (omega arith)))))
-        ∙ onto-outcome (c .at) (parse (length s + 1 - k .at) side s n k)
+        ∙ onto-outcome (c .at) (parse (length s + 1 - k .at) side s pool k)
 
     pub commands-nearer : (d : Command) (k : Cursor) → j ≡ Next d k → length s - k .at < length s - c .at
     commands-nearer d k h =
-        let f = step-found s (c .at) _ _ (judged-step side s n c d k (sym e ∙ h)) in
+        let f = step-found s (c .at) _ _ (judged-step side s pool c d k (sym e ∙ h)) in
         let on = f .on in
         let within = f .within in
         omega arith
 
-    pub commands-done : j ≡ Done → outcomeOf (parsedFrom side s n c) ≡ O.Readable
+    pub commands-done : j ≡ Done → outcomeOf (parsedFrom side s pool c) ≡ O.Readable
     unfolding continued outcomeOf
     commands-done h = ap outcomeOf (from-here c) ∙ rw (sym e ∙ h)
 
-    pub commands-refused : (r : Refusal) (p : ℕ) → j ≡ Refused r p → outcomeOf (parsedFrom side s n c) ≡ O.Refused r p
+    pub commands-refused : (r : Refusal) (p : ℕ) → j ≡ Refused r p → outcomeOf (parsedFrom side s pool c) ≡ O.Refused r p
     unfolding continued outcomeOf
     commands-refused r p h = ap outcomeOf (from-here c) ∙ rw (sym e ∙ h)
 
@@ -161,11 +161,11 @@ module _ (side : Side) (s p : Str) (w : List Scalar) where
   unfolding reading concluded poolLimit
   read-wide h = refusal R.Long 0 (rw (lt-leb (length p) 16384 h) (either (leb (length s) streamLimit)))
     where
-      either : (b : Bool) → refuse R.Long 0 ≡ concluded (rec s p w) (b && false) (oddLetter 0 p) (parsed side (rec s p w))
+      either : (b : Bool) → refuse R.Long 0 ≡ concluded (rec s p w) (b && false) (oddLetter p) (parsed side (rec s p w))
       either true = refl
       either false = refl
 
-  module _ (a : length s ≤ 32768) (b : length p ≤ 16384) (l : Letters) (e : l ≡ oddLetter 0 p) where
+  module _ (a : length s ≤ 32768) (b : length p ≤ 16384) (l : Letters) (e : l ≡ oddLetter p) where
     -- the reading once 8 is passed
     read-fits : reading side (rec s p w) ≡ concluded (rec s p w) true l (parsed side (rec s p w))
     unfolding reading streamLimit poolLimit
@@ -175,14 +175,14 @@ module _ (side : Side) (s p : Str) (w : List Scalar) where
     unfolding concluded
     read-letter i h = refusal R.Letter i (sym (read-fits ∙ rw h))
 
-    module _ (g : OneOf (0 ∷ []) (tagOf letters-type.the-type l)) (o : Outcome) (f : o ≡ outcomeOf (parsedFrom side s (length p) start)) where
+    module _ (g : OneOf (0 ∷ []) (tagOf letters-type.the-type l)) (o : Outcome) (f : o ≡ outcomeOf (parsedFrom side s p start)) where
       good : (m : Letters) → OneOf (0 ∷ []) (tagOf letters-type.the-type m) → m ≡ Good
       good Good h = refl
       good (Odd i) h = absurd (omega (arith, h))
 
-      parsed-here : parsed side (rec s p w) ≡ parsedFrom side s (length p) start
+      parsed-here : parsed side (rec s p w) ≡ parsedFrom side s p start
       unfolding parsed parsedFrom
-      parsed-here = let z : length s + 1 ≡ length s + 1 - 0 = omega arith in ap (λ (k : ℕ). parse k side s (length p) start) z
+      parsed-here = let z : length s + 1 ≡ length s + 1 - 0 = omega arith in ap (λ (k : ℕ). parse k side s p start) z
 
       read-judged : reading side (rec s p w) ≡ concluded (rec s p w) true Good (parsed side (rec s p w))
       read-judged = read-fits ∙ ap (λ (m : Letters). concluded (rec s p w) true m (parsed side (rec s p w))) (good l g)

@@ -6,6 +6,7 @@ use native.Mathlib.Nat.{add-sub-cancel-left}
 use native.Mathlib.Omega.{arith}
 use lib.ListN.{length, take, drop, drop-of-length-le, length-drop}
 use lib.Seq.{take-all, take-nil}
+pub use Rattle.texts.proofs.TextLaws.{kept, ended}
 use Rattle.record.specs.Stretch.{textOf}
 use Rattle.record.specs.declared.text.Text.{Text}
 
@@ -23,12 +24,5 @@ module _ (pool : List ℕ) (t : Text) where
   text-cut h =
       take-all (length pool - t .start) (drop (t .start) pool) (rw length-drop (omega arith))
       ∙ sym (take-all (t .len) (drop (t .start) pool) (rw length-drop (omega arith)))
-
--- a loop's invariant says that the answer wanted is x's, so far: it stays so after a step, and at a way out the value there is the answer
-pub kept : {A : Type 0} {x y z : A} → x ≡ y → y ≡ z → x ≡ z
-kept p q = p ∙ q
-
-pub ended : {A : Type 0} {x y z : A} → x ≡ y → y ≡ z → z ≡ x
-ended p q = sym (p ∙ q)
 
 pub ruleset text-laws = (text-past, text-whole, text-cut)

@@ -3,9 +3,10 @@
 use Prim.Native.Nat.{ℕ, _+_, _-_}
 use mathlib.Core.List.{[], _∷_}
 use mathlib.Core.Option.{Option, none, some}
-use mathlib.Core.Bool.{Bool, true, false, _||_, not, cond}
+use mathlib.Core.Bool.{Bool, true, false, _&&_, _||_, not, cond}
 use lib.ListN.{getD, length, drop}
 use lib.Dec.{eqb, ltb, leb}
+use Rattle.texts.specs.Utf8.{noTail}
 use Rattle.record.specs.Base.{Str}
 use Rattle.record.specs.Operands.{flagAt, optTextAt}
 use Rattle.record.specs.Commands.{operands, wide, widths, widthOf, commandOf}
@@ -49,31 +50,33 @@ ifAbsent side x o =
     (cond (eqb o 33) (missingIn side)
     (cond (eqb o 63) (cond (flagAt x 4) Missing Fine) Outside))
 
--- 01: a text that is there lies in the pool, which has n bytes, or it is 4
-abbrev pub textFault : ℕ → Fault → OptText → Fault
-textFault n absent Absent = absent
-textFault n absent (Given t) = cond (leb (t .start + t .len) n) Fine Outside
+-- 01 and 02, W-206: a text that is there lies in the pool and neither begins nor ends inside a sequence, or it is 4. In a pool without fault,
+-- and that is judged first, no tail stands at a place exactly if it is not inside a sequence (texts, proofs/EdgeLaws, `edge-no-tail`)
+abbrev pub textFault : Str → Fault → OptText → Fault
+textFault p absent Absent = absent
+textFault p absent (Given t) =
+    cond (leb (t .start + t .len) (length p) && (noTail p (t .start) && noTail p (t .start + t .len))) Fine Outside
 
 -- 01: a flag byte above 1 is 6
 unfoldable pub flagFault : ℕ → Fault
 flagFault b = cond (ltb b 2) Fine Flag
 
 -- the fault of an operand at a place of the command's bytes, by its letter (F, N, W, V, or a text's)
-unfoldable pub operandFault : Side → ℕ → Str → ℕ → ℕ → Fault
-operandFault side n x i o =
+unfoldable pub operandFault : Side → Str → Str → ℕ → ℕ → Fault
+operandFault side p x i o =
     cond (eqb o 70) (flagFault (getD x i 0))
     (cond (eqb o 78) (flagFault (getD x i 0))
     (cond (eqb o 87) Fine
-    (cond (eqb o 86) Fine (textFault n (ifAbsent side x o) (optTextAt x i)))))
+    (cond (eqb o 86) Fine (textFault p (ifAbsent side x o) (optTextAt x i)))))
 
-unfoldable pub faultsFrom : Side → ℕ → Str → ℕ → Str → Fault
-faultsFrom side n x i [] = Fine
-faultsFrom side n x i (o ∷ os) = worseOf (operandFault side n x i o) (faultsFrom side n x (i + wide o) os)
+unfoldable pub faultsFrom : Side → Str → Str → ℕ → Str → Fault
+faultsFrom side p x i [] = Fine
+faultsFrom side p x i (o ∷ os) = worseOf (operandFault side p x i o) (faultsFrom side p x (i + wide o) os)
 
 -- the fault of a command's operands, which begin at its second byte; nothing where there is no such command
-unfoldable pub faultsOf : Side → ℕ → Str → Option Str → Fault
-faultsOf side n x none = Fine
-faultsOf side n x (some os) = faultsFrom side n x 1 os
+unfoldable pub faultsOf : Side → Str → Str → Option Str → Fault
+faultsOf side p x none = Fine
+faultsOf side p x (some os) = faultsFrom side p x 1 os
 
 -- places ------------------------------------------------------------------------------------------------------------------
 
@@ -135,16 +138,16 @@ faulted at j Missing = Refused R.Missing at
 faulted at j Flag = Refused R.Flag at
 
 -- by a command's operands, its width, and whether it may stand here
-unfoldable pub judgedWith : Side → Str → ℕ → Cursor → Str → ℕ → Bool → Judged
-judgedWith side s n c os w stands =
+unfoldable pub judgedWith : Side → Str → Str → Cursor → Str → ℕ → Bool → Judged
+judgedWith side s p c os w stands =
     cond (ltb (length s - c .at) w) (Refused R.Cut (c .at))
-    (cond stands (faulted (c .at) (ready s c (getD s (c .at) 0) w) (faultsFrom side n (drop (c .at) s) 1 os)) (Refused R.Misplaced (c .at)))
+    (cond stands (faulted (c .at) (ready s c (getD s (c .at) 0) w) (faultsFrom side p (drop (c .at) s) 1 os)) (Refused R.Misplaced (c .at)))
 
-abbrev pub judgedAs : Side → Str → ℕ → Cursor → ℕ → Option Str → Judged
-judgedAs side s n c b none = Refused R.Unknown (c .at)
-judgedAs side s n c b (some os) = judgedWith side s n c os (1 + widths os) (mayStand c b)
+abbrev pub judgedAs : Side → Str → Str → Cursor → ℕ → Option Str → Judged
+judgedAs side s p c b none = Refused R.Unknown (c .at)
+judgedAs side s p c b (some os) = judgedWith side s p c os (1 + widths os) (mayStand c b)
 
--- the command at a cursor, of a stream beside a pool of n bytes. 01: with 0F lacking, 1 at the stream's length
-unfoldable pub judgedAt : Side → Str → ℕ → Cursor → Judged
-judgedAt side s n c =
-    cond (ltb (c .at) (length s)) (judgedAs side s n c (getD s (c .at) 0) (operands (getD s (c .at) 0))) (Refused R.Cut (c .at))
+-- the command at a cursor, of a stream beside a pool. 01: with 0F lacking, 1 at the stream's length
+unfoldable pub judgedAt : Side → Str → Str → Cursor → Judged
+judgedAt side s p c =
+    cond (ltb (c .at) (length s)) (judgedAs side s p c (getD s (c .at) 0) (operands (getD s (c .at) 0))) (Refused R.Cut (c .at))

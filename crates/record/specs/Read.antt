@@ -1,7 +1,7 @@
 -- What the code's reading of a record answers: the outcome of Reading, and that an accepted record's sizes are exact. Assumes nothing.
 use mathlib.Core.Path.{_≡_}
 use mathlib.Core.List.{List·Memᴰ}
-use Prim.Native.Nat.{ℕ, _+_, _-_, _≤_}
+use Prim.Native.Nat.{_+_, _-_, _≤_}
 use lib.ListN.{length}
 use Rattle.record.specs.Base.{Str}
 use Rattle.record.specs.Commands.{commandsAt}
@@ -13,8 +13,8 @@ use Rattle.record.specs.declared.read.Outcome.{Outcome}
 use Rattle.record.specs.declared.read.Outcome.the-variants.{Readable, Refused}
 
 -- the commands judged from a cursor on
-unfoldable pub parsedFrom : Side → Str → ℕ → Cursor → Parsed
-parsedFrom side s n c = parse (length s + 1 - c .at) side s n c
+unfoldable pub parsedFrom : Side → Str → Str → Cursor → Parsed
+parsedFrom side s p c = parse (length s + 1 - c .at) side s p c
 
 unfoldable pub outcomeOf : Parsed → Outcome
 outcomeOf (ok ps) = Readable

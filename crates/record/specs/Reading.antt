@@ -108,12 +108,12 @@ continued at go (Next c k) = onto at (go k)
 continued at go Done = ok []
 continued at go (Refused n p) = bad n p
 
-unfoldable pub parse : ℕ → Side → Str → ℕ → Cursor → Parsed
-parse zero side s n c = bad R.Cut (c .at)
-parse (suc k) side s n c = continued (c .at) (parse k side s n) (judgedAt side s n c)
+unfoldable pub parse : ℕ → Side → Str → Str → Cursor → Parsed
+parse zero side s p c = bad R.Cut (c .at)
+parse (suc k) side s p c = continued (c .at) (parse k side s p) (judgedAt side s p c)
 
 unfoldable pub parsed : Side → Rec → Parsed
-parsed side r = parse (length (r .stream) + 1) side (r .stream) (length (r .pool)) start
+parsed side r = parse (length (r .stream) + 1) side (r .stream) (r .pool) start
 
 -- 01: the longest stream and the longest pool
 unfoldable pub streamLimit : ℕ
@@ -138,4 +138,4 @@ concluded r true Good (ok ps) = sizesOf r ps
 
 unfoldable pub reading : Side → Rec → Reading
 reading side r =
-    concluded r (leb (length (r .stream)) streamLimit && leb (length (r .pool)) poolLimit) (oddLetter 0 (r .pool)) (parsed side r)
+    concluded r (leb (length (r .stream)) streamLimit && leb (length (r .pool)) poolLimit) (oddLetter (r .pool)) (parsed side r)

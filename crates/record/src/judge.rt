@@ -9,6 +9,7 @@ use crate::operands::opt_text;
 use crate::operands::whole_text;
 use crate::refusal::Refusal;
 use crate::refusal::Side;
+use texts::utf8::at_edge;
 ghost use mathlib.Core.Path.{_≡_};
 ghost use Prim.Native.Nat.{_≤_, _+_};
 ghost use lib.ListN.{length, drop};
@@ -82,19 +83,25 @@ fn if_absent(side: Side, s: &[u8], operand: u8) -> Fault
 }
 
 // A text that is there must lie in the pool, which has n bytes.
-fn text_fault(n: usize, absent: Fault, text: OptText) -> Fault
-    ensures { λ r. ⌜ r ≡ textFault n absent text ⌝ }
+fn text_fault(pool: &[u8], absent: Fault, text: OptText) -> Fault
+    ensures { λ r. ⌜ r ≡ textFault (now (pool .entry)) absent text ⌝ }
 {
     let OptText::Given(t) = text else {
         return absent;
     };
     let start = t.start as usize;
     let len = t.len as usize;
-    if start + len <= n {
-        Fault::Fine
-    } else {
-        Fault::Outside
+    let end = start + len;
+    if pool.len() < end {
+        return Fault::Outside;
     }
+    if !at_edge(pool, start) {
+        return Fault::Outside;
+    }
+    if !at_edge(pool, end) {
+        return Fault::Outside;
+    }
+    Fault::Fine
 }
 
 fn flag_fault(flag: u8) -> Fault
@@ -104,133 +111,137 @@ fn flag_fault(flag: u8) -> Fault
 }
 
 // The fault of the operand at a place of the command's bytes, which are all there: its bytes are read without a test of the length.
-fn operand_fault(side: Side, n: usize, s: &[u8], at: usize, operand: u8) -> Fault
+fn operand_fault(side: Side, pool: &[u8], s: &[u8], at: usize, operand: u8) -> Fault
     requires { ⌜ at + wide operand ≤ length (now s) ⌝ }
-    ensures { λ r. ⌜ r ≡ operandFault side n (now (s .entry)) at operand ⌝ }
+    ensures { λ r. ⌜ r ≡ operandFault side (now (pool .entry)) (now (s .entry)) at operand ⌝ }
 {
     match operand {
         b'F' => flag_fault(s[at]),
         b'N' => flag_fault(s[at]),
         b'W' => Fault::Fine,
         b'V' => Fault::Fine,
-        _ => text_fault(n, if_absent(side, s, operand), opt_text(whole_text(s, at))),
+        _ => text_fault(
+            pool,
+            if_absent(side, s, operand),
+            opt_text(whole_text(s, at)),
+        ),
     }
 }
 
 // The fault of the operands of each command, one after the other: a loop over their letters would test every letter at every command.
-fn head_faults(side: Side, n: usize, s: &[u8]) -> Fault
+fn head_faults(side: Side, pool: &[u8], s: &[u8]) -> Fault
     requires { ⌜ 5 ≤ length (now s) ⌝ }
-    ensures { λ r. ⌜ r ≡ faultsFrom side n (now (s .entry)) 1 (bytes "!F") ⌝ }
+    ensures { λ r. ⌜ r ≡ faultsFrom side (now (pool .entry)) (now (s .entry)) 1 (bytes "!F") ⌝ }
 {
     worse(
-        operand_fault(side, n, s, 1, b'!'),
-        operand_fault(side, n, s, 4, b'F'),
+        operand_fault(side, pool, s, 1, b'!'),
+        operand_fault(side, pool, s, 4, b'F'),
     )
 }
 
-fn constant_faults(side: Side, n: usize, s: &[u8]) -> Fault
+fn constant_faults(side: Side, pool: &[u8], s: &[u8]) -> Fault
     requires { ⌜ 20 ≤ length (now s) ⌝ }
-    ensures { λ r. ⌜ r ≡ faultsFrom side n (now (s .entry)) 1 (bytes "TFV?FO") ⌝ }
+    ensures { λ r. ⌜ r ≡ faultsFrom side (now (pool .entry)) (now (s .entry)) 1 (bytes "TFV?FO") ⌝ }
 {
     worse(
-        operand_fault(side, n, s, 1, b'T'),
+        operand_fault(side, pool, s, 1, b'T'),
         worse(
-            operand_fault(side, n, s, 4, b'F'),
+            operand_fault(side, pool, s, 4, b'F'),
             worse(
-                operand_fault(side, n, s, 13, b'?'),
+                operand_fault(side, pool, s, 13, b'?'),
                 worse(
-                    operand_fault(side, n, s, 16, b'F'),
-                    operand_fault(side, n, s, 17, b'O'),
+                    operand_fault(side, pool, s, 16, b'F'),
+                    operand_fault(side, pool, s, 17, b'O'),
                 ),
             ),
         ),
     )
 }
 
-fn alias_faults(side: Side, n: usize, s: &[u8]) -> Fault
+fn alias_faults(side: Side, pool: &[u8], s: &[u8]) -> Fault
     requires { ⌜ 7 ≤ length (now s) ⌝ }
-    ensures { λ r. ⌜ r ≡ faultsFrom side n (now (s .entry)) 1 (bytes "TT") ⌝ }
+    ensures { λ r. ⌜ r ≡ faultsFrom side (now (pool .entry)) (now (s .entry)) 1 (bytes "TT") ⌝ }
 {
     worse(
-        operand_fault(side, n, s, 1, b'T'),
-        operand_fault(side, n, s, 4, b'T'),
+        operand_fault(side, pool, s, 1, b'T'),
+        operand_fault(side, pool, s, 4, b'T'),
     )
 }
 
-fn enum_faults(side: Side, n: usize, s: &[u8]) -> Fault
+fn enum_faults(side: Side, pool: &[u8], s: &[u8]) -> Fault
     requires { ⌜ 12 ≤ length (now s) ⌝ }
-    ensures { λ r. ⌜ r ≡ faultsFrom side n (now (s .entry)) 1 (bytes "TWFO") ⌝ }
+    ensures { λ r. ⌜ r ≡ faultsFrom side (now (pool .entry)) (now (s .entry)) 1 (bytes "TWFO") ⌝ }
 {
     worse(
-        operand_fault(side, n, s, 1, b'T'),
+        operand_fault(side, pool, s, 1, b'T'),
         worse(
-            operand_fault(side, n, s, 8, b'F'),
-            operand_fault(side, n, s, 9, b'O'),
+            operand_fault(side, pool, s, 8, b'F'),
+            operand_fault(side, pool, s, 9, b'O'),
         ),
     )
 }
 
-fn value_faults(side: Side, n: usize, s: &[u8]) -> Fault
+fn value_faults(side: Side, pool: &[u8], s: &[u8]) -> Fault
     requires { ⌜ 15 ≤ length (now s) ⌝ }
-    ensures { λ r. ⌜ r ≡ faultsFrom side n (now (s .entry)) 1 (bytes "TVO") ⌝ }
+    ensures { λ r. ⌜ r ≡ faultsFrom side (now (pool .entry)) (now (s .entry)) 1 (bytes "TVO") ⌝ }
 {
     worse(
-        operand_fault(side, n, s, 1, b'T'),
-        operand_fault(side, n, s, 12, b'O'),
+        operand_fault(side, pool, s, 1, b'T'),
+        operand_fault(side, pool, s, 12, b'O'),
     )
 }
 
-fn bitfield_faults(side: Side, n: usize, s: &[u8]) -> Fault
+fn bitfield_faults(side: Side, pool: &[u8], s: &[u8]) -> Fault
     requires { ⌜ 11 ≤ length (now s) ⌝ }
-    ensures { λ r. ⌜ r ≡ faultsFrom side n (now (s .entry)) 1 (bytes "TW!") ⌝ }
+    ensures { λ r. ⌜ r ≡ faultsFrom side (now (pool .entry)) (now (s .entry)) 1 (bytes "TW!") ⌝ }
 {
     worse(
-        operand_fault(side, n, s, 1, b'T'),
-        operand_fault(side, n, s, 8, b'!'),
+        operand_fault(side, pool, s, 1, b'T'),
+        operand_fault(side, pool, s, 8, b'!'),
     )
 }
 
-fn member_faults(side: Side, n: usize, s: &[u8]) -> Fault
+fn member_faults(side: Side, pool: &[u8], s: &[u8]) -> Fault
     requires { ⌜ 16 ≤ length (now s) ⌝ }
-    ensures { λ r. ⌜ r ≡ faultsFrom side n (now (s .entry)) 1 (bytes "TWNO") ⌝ }
+    ensures { λ r. ⌜ r ≡ faultsFrom side (now (pool .entry)) (now (s .entry)) 1 (bytes "TWNO") ⌝ }
 {
     worse(
-        operand_fault(side, n, s, 1, b'T'),
+        operand_fault(side, pool, s, 1, b'T'),
         worse(
-            operand_fault(side, n, s, 8, b'N'),
-            operand_fault(side, n, s, 13, b'O'),
+            operand_fault(side, pool, s, 8, b'N'),
+            operand_fault(side, pool, s, 13, b'O'),
         ),
     )
 }
 
-fn struct_faults(side: Side, n: usize, s: &[u8]) -> Fault
+fn struct_faults(side: Side, pool: &[u8], s: &[u8]) -> Fault
     requires { ⌜ 10 ≤ length (now s) ⌝ }
-    ensures { λ r. ⌜ r ≡ faultsFrom side n (now (s .entry)) 1 (bytes "TOO") ⌝ }
+    ensures { λ r. ⌜ r ≡ faultsFrom side (now (pool .entry)) (now (s .entry)) 1 (bytes "TOO") ⌝ }
 {
     worse(
-        operand_fault(side, n, s, 1, b'T'),
+        operand_fault(side, pool, s, 1, b'T'),
         worse(
-            operand_fault(side, n, s, 4, b'O'),
-            operand_fault(side, n, s, 7, b'O'),
+            operand_fault(side, pool, s, 4, b'O'),
+            operand_fault(side, pool, s, 7, b'O'),
         ),
     )
 }
 
-fn family_faults(side: Side, n: usize, s: &[u8]) -> Fault
+fn family_faults(side: Side, pool: &[u8], s: &[u8]) -> Fault
     requires { ⌜ 17 ≤ length (now s) ⌝ }
-    ensures { λ r. ⌜ r ≡ faultsFrom side n (now (s .entry)) 1 (bytes "TTTTOF") ⌝ }
+    ensures { λ r. ⌜ r ≡ faultsFrom side (now (pool .entry)) (now (s .entry)) 1 (bytes "TTTTOF") ⌝ }
 {
     worse(
-        operand_fault(side, n, s, 1, b'T'),
+        operand_fault(side, pool, s, 1, b'T'),
         worse(
-            operand_fault(side, n, s, 4, b'T'),
+            operand_fault(side, pool, s, 4, b'T'),
             worse(
-                operand_fault(side, n, s, 7, b'T'),
+                operand_fault(side, pool, s, 7, b'T'),
                 worse(
-                    operand_fault(side, n, s, 10, b'T'),
+                    operand_fault(side, pool, s, 10, b'T'),
                     worse(
-                        operand_fault(side, n, s, 13, b'O'),
-                        operand_fault(side, n, s, 16, b'F'),
+                        operand_fault(side, pool, s, 13, b'O'),
+                        operand_fault(side, pool, s, 16, b'F'),
                     ),
                 ),
             ),
@@ -239,71 +250,71 @@ fn family_faults(side: Side, n: usize, s: &[u8]) -> Fault
 }
 
 // The four numbers of a field.
-fn number_faults(side: Side, n: usize, s: &[u8]) -> Fault
+fn number_faults(side: Side, pool: &[u8], s: &[u8]) -> Fault
     requires { ⌜ 33 ≤ length (now s) ⌝ }
-    ensures { λ r. ⌜ r ≡ faultsFrom side n (now (s .entry)) 13 (bytes "NNNN") ⌝ }
+    ensures { λ r. ⌜ r ≡ faultsFrom side (now (pool .entry)) (now (s .entry)) 13 (bytes "NNNN") ⌝ }
 {
     worse(
-        operand_fault(side, n, s, 13, b'N'),
+        operand_fault(side, pool, s, 13, b'N'),
         worse(
-            operand_fault(side, n, s, 18, b'N'),
+            operand_fault(side, pool, s, 18, b'N'),
             worse(
-                operand_fault(side, n, s, 23, b'N'),
-                operand_fault(side, n, s, 28, b'N'),
+                operand_fault(side, pool, s, 23, b'N'),
+                operand_fault(side, pool, s, 28, b'N'),
             ),
         ),
     )
 }
 
-fn field_faults(side: Side, n: usize, s: &[u8]) -> Fault
+fn field_faults(side: Side, pool: &[u8], s: &[u8]) -> Fault
     requires { ⌜ 33 ≤ length (now s) ⌝ }
-    ensures { λ r. ⌜ r ≡ faultsFrom side n (now (s .entry)) 1 (bytes "TTOONNNN") ⌝ }
+    ensures { λ r. ⌜ r ≡ faultsFrom side (now (pool .entry)) (now (s .entry)) 1 (bytes "TTOONNNN") ⌝ }
 {
     worse(
-        operand_fault(side, n, s, 1, b'T'),
+        operand_fault(side, pool, s, 1, b'T'),
         worse(
-            operand_fault(side, n, s, 4, b'T'),
+            operand_fault(side, pool, s, 4, b'T'),
             worse(
-                operand_fault(side, n, s, 7, b'O'),
+                operand_fault(side, pool, s, 7, b'O'),
                 worse(
-                    operand_fault(side, n, s, 10, b'O'),
-                    number_faults(side, n, s),
+                    operand_fault(side, pool, s, 10, b'O'),
+                    number_faults(side, pool, s),
                 ),
             ),
         ),
     )
 }
 
-fn key_faults(side: Side, n: usize, s: &[u8]) -> Fault
+fn key_faults(side: Side, pool: &[u8], s: &[u8]) -> Fault
     requires { ⌜ 7 ≤ length (now s) ⌝ }
-    ensures { λ r. ⌜ r ≡ faultsFrom side n (now (s .entry)) 1 (bytes "T!") ⌝ }
+    ensures { λ r. ⌜ r ≡ faultsFrom side (now (pool .entry)) (now (s .entry)) 1 (bytes "T!") ⌝ }
 {
     worse(
-        operand_fault(side, n, s, 1, b'T'),
-        operand_fault(side, n, s, 4, b'!'),
+        operand_fault(side, pool, s, 1, b'T'),
+        operand_fault(side, pool, s, 4, b'!'),
     )
 }
 
 // The fault of the operands of a command by its number, from the bytes that begin with it.
-fn faults(side: Side, n: usize, s: &[u8], byte: u8) -> Fault
+fn faults(side: Side, pool: &[u8], s: &[u8], byte: u8) -> Fault
     requires { ⌜ widthOf byte ≤ length (now s) ⌝ }
-    ensures { λ r. ⌜ r ≡ faultsOf side n (now (s .entry)) (operands byte) ⌝ }
+    ensures { λ r. ⌜ r ≡ faultsOf side (now (pool .entry)) (now (s .entry)) (operands byte) ⌝ }
 {
     match byte {
-        1 => head_faults(side, n, s),
-        2 => constant_faults(side, n, s),
-        3 => alias_faults(side, n, s),
-        4 => enum_faults(side, n, s),
-        5 => value_faults(side, n, s),
-        6 => bitfield_faults(side, n, s),
-        7 => member_faults(side, n, s),
-        8 => struct_faults(side, n, s),
-        9 => family_faults(side, n, s),
-        10 => operand_fault(side, n, s, 1, b'T'),
-        11 => field_faults(side, n, s),
-        12 => key_faults(side, n, s),
-        13 => key_faults(side, n, s),
-        14 => operand_fault(side, n, s, 1, b'T'),
+        1 => head_faults(side, pool, s),
+        2 => constant_faults(side, pool, s),
+        3 => alias_faults(side, pool, s),
+        4 => enum_faults(side, pool, s),
+        5 => value_faults(side, pool, s),
+        6 => bitfield_faults(side, pool, s),
+        7 => member_faults(side, pool, s),
+        8 => struct_faults(side, pool, s),
+        9 => family_faults(side, pool, s),
+        10 => operand_fault(side, pool, s, 1, b'T'),
+        11 => field_faults(side, pool, s),
+        12 => key_faults(side, pool, s),
+        13 => key_faults(side, pool, s),
+        14 => operand_fault(side, pool, s, 1, b'T'),
         15 => Fault::Fine,
         0 | 16..=255 => Fault::Fine,
     }
@@ -427,10 +438,10 @@ impl Cursor {
     // A whole command that may stand here, by its operands: 4, 5 and 6.
     fn judge(self, side: Side, stream: &[u8], pool: &[u8], byte: u8, width: usize) -> Judged
         requires { ⌜ (self .at + width ≤ length (now stream)) × (width ≡ widthOf byte) ⌝ }
-        ensures { λ r. ⌜ r ≡ faulted (self .at) (ready (now (stream .entry)) self byte width) (faultsOf side (length (now (pool .entry))) (drop (self .at) (now (stream .entry))) (operands byte)) ⌝ }
+        ensures { λ r. ⌜ r ≡ faulted (self .at) (ready (now (stream .entry)) self byte width) (faultsOf side (now (pool .entry)) (drop (self .at) (now (stream .entry))) (operands byte)) ⌝ }
     {
         let at = self.at;
-        match faults(side, pool.len(), &stream[at..], byte) {
+        match faults(side, pool, &stream[at..], byte) {
             Fault::Outside => Judged::Refused(Refusal::Outside, at),
             Fault::Missing => Judged::Refused(Refusal::Missing, at),
             Fault::Flag => Judged::Refused(Refusal::Flag, at),
@@ -441,7 +452,7 @@ impl Cursor {
     // The command at the cursor with the cursor after it, or the refusal and its place: 2, then 1, then 3, then those of its operands. All of it is in
     // one place for every number, so that a caller who drops the command does not pay for it.
     pub fn judged(self, side: Side, stream: &[u8], pool: &[u8]) -> Judged
-        ensures { λ r. ⌜ r ≡ judgedAt side (now (stream .entry)) (length (now (pool .entry))) self ⌝ }
+        ensures { λ r. ⌜ r ≡ judgedAt side (now (stream .entry)) (now (pool .entry)) self ⌝ }
     {
         let at = self.at;
         if stream.len() <= at {

@@ -8,7 +8,7 @@ ghost use Rattle.record.specs.Le.{u16At, u32At, u64At};
 pub fn byte_at(s: &[u8], at: usize) -> u8
     ensures { λ r. ⌜ r ≡ getD (now (s .entry)) at 0 ⌝ }
 {
-    if at < s.len() { s[at] } else { 0 }
+    texts::le::byte_at(s, at)
 }
 
 pub fn u16_at(s: &[u8], at: usize) -> u16

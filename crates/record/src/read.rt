@@ -27,7 +27,7 @@ const POOL_LIMIT: usize = 16384;
 
 // Judges the commands from the front.
 fn read_commands(side: Side, stream: &[u8], pool: &[u8]) -> Outcome
-    ensures { λ r. ⌜ r ≡ outcomeOf (parsedFrom side (now (stream .entry)) (length (now (pool .entry))) start) ⌝ }
+    ensures { λ r. ⌜ r ≡ outcomeOf (parsedFrom side (now (stream .entry)) (now (pool .entry)) start) ⌝ }
 {
     let mut cursor = Cursor::new();
     loop {

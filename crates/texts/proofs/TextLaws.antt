@@ -1,9 +1,9 @@
--- Equality of texts. Assumes nothing.
+-- Equality of texts, and laws of tests and loops that all proofs use. Assumes nothing.
 use Prim.Native.Nat.{ℕ, suc, _≤_, _<_}
-use mathlib.Core.Bool.{Bool, true, false, and-eq-true-iff, false≢true}
+use mathlib.Core.Bool.{Bool, true, false, _&&_, and-eq-true-iff, false≢true}
 use mathlib.Core.List.{[], _∷_}
 use mathlib.Core.Logic.{_⊎_, inl, inr}
-use mathlib.Core.Path.{_≡_, refl, ap, ap₂}
+use mathlib.Core.Path.{_≡_, refl, sym, ap, ap₂, _∙_}
 use native.Mathlib.Omega.{arith}
 use lib.Dec.{eqb, ltb}
 use lib.ListN.{length, getD}
@@ -17,13 +17,23 @@ below-or a b = go (ltb a b) refl
     go true e = inl (ltb-true a b e)
     go false e = inr (ltb-false a b e)
 
+pub both : (a b : Bool) → (a && b) ≡ true → (a ≡ true) × (b ≡ true)
+both a b = and-eq-true-iff a b .0
+
+-- a loop's invariant says that the answer wanted is x's, so far: it stays so after a step, and at a way out the value there is the answer
+pub kept : {A : Type 0} {x y z : A} → x ≡ y → y ≡ z → x ≡ z
+kept p q = p ∙ q
+
+pub ended : {A : Type 0} {x y z : A} → x ≡ y → y ≡ z → z ≡ x
+ended p q = sym (p ∙ q)
+
 pub eqs→eq : (s t : Str) → eqs s t ≡ true → s ≡ t
 unfolding eqs
 eqs→eq [] [] h = refl
 eqs→eq [] (b ∷ t) h = absurd (false≢true h)
 eqs→eq (a ∷ s) [] h = absurd (false≢true h)
 eqs→eq (a ∷ s) (b ∷ t) h =
-    let k = and-eq-true-iff (eqb a b) (eqs s t) .0 h in
+    let k = both (eqb a b) (eqs s t) h in
     ap₂ _∷_ (eqb-true a b (k .0)) (eqs→eq s t (k .1))
 
 pub eqs-refl : (s : Str) → eqs s s ≡ true

@@ -1,5 +1,5 @@
--- Pairs compared from the back (02, W-203): "Compare lengths first, then bytes from the last to the first .. a call over the same loop counts the pairs
--- compared: none at unequal lengths, else up to and with the first unequal, or all." Assumes nothing.
+-- Pairs compared from the back (02, W-203): "Compare lengths first, then bytes from the last to the first .. a call over the same loop counts the
+-- pairs compared: none at unequal lengths, else up to and with the first unequal, or all." Assumes nothing.
 use Prim.Native.Nat.{ℕ, suc}
 use mathlib.Core.List.{[], _∷_, reverse}
 use mathlib.Core.Bool.{cond}

@@ -1,8 +1,15 @@
-// Little-endian numbers whose bytes are all there. The compiler makes one read of the machine of each.
+// Bytes and little-endian numbers. Four and eight bytes are read where all of them are there, so that the compiler makes one read of each.
 ghost use Prim.Native.Nat.{_+_, _≤_, _<_};
 ghost use mathlib.Core.Path.{_≡_};
-ghost use lib.ListN.{length};
+ghost use lib.ListN.{length, getD};
 ghost use Rattle.texts.specs.Le.{u32At, u64At};
+
+// A byte at any place; past the end 0.
+pub fn byte_at(s: &[u8], at: usize) -> u8
+    ensures { λ r. ⌜ r ≡ getD (now (s .entry)) at 0 ⌝ }
+{
+    if at < s.len() { s[at] } else { 0 }
+}
 
 // A byte as a larger number.
 pub fn wide(x: u8) -> u64

@@ -3,7 +3,7 @@
 
 use super::draft::Draft;
 use super::make;
-use super::words::{self, POINTERS, PRIMITIVES, REFERENCES, SLOTS, STRANGE_TYPES};
+use super::words::{self, POINTERS, PRIMITIVES, REFERENCES, SLOTS};
 use crate::model::{Content, Field, Item, Struct};
 use crate::rng::Rng;
 
@@ -36,7 +36,13 @@ pub fn add_constant(draft: &mut Draft, rng: &mut Rng) {
     let name = draft.name(rng);
     let mut constant = match rng.chance(70) {
         true => make::integer(&name, words::integer(rng)),
-        false => make::text(&name, &rng.word(&["", "5", "05", "-1", "magic", "a b"])),
+        false => make::text(
+            &name,
+            &rng.word_or(
+                &["", "5", "05", "-1", "magic", "a b"],
+                &["\u{b5}m", "\u{ff15}"],
+            ),
+        ),
     };
     constant.ora_api = rng.chance(50);
     constant.first_release = rng.chance(60).then(|| words::old_date(rng));
@@ -194,7 +200,7 @@ pub fn any_field(content: &Content, name: &str, rng: &mut Rng) -> Field {
 pub fn type_word(rng: &mut Rng) -> String {
     match rng.chance(90) {
         true => rng.word(&PRIMITIVES),
-        false => rng.word(&STRANGE_TYPES),
+        false => words::strange_type(rng),
     }
 }
 

@@ -1,7 +1,7 @@
 //! Records with a fault of each refusal.
 
-use super::encode::{Encoded, encode};
-use super::{heavy, make};
+use super::encode::{Encoded, encode, inside_sequence};
+use super::{heavy, make, sequences};
 use crate::commands::{self, Form};
 use crate::model::{Content, Side};
 use crate::reader::{self, POOL_LIMIT, STREAM_LIMIT, read};
@@ -170,6 +170,10 @@ fn insert_blank(stream: &mut Vec<u8>, place: usize, byte: u8) {
 fn outside(record: &mut Encoded, rng: &mut Rng) {
     let places = operand_places(&record.stream, Form::is_text);
     let pool = record.pool.len();
+    if rng.beyond_ascii(50) {
+        let (start, length) = cut_text(record, rng);
+        return write_text(record, &places, start, length, rng);
+    }
     let (start, length) = match rng.below(7) {
         0 => (pool + 1, 0),
         1 => (pool, 1),
@@ -180,6 +184,29 @@ fn outside(record: &mut Encoded, rng: &mut Rng) {
         _ => (rng.below(pool + 1), rng.below(256)),
     };
     write_text(record, &places, start, length, rng);
+}
+
+/// A text that begins or ends inside a sequence, or is empty there; the pool gets
+/// a sequence if it has none.
+fn cut_text(record: &mut Encoded, rng: &mut Rng) -> (usize, usize) {
+    let inside = |pool: &[u8]| -> Vec<usize> {
+        (0..pool.len())
+            .filter(|&at| inside_sequence(pool, at))
+            .collect()
+    };
+    if inside(&record.pool).is_empty() {
+        record.pool.extend(sequences::character(rng).bytes());
+    }
+    let at = *rng.pick(&inside(&record.pool));
+    match rng.below(4) {
+        0 => (at, 0),
+        1 => (at, record.pool.len() - at),
+        2 => (at, 1 + rng.below(4)),
+        _ => {
+            let start = at.saturating_sub(1 + rng.below(9));
+            (start, at - start)
+        }
+    }
 }
 
 fn missing(record: &mut Encoded, rng: &mut Rng) {
@@ -212,6 +239,15 @@ fn flag(record: &mut Encoded, rng: &mut Rng) {
 }
 
 fn letter(record: &mut Encoded, rng: &mut Rng) {
+    if rng.beyond_ascii(70) {
+        let bytes = sequences::ill_formed(rng);
+        let at = match rng.below(3) {
+            0 => record.pool.len(),
+            _ => rng.below(record.pool.len() + 1),
+        };
+        record.pool.splice(at..at, bytes);
+        return;
+    }
     let byte = *rng.pick(&[0x00, 0x0A, 0x1F, 0x7F, 0x80, 0xFF]);
     match record.pool.is_empty() || rng.chance(20) {
         true => rng.insert(&mut record.pool, byte),

@@ -65,6 +65,21 @@ fn find(pool: &[u8], text: &[u8]) -> Option<usize> {
     }
 }
 
+/// Whether this place of a pool is inside a sequence of several bytes.
+pub fn inside_sequence(pool: &[u8], at: usize) -> bool {
+    pool.get(at)
+        .is_some_and(|byte| (0x80..=0xBF).contains(byte))
+}
+
+/// This place, or the front of the sequence that it is inside of.
+fn sequence_start(pool: &[u8], at: usize) -> usize {
+    let whole = |at: &usize| !inside_sequence(pool, *at);
+    (0..=at)
+        .rev()
+        .find(whole)
+        .expect("a pool begins with a sequence")
+}
+
 /// How texts come into the pool.
 enum Packing<'r> {
     Shared,
@@ -261,7 +276,10 @@ impl<'r> Encoder<'r> {
         let share = match &mut self.packing {
             Packing::Shared => true,
             Packing::Spread => false,
-            Packing::Drawn(rng) if text.is_empty() => return rng.below(length + 1),
+            Packing::Drawn(rng) if text.is_empty() => {
+                let at = rng.below(length + 1);
+                return sequence_start(&self.out.pool, at);
+            }
             Packing::Drawn(rng) => rng.chance(60),
         };
         match find(&self.out.pool, text).filter(|_| share) {

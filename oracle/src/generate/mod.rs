@@ -13,6 +13,7 @@ pub mod offers;
 pub mod pointers;
 pub mod questions;
 pub mod sections;
+pub mod sequences;
 pub mod shuffle;
 pub mod slices;
 pub mod steps;

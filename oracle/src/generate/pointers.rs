@@ -3,8 +3,8 @@
 //! their name replaces too.
 
 use super::encode::{Encoded, encode};
-use super::words::{PLAIN_KINDS, POINTERS, PRIMITIVES, STRANGE_KINDS};
-use super::{damage, make};
+use super::words::{PLAIN_KINDS, POINTERS, PRIMITIVES};
+use super::{damage, make, words};
 use crate::model::{Content, Family, Field, Item, Side, Struct, Variant};
 use crate::rng::Rng;
 
@@ -30,6 +30,21 @@ const NEAR_KINDS: [&str; 8] = [
 
 /// Few names of types, so that equal ones meet.
 const NAMES: [&str; 9] = ["a", "a", "b", "c", "d", "", "a::b", "tile", "tile2"];
+
+/// Names beyond ASCII that look the same, or begin or end with another's bytes.
+const UNITS: [&str; 7] = [
+    "\u{b5}",
+    "\u{3bc}",
+    "\u{c5}",
+    "\u{212b}",
+    "A\u{30a}",
+    "a\u{b5}",
+    "tile\u{1f52c}",
+];
+
+fn name(rng: &mut Rng) -> String {
+    rng.word_or(&NAMES, &UNITS)
+}
 
 /// Refusals that a short record can have.
 const REFUSALS: [u32; 8] = [1, 2, 3, 4, 5, 6, 7, 9];
@@ -81,12 +96,12 @@ pub fn content(rng: &mut Rng) -> Content {
 }
 
 fn drawn(most: usize, rng: &mut Rng) -> Vec<String> {
-    (0..rng.below(most + 1)).map(|_| rng.word(&NAMES)).collect()
+    (0..rng.below(most + 1)).map(|_| name(rng)).collect()
 }
 
 /// An item that is no type, of a type's name.
 fn bystander(rng: &mut Rng) -> Item {
-    let name = rng.word(&NAMES);
+    let name = name(rng);
     match rng.below(6) {
         0 => make::integer(&name, 1).into(),
         1 => make::alias(&name, "u8").into(),
@@ -115,7 +130,7 @@ fn family(name: &str, names: &Names, rng: &mut Rng) -> Family {
 
 fn variant(names: &Names, rng: &mut Rng) -> Variant {
     Variant {
-        discriminant: rng.word(&NAMES),
+        discriminant: name(rng),
         fields: fields(2, names, rng),
     }
 }
@@ -157,7 +172,7 @@ fn kind(rng: &mut Rng) -> String {
         70..=81 => rng.word(&POINTERS),
         82..=91 => rng.word(&PLAIN_KINDS),
         92..=96 => rng.word(&NEAR_KINDS),
-        _ => rng.word(&STRANGE_KINDS),
+        _ => words::strange_kind(rng),
     }
 }
 
@@ -167,6 +182,6 @@ fn operand(rng: &mut Rng) -> Option<String> {
         0..=2 => None,
         3 => Some(rng.word(&PRIMITIVES)),
         4 => Some("nobody".into()),
-        _ => Some(rng.word(&NAMES)),
+        _ => Some(name(rng)),
     }
 }

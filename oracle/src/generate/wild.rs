@@ -1,6 +1,6 @@
 //! Contents of few names and many doublets, and single changes to any content.
 
-use super::words::{OTHER_SLOTS, POINTERS, PRIMITIVES, REFERENCES, SLOTS, STRANGE_KINDS};
+use super::words::{POINTERS, PRIMITIVES, REFERENCES, SLOTS};
 use super::{base, heavy, make, words};
 use crate::model::{
     Constant, Content, Enum, EnumValue, Family, Field, Item, Key, Member, Struct, Value, Variant,
@@ -9,6 +9,20 @@ use crate::rng::Rng;
 
 const NAMES: [&str; 16] = [
     "a", "a", "a", "b", "b", "c", "d", "", "a::b", "a::V", "a:", ":b", "a:::b", "a!", "a;", "a0",
+];
+
+/// Few names beyond ASCII, so that equal ones meet, and such as look the same.
+const UNITS: [&str; 10] = [
+    "\u{b5}",
+    "\u{3bc}",
+    "\u{c5}",
+    "\u{212b}",
+    "A\u{30a}",
+    "a::\u{b5}",
+    "\u{b5}::b",
+    "\u{430}",
+    "\u{ffff}",
+    "\u{10000}",
 ];
 
 /// Few dates, so that equal ones meet.
@@ -48,7 +62,7 @@ pub fn graph(most: usize, rng: &mut Rng) -> Content {
 }
 
 pub fn name(rng: &mut Rng) -> String {
-    rng.word(&NAMES)
+    rng.word_or(&NAMES, &UNITS)
 }
 
 fn date(rng: &mut Rng) -> Option<String> {
@@ -119,7 +133,7 @@ fn slot(rng: &mut Rng) -> Option<String> {
     match rng.below(10) {
         0..=4 => None,
         5..=8 => Some(rng.word(&SLOTS)),
-        _ => Some(rng.word(&OTHER_SLOTS)),
+        _ => Some(words::other_slot(rng)),
     }
 }
 
@@ -188,7 +202,7 @@ fn kind(rng: &mut Rng) -> String {
         3..=6 => rng.word(&REFERENCES),
         7 => rng.word(&POINTERS),
         8 => rng.word(&["padding", "string", "inline_array", "inline_array2d"]),
-        _ => rng.word(&STRANGE_KINDS),
+        _ => words::strange_kind(rng),
     }
 }
 

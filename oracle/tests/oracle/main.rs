@@ -11,5 +11,6 @@ mod pairs;
 mod passes;
 mod pointers;
 mod reader;
+mod utf8;
 mod values;
 mod verdicts;

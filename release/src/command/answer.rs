@@ -1,13 +1,15 @@
 //! An answer of the check, or a record's refusal, as a line for people and as JSON.
 
-use menqachu::record::commands::by_byte;
-use menqachu::record::numbers::{reason, word};
+use menqachu::record::commands::{by_byte, Form};
+use menqachu::record::numbers::{reason, word, CONTROL, INSIDE};
 use menqachu::record::parts::STREAM_LIMIT;
+use menqachu::text::letters::shown;
 use menqachu::{Answer, Record, Side};
 
 use super::json::Json;
 use super::{DAMAGED, DONE, STOPPED};
 
+const OUTSIDE: u32 = 4;
 const LETTER: u32 = 7;
 const LONG: u32 = 8;
 
@@ -26,6 +28,7 @@ struct Refusal {
     in_pool: bool,
     at_end: bool,
     byte: Option<u8>,
+    reason: &'static str,
 }
 
 impl Told {
@@ -42,18 +45,19 @@ impl Told {
 
     /// The refusal of a record that was read as this side.
     pub fn of_refusal(number: u32, side: Option<Side>, place: usize, record: Record) -> Told {
+        let reason = found_reason(number, place, record);
         let refusal = match number {
             LETTER => {
                 let byte = record.pool.get(place).copied();
-                Refusal { side, place, in_pool: true, at_end: false, byte }
+                Refusal { side, place, in_pool: true, at_end: false, byte, reason }
             }
             LONG => {
                 let in_pool = record.stream.len() <= STREAM_LIMIT;
-                Refusal { side, place, in_pool, at_end: false, byte: None }
+                Refusal { side, place, in_pool, at_end: false, byte: None, reason }
             }
             _ => {
                 let byte = record.stream.get(place).copied();
-                Refusal { side, place, in_pool: false, at_end: byte.is_none(), byte }
+                Refusal { side, place, in_pool: false, at_end: byte.is_none(), byte, reason }
             }
         };
         Told { number, message: None, refusal: Some(refusal) }
@@ -66,8 +70,14 @@ impl Told {
 
     /// The refusal of a record that an edit would make, and that is at no hand.
     pub fn of_result(number: u32, place: usize) -> Told {
-        let refusal = Refusal { side: None, place, in_pool: false, at_end: false, byte: None };
+        let reason = reason(number).unwrap_or_default();
+        let refusal = Refusal { side: None, place, in_pool: false, at_end: false, byte: None, reason };
         Told { number, message: None, refusal: Some(refusal) }
+    }
+
+    /// A verdict's message, or nothing.
+    pub fn message(&self) -> &[u8] {
+        self.message.as_deref().unwrap_or_default().as_bytes()
     }
 
     pub fn accepted(&self) -> bool {
@@ -90,10 +100,9 @@ impl Told {
         let word = word(number).unwrap_or("(a number that this command does not know)");
         match (&self.refusal, &self.message) {
             (Some(refusal), _) => {
-                let reason = reason(number).unwrap_or_default();
-                format!("{number} {word}: {}: {reason}", refusal.line())
+                format!("{number} {word}: {}: {}", refusal.line(), refusal.reason)
             }
-            (None, Some(message)) => format!("{number} {word}: {message}"),
+            (None, Some(message)) => format!("{number} {word}: {}", shown(message.as_bytes())),
             (None, None) => format!("{number} {word}"),
         }
     }
@@ -141,6 +150,34 @@ impl Refusal {
         let side = self.side.map_or(String::new(), |side| format!("{} ", side_name(side)));
         format!("{side}record, place {} of the {}{at}", self.place, self.part())
     }
+}
+
+/// Why a record is refused, as far as its bytes tell.
+fn found_reason(number: u32, place: usize, record: Record) -> &'static str {
+    let control = |byte: &u8| byte.is_ascii_control();
+    match number {
+        OUTSIDE if !reaches_past(place, record) => INSIDE,
+        LETTER if record.pool.get(place).is_some_and(control) => CONTROL,
+        _ => reason(number).unwrap_or_default(),
+    }
+}
+
+/// Whether a text of the command at this place reaches past the pool.
+fn reaches_past(place: usize, record: Record) -> bool {
+    let Some(command) = record.stream.get(place).and_then(|byte| by_byte(*byte)) else { return true };
+    let mut at = place + 1;
+    command.operands.iter().any(|operand| {
+        let bytes = record.stream.get(at..at + operand.form.width()).unwrap_or_default();
+        at += operand.form.width();
+        match (operand.form, bytes) {
+            (Form::Optional, [0xFF, 0xFF, 0]) => false,
+            (Form::Text | Form::Optional, &[low, high, length]) => {
+                let start = usize::from(u16::from_le_bytes([low, high]));
+                start + usize::from(length) > record.pool.len()
+            }
+            _ => false,
+        }
+    })
 }
 
 fn side_name(side: Side) -> &'static str {

@@ -9,7 +9,7 @@ use super::check::told;
 use super::files::Given;
 use super::json::Json;
 use super::output::{print, print_line};
-use super::{files, Done, Stop, DONE, STOPPED};
+use super::{files, notes, Done, Stop, DONE, STOPPED};
 
 pub fn run(args: &Args) -> Done {
     let given = args.operands.iter().map(|file| files::record(file)).collect::<Result<Vec<_>, _>>()?;
@@ -28,6 +28,9 @@ pub fn run(args: &Args) -> Done {
     } else {
         let lines: String = links.iter().map(|link| link.line() + "\n").collect();
         print(lines.as_bytes())?;
+        for link in &links {
+            notes::tell(&[link.offered.record(), link.against.record()], b"", link.told.message());
+        }
     }
     Ok(if links.iter().all(|link| link.told.accepted()) { DONE } else { STOPPED })
 }

@@ -10,7 +10,7 @@ use super::args::Args;
 use super::files::{self, Given};
 use super::json::Json;
 use super::output::print_line;
-use super::{help, problem, Done, Stop, DONE};
+use super::{help, notes, problem, Done, Stop, DONE};
 
 const KEY: &str = "changed";
 
@@ -47,9 +47,12 @@ fn add(args: &Args, draft: &OsStr, addition: &OsStr, released: &OsStr) -> Done {
 
 fn remove(args: &Args, draft: &OsStr, name: &OsStr, released: &OsStr) -> Done {
     let pair = Pair { draft: edited(draft)?, released: files::record(released)?, json: args.json };
-    pair.edit(None, |changed, buffer| {
-        draft_remove(changed, buffer, name.as_encoded_bytes(), pair.released.record())
-    })
+    let name = name.as_encoded_bytes();
+    let done = pair.edit(None, |changed, buffer| draft_remove(changed, buffer, name, pair.released.record()));
+    if done.is_err() && !args.json {
+        notes::tell(&[pair.draft.record()], name, name);
+    }
+    done
 }
 
 /// A draft that is to be written again, and so cannot come from standard input.

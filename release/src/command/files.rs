@@ -6,6 +6,7 @@ use std::io::{self, Read, Write};
 use std::path::Path;
 
 use menqachu::record::parts::Parts;
+use menqachu::text::letters::{escaped, unseen};
 use menqachu::Record;
 
 use super::output::complain;
@@ -121,10 +122,10 @@ pub fn shown_file(file: &OsStr) -> String {
 pub fn shown(word: &OsStr) -> String {
     let mut text = String::new();
     for letter in word.to_string_lossy().chars() {
-        if letter.is_control() {
-            text.extend(letter.escape_default());
-        } else {
-            text.push(letter);
+        match letter {
+            _ if letter.is_ascii_control() => text.extend(letter.escape_default()),
+            _ if unseen(letter) => text.push_str(&escaped(letter)),
+            _ => text.push(letter),
         }
     }
     text

@@ -2,6 +2,8 @@
 
 use std::fmt::{self, Write};
 
+use menqachu::text::letters::unseen;
+
 #[derive(Clone, Debug)]
 pub enum Json {
     Null,
@@ -17,7 +19,7 @@ impl Json {
         Json::Text(text.into())
     }
 
-    /// Bytes of a pool, which are ASCII.
+    /// Bytes of a pool, which are UTF-8.
     pub fn bytes(bytes: &[u8]) -> Json {
         Json::Text(String::from_utf8_lossy(bytes).into_owned())
     }
@@ -61,7 +63,9 @@ fn write_text(out: &mut fmt::Formatter, text: &str) -> fmt::Result {
     for letter in text.chars() {
         match letter {
             '"' | '\\' => write!(out, "\\{letter}")?,
-            control if control < ' ' => write!(out, "\\u{:04x}", control as u32)?,
+            letter if unseen(letter) => {
+                letter.encode_utf16(&mut [0; 2]).iter().try_for_each(|unit| write!(out, "\\u{unit:04x}"))?
+            }
             other => out.write_char(other)?,
         }
     }

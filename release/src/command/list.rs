@@ -3,6 +3,7 @@
 use menqachu::record::layout::{layouts, Field, Layouts};
 use menqachu::record::room::list_whole;
 use menqachu::record::Problem;
+use menqachu::text::letters::shown_lines;
 use menqachu::Side;
 
 use super::args::Args;
@@ -22,7 +23,7 @@ pub fn run(args: &Args) -> Done {
         if answer.number != 0 {
             return Err(problem::stop(Problem::Refused(answer), &given, Some(side), None));
         }
-        print(&list)?;
+        print(shown_lines(&list).as_bytes())?;
     }
     Ok(DONE)
 }

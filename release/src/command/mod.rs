@@ -13,6 +13,7 @@ mod help;
 mod json;
 mod list;
 mod load;
+mod notes;
 mod output;
 mod owner;
 mod pointers;

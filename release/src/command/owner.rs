@@ -1,12 +1,13 @@
 //! `release owner`: the versioned structure that a name belongs to.
 
+use menqachu::text::letters::shown;
 use menqachu::{owner, Owner, Side};
 
 use super::answer::Told;
 use super::args::Args;
 use super::json::Json;
-use super::output::{print, print_line};
-use super::{files, problem, Done, DONE};
+use super::output::print_line;
+use super::{files, notes, problem, Done, DONE};
 
 pub fn run(args: &Args) -> Done {
     let given = files::record(&args.operands[0])?;
@@ -24,7 +25,10 @@ pub fn run(args: &Args) -> Done {
         let value = vec![("refusal", Json::Null), ("owner", Json::or_null(owner.map(Json::bytes)))];
         print_line(&Json::Object(value).to_string())?;
     } else {
-        print(&[owner.unwrap_or(b"none"), b"\n"].concat())?;
+        print_line(&owner.map_or("none".to_string(), shown))?;
+        if owner.is_none() {
+            notes::tell(&[record], name, name);
+        }
     }
     Ok(DONE)
 }

@@ -2,13 +2,14 @@
 
 use menqachu::record::numbers::word;
 use menqachu::record::pointers::{broken, Broken};
+use menqachu::text::letters::shown;
 use menqachu::text::written;
 use menqachu::Side;
 
 use super::args::Args;
 use super::json::Json;
 use super::output::print_line;
-use super::{files, problem, Done, DONE, STOPPED};
+use super::{files, notes, problem, Done, DONE, STOPPED};
 
 /// A pointer that names only the other of a structure and a family.
 const OTHER: u32 = 60;
@@ -23,12 +24,13 @@ pub fn run(args: &Args) -> Done {
         print_line(&Json::Object(value).to_string())?;
     } else {
         print_line(&broken.as_ref().map_or("accepted".to_string(), line))?;
+        let name = broken.as_ref().and_then(|broken| broken.name.as_deref());
+        notes::tell(&[given.record()], b"", name.unwrap_or_default());
     }
     Ok(if broken.is_some() { STOPPED } else { DONE })
 }
 
 fn line(broken: &Broken) -> String {
-    let shown = |bytes: &[u8]| String::from_utf8_lossy(bytes).into_owned();
     let (number, kind) = (broken.number, shown(&broken.kind));
     let field = format!("{}.{}", shown(&broken.type_name), shown(&broken.field));
     let named = match &broken.name {

@@ -5,11 +5,17 @@ pub fn word(number: u32) -> Option<&'static str> {
     WORDS.iter().find(|(of, _)| *of == number).map(|(_, word)| *word)
 }
 
-/// What document 01 gives a refusal for.
+/// What document 01 gives a refusal for, and document 02 (W-206) 4 and 7.
 pub fn reason(number: u32) -> Option<&'static str> {
     let index = usize::try_from(number).ok()?.checked_sub(1)?;
     REASONS.get(index).copied()
 }
+
+/// What a text is refused for that does not reach past the pool.
+pub const INSIDE: &str = "a text begins or ends inside a character";
+
+/// What a pool is refused for that is UTF-8 as far as the place and at it.
+pub const CONTROL: &str = "the byte is 00 to 1F or 7F hex";
 
 const WORDS: [(u32, &str); 52] = [
     (0, "accepted"),
@@ -73,7 +79,7 @@ const REASONS: [&str; 9] = [
     "a text reaches past the pool",
     "a required text is absent",
     "a flag byte is above 1",
-    "a pool byte is outside 20 to 7E hex",
+    "no character of UTF-8 begins there",
     "the commands are over 32,768 bytes, or the pool is over 16,384",
     "a field's size or end is above 4,294,967,295",
 ];

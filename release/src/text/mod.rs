@@ -1,6 +1,8 @@
 //! The text form of records, which docs/TEXT-FORM.md describes: one command a line, with names in place of
 //! stretches of the pool.
 
+pub mod alike;
+pub mod letters;
 mod place;
 mod read;
 mod tokens;
@@ -9,4 +11,4 @@ mod write;
 
 pub use read::{assemble, Fault};
 pub use tokens::{quoted, written};
-pub use write::{constant_value, line, show};
+pub use write::{constant_value, line, show, texts};

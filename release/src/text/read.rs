@@ -22,8 +22,12 @@ impl fmt::Display for Fault {
     }
 }
 
+/// What some editors put at the front of a text.
+const BYTE_ORDER_MARK: &[u8] = b"\xEF\xBB\xBF";
+
 /// The record that a text describes.
 pub fn assemble(text: &[u8]) -> Result<Parts, Fault> {
+    let text = text.strip_prefix(BYTE_ORDER_MARK).unwrap_or(text);
     let mut encoder = Encoder::default();
     let mut place = Place::start();
     let mut last = 1;

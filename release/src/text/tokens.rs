@@ -2,7 +2,9 @@
 
 use std::fmt;
 
-/// How much of a word a message shows.
+use super::letters::{escaped, may_stand, shown, unseen};
+
+/// How many characters of a word a message shows.
 const SHOWN: usize = 60;
 
 /// A quoted word is always a text, never a keyword.
@@ -16,93 +18,125 @@ pub enum Token {
 impl fmt::Display for Token {
     fn fmt(&self, out: &mut fmt::Formatter) -> fmt::Result {
         match self {
-            Token::Bare(text) | Token::Quoted(text) if text.len() > SHOWN => {
-                write!(out, "{}.. ({} bytes)", String::from_utf8_lossy(&text[..SHOWN]), text.len())
+            Token::Bare(text) | Token::Quoted(text) if letters(text).nth(SHOWN).is_some() => {
+                let front: String = letters(text).take(SHOWN).collect();
+                write!(out, "{}.. ({} bytes)", shown(front.as_bytes()), text.len())
             }
-            Token::Bare(word) => out.write_str(&String::from_utf8_lossy(word)),
+            Token::Bare(word) => out.write_str(&shown(word)),
             Token::Quoted(text) => out.write_str(&quoted(text)),
             Token::Equals => out.write_str("="),
         }
     }
 }
 
-/// The words of a line without its comment, or what is wrong with it.
+fn letters(text: &[u8]) -> impl Iterator<Item = char> + '_ {
+    text.utf8_chunks().flat_map(|chunk| chunk.valid().chars())
+}
+
+/// The words of a line without its comment, or what is wrong with it. A comment may hold any byte; all else is UTF-8.
 pub fn tokens(line: &[u8]) -> Result<Vec<Token>, String> {
+    let (line, odd) = match std::str::from_utf8(line) {
+        Ok(line) => (line, None),
+        Err(error) => {
+            let (front, rest) = line.split_at(error.valid_up_to());
+            (std::str::from_utf8(front).unwrap_or_default(), rest.first())
+        }
+    };
     let mut found = Vec::new();
     let mut rest = without_blanks(line);
-    while let Some(&first) = rest.first() {
+    while let Some(first) = rest.chars().next() {
         let (token, after) = match first {
-            b'#' => break,
-            b'=' => (Token::Equals, &rest[1..]),
-            b'"' => quoted_token(&rest[1..])?,
+            '#' => return Ok(found),
+            '=' => (Token::Equals, &rest[1..]),
+            '"' => quoted_token(&rest[1..], odd)?,
             _ => bare_token(rest)?,
         };
-        if token != Token::Equals && !after.first().is_none_or(|next| b" \t=".contains(next)) {
+        if token != Token::Equals && !after.is_empty() && !after.starts_with([' ', '\t', '=']) {
             return Err(format!("expected a blank or = after {token}; a text with \" or # in it is quoted"));
         }
         found.push(token);
         rest = without_blanks(after);
     }
-    Ok(found)
+    odd.map_or(Ok(found), |byte| Err(ill_formed(*byte)))
 }
 
-fn without_blanks(mut bytes: &[u8]) -> &[u8] {
-    while let [b' ' | b'\t', rest @ ..] = bytes {
-        bytes = rest;
-    }
-    bytes
+fn without_blanks(text: &str) -> &str {
+    text.trim_start_matches([' ', '\t'])
 }
 
-/// Whether a byte may stand in a word without quotes.
-fn bare(byte: u8) -> bool {
-    byte.is_ascii_graphic() && !b"\"#=\\".contains(&byte)
+/// Whether a character may stand in a word without quotes.
+fn bare(letter: char) -> bool {
+    letter != ' ' && !"\"#=\\".contains(letter) && !unseen(letter)
 }
 
-fn bare_token(rest: &[u8]) -> Result<(Token, &[u8]), String> {
-    let length = rest.iter().position(|byte| !bare(*byte)).unwrap_or(rest.len());
+fn bare_token(rest: &str) -> Result<(Token, &str), String> {
+    let length = rest.find(|letter| !bare(letter)).unwrap_or(rest.len());
     let (word, after) = rest.split_at(length);
-    match after.first() {
-        Some(b'\\') => Err("expected quotes around a text with \\, which is written as \\\\".to_string()),
-        Some(byte) if !letter(*byte) && *byte != b'\t' => Err(outside(*byte)),
-        _ => Ok((Token::Bare(word.to_vec()), after)),
+    match after.chars().next() {
+        Some('\\') => Err("expected quotes around a text with \\, which is written as \\\\".to_string()),
+        Some(letter) if unseen(letter) && letter != '\t' => Err(not_taken(letter)),
+        _ => Ok((Token::Bare(word.into()), after)),
     }
 }
 
-/// The text up to the closing quote, and what follows.
-fn quoted_token(inside: &[u8]) -> Result<(Token, &[u8]), String> {
-    let mut text = Vec::new();
+/// The text up to the closing quote, and what follows. Behind the line stands the odd byte, if there is one.
+fn quoted_token<'a>(inside: &'a str, odd: Option<&u8>) -> Result<(Token, &'a str), String> {
+    let mut text = String::new();
     let mut rest = inside;
-    loop {
-        match rest {
-            [b'"', after @ ..] => return Ok((Token::Quoted(text), after)),
-            [b'\\', byte @ (b'"' | b'\\'), after @ ..] => {
-                text.push(*byte);
-                rest = after;
+    while let Some(letter) = rest.chars().next() {
+        let after = &rest[letter.len_utf8()..];
+        rest = match letter {
+            '"' => return Ok((Token::Quoted(text.into()), after)),
+            '\\' => {
+                let (meant, after) = escape(after)?;
+                text.push(meant);
+                after
             }
-            [b'\\', ..] => return Err("expected \\\" or \\\\ inside the quotes".to_string()),
-            [byte, after @ ..] if letter(*byte) => {
-                text.push(*byte);
-                rest = after;
+            _ if unseen(letter) => return Err(not_taken(letter)),
+            _ => {
+                text.push(letter);
+                after
             }
-            [byte, ..] => return Err(outside(*byte)),
-            [] => return Err("expected a closing quote".to_string()),
-        }
+        };
+    }
+    Err(odd.map_or("expected a closing quote".to_string(), |byte| ill_formed(*byte)))
+}
+
+/// The character that is meant by what follows a backslash, and what follows that.
+fn escape(after: &str) -> Result<(char, &str), String> {
+    match after.chars().next() {
+        Some(letter @ ('"' | '\\')) => return Ok((letter, &after[1..])),
+        Some('u') => {}
+        _ => return Err("expected \\\", \\\\ or \\u{..} inside the quotes".to_string()),
+    }
+    let digits = after[1..].strip_prefix('{').and_then(|inside| inside.split_once('}'));
+    let number =
+        digits.filter(|(digits, _)| digits.len() <= 6 && digits.chars().all(|d| d.is_ascii_hexdigit()));
+    let meant = number.and_then(|(digits, rest)| Some((u32::from_str_radix(digits, 16).ok()?, rest)));
+    match meant.and_then(|(number, rest)| Some((char::from_u32(number)?, rest))) {
+        Some((letter, _)) if !may_stand(letter) => Err(not_taken(letter)),
+        Some(found) => Ok(found),
+        None => Err("expected a character's number after \\u, as in \\u{B5}".to_string()),
     }
 }
 
-/// Whether a pool may hold the byte.
-fn letter(byte: u8) -> bool {
-    (0x20..=0x7E).contains(&byte)
+/// A character that no text may hold, or none that is not written by its number.
+fn not_taken(letter: char) -> String {
+    match may_stand(letter) {
+        true => format!("expected \"{}\", since the character could not be seen", escaped(letter)),
+        false => format!("expected no control character, found {:02X}", u32::from(letter)),
+    }
 }
 
-fn outside(byte: u8) -> String {
-    format!("expected bytes from 20 to 7E hex, found {byte:02X}")
+fn ill_formed(byte: u8) -> String {
+    format!("expected UTF-8, found the byte {byte:02X}")
 }
 
 /// A text as a word, in quotes where it needs them.
 pub fn written(text: &[u8]) -> String {
-    if !text.is_empty() && text.iter().all(|byte| bare(*byte)) {
-        String::from_utf8_lossy(text).into_owned()
+    let word = String::from_utf8_lossy(text);
+    if !word.is_empty() && word.chars().all(bare) {
+        word.into_owned()
     } else {
         quoted(text)
     }
@@ -111,5 +145,5 @@ pub fn written(text: &[u8]) -> String {
 /// A text in quotes.
 pub fn quoted(text: &[u8]) -> String {
     let inside = String::from_utf8_lossy(text).replace('\\', "\\\\").replace('"', "\\\"");
-    format!("\"{inside}\"")
+    format!("\"{}\"", shown(inside.as_bytes()))
 }

@@ -2,6 +2,7 @@
 
 use std::collections::HashSet;
 
+use super::alike::{with_points, Alike};
 use super::place::Place;
 use super::tokens::{quoted, written};
 use crate::record::commands::{Operand, Said, Value, BIT_FIELD, CONSTANT, ENUM, FAMILY, HEAD, STRUCT};
@@ -13,7 +14,7 @@ use crate::{Record, Side};
 
 const VAST: u32 = 9;
 
-/// How many bytes of the pool a `pool` line shows.
+/// How many characters of the pool a `pool` line shows.
 const POOL_LINE: usize = 80;
 
 /// The text form of a record. One that is refused for its sizes alone has one, since all its commands can be
@@ -27,8 +28,14 @@ pub fn show(record: Record) -> Result<String, Problem> {
     Ok(pool_lines(&commands, record.pool) + &lines(&commands))
 }
 
+/// The texts of commands.
+pub fn texts(commands: &[Said]) -> impl Iterator<Item = &[u8]> {
+    commands.iter().flat_map(|said| (0..said.values.len()).filter_map(|index| said.text(index)))
+}
+
 /// A line for each command, indented by what it stands in, with an empty line around every block.
 fn lines(commands: &[Said]) -> String {
+    let alike = Alike::among(texts(commands));
     let mut text = String::new();
     let mut place = Place::start();
     let mut in_block = false;
@@ -43,19 +50,35 @@ fn lines(commands: &[Said]) -> String {
             }
             in_block = opens;
         }
-        text.push_str(&format!("{}{}\n", "    ".repeat(depth), line(said)));
+        text.push_str(&format!("{}{}{}\n", "    ".repeat(depth), line(said), comment(said, &alike)));
     }
     text
 }
 
+/// The code points of the command's texts that look like another text of the record, as a comment.
+fn comment(said: &Said, alike: &Alike) -> String {
+    let mut told: Vec<String> = Vec::new();
+    for text in texts(std::slice::from_ref(said)).filter(|text| alike.other(text).is_some()) {
+        let points = with_points(text);
+        if !told.contains(&points) {
+            told.push(points);
+        }
+    }
+    match told.is_empty() {
+        true => String::new(),
+        false => format!("  # {}", told.join(", ")),
+    }
+}
+
 /// The pool itself, where texts that overlap in it would have no room side by side.
 fn pool_lines(commands: &[Said], pool: &[u8]) -> String {
-    let texts = commands.iter().flat_map(|said| (0..said.values.len()).filter_map(|index| said.text(index)));
-    let distinct: HashSet<&[u8]> = texts.collect();
+    let distinct: HashSet<&[u8]> = texts(commands).collect();
     if distinct.iter().map(|text| text.len()).sum::<usize>() <= POOL_LIMIT {
         return String::new();
     }
-    pool.chunks(POOL_LINE).map(|bytes| format!("pool {}\n", quoted(bytes))).collect()
+    let letters: Vec<char> = String::from_utf8_lossy(pool).chars().collect();
+    let lines = letters.chunks(POOL_LINE).map(|line| line.iter().collect::<String>());
+    lines.map(|line| format!("pool {}\n", quoted(line.as_bytes()))).collect()
 }
 
 /// A command as its line has it, without blanks in front.

@@ -47,7 +47,7 @@ fn new_family_uncovered(draft: &mut Draft, rng: &mut Rng) {
 fn other_slot_uncovered(draft: &mut Draft, rng: &mut Rng) {
     let root = root(draft, rng);
     let (name, field) = (draft.name(rng), draft.name(rng));
-    draft.add(make::slotted(&name, &rng.word(&words::OTHER_SLOTS)), rng);
+    draft.add(make::slotted(&name, &words::other_slot(rng)), rng);
     draft.append(&root, make::pointer(&field, &name));
 }
 

@@ -33,7 +33,7 @@ fn described(draft: &mut Draft, rng: &mut Rng) {
 }
 
 fn now_unreadable(draft: &mut Draft, rng: &mut Rng) {
-    draft.current.release = Some(rng.word(&words::BAD_RELEASES));
+    draft.current.release = Some(words::bad_release(rng));
 }
 
 fn before_naming(draft: &mut Draft, rng: &mut Rng) {
@@ -42,7 +42,7 @@ fn before_naming(draft: &mut Draft, rng: &mut Rng) {
 }
 
 fn was_unreadable(draft: &mut Draft, rng: &mut Rng) {
-    draft.released.release = Some(rng.word(&words::BAD_RELEASES));
+    draft.released.release = Some(words::bad_release(rng));
 }
 
 fn same_release(draft: &mut Draft, _: &mut Rng) {

@@ -1,4 +1,4 @@
-use Rattle.drafts.specs.Content.{isPlain}
+use Rattle.record.specs.CommandTexts.{isPlain}
 use Rattle.drafts.proofs.MarkedLaws.{text-letter}
 use Rattle.drafts.proofs.marking.is_plain.Statement.{statement}
 use Rattle.drafts.proofs.marking.is_plain.Tie as tie

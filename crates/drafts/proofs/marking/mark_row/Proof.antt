@@ -1,4 +1,4 @@
-use Rattle.drafts.specs.Packing.{textsFrom}
+use Rattle.record.specs.CommandTexts.{textsFrom}
 use lib.ListN.{length, drop}
 use Prim.Native.Nat.{_+_, _-_, _*_, _≤_}
 use Rattle.drafts.proofs.MarkedLaws.{Marking, marking-start, marking-on, marking-end, texts-on, texts-end}

@@ -23,59 +23,59 @@ use Rattle.record.proofs.judge.value_faults.Reads as value-faults-reads
 
 head-faults-requires : tie.Need-head-faults-requires
 unfolding operands bytes wide widths widthWith widthOf
-head-faults-requires c κs = command-there 1 5 _ _ refl (c .match .keys1) (c .before .before .pre)
+head-faults-requires c κs = command-there 1 5 _ _ refl (c .match .keys1) (c .before .before .before .pre)
 
 constant-faults-requires : tie.Need-constant-faults-requires
 unfolding operands bytes wide widths widthWith widthOf
-constant-faults-requires c κs = command-there 2 20 _ _ refl (c .match .keys2) (c .before .before .pre)
+constant-faults-requires c κs = command-there 2 20 _ _ refl (c .match .keys2) (c .before .before .before .pre)
 
 alias-faults-requires : tie.Need-alias-faults-requires
 unfolding operands bytes wide widths widthWith widthOf
-alias-faults-requires c κs = command-there 3 7 _ _ refl (c .match .keys3) (c .before .before .pre)
+alias-faults-requires c κs = command-there 3 7 _ _ refl (c .match .keys3) (c .before .before .before .pre)
 
 enum-faults-requires : tie.Need-enum-faults-requires
 unfolding operands bytes wide widths widthWith widthOf
-enum-faults-requires c κs = command-there 4 12 _ _ refl (c .match .keys4) (c .before .before .pre)
+enum-faults-requires c κs = command-there 4 12 _ _ refl (c .match .keys4) (c .before .before .before .pre)
 
 value-faults-requires : tie.Need-value-faults-requires
 unfolding operands bytes wide widths widthWith widthOf
-value-faults-requires c κs = command-there 5 15 _ _ refl (c .match .keys5) (c .before .before .pre)
+value-faults-requires c κs = command-there 5 15 _ _ refl (c .match .keys5) (c .before .before .before .pre)
 
 bitfield-faults-requires : tie.Need-bitfield-faults-requires
 unfolding operands bytes wide widths widthWith widthOf
-bitfield-faults-requires c κs = command-there 6 11 _ _ refl (c .match .keys6) (c .before .before .pre)
+bitfield-faults-requires c κs = command-there 6 11 _ _ refl (c .match .keys6) (c .before .before .before .pre)
 
 member-faults-requires : tie.Need-member-faults-requires
 unfolding operands bytes wide widths widthWith widthOf
-member-faults-requires c κs = command-there 7 16 _ _ refl (c .match .keys7) (c .before .before .pre)
+member-faults-requires c κs = command-there 7 16 _ _ refl (c .match .keys7) (c .before .before .before .pre)
 
 struct-faults-requires : tie.Need-struct-faults-requires
 unfolding operands bytes wide widths widthWith widthOf
-struct-faults-requires c κs = command-there 8 10 _ _ refl (c .match .keys8) (c .before .before .pre)
+struct-faults-requires c κs = command-there 8 10 _ _ refl (c .match .keys8) (c .before .before .before .pre)
 
 family-faults-requires : tie.Need-family-faults-requires
 unfolding operands bytes wide widths widthWith widthOf
-family-faults-requires c κs = command-there 9 17 _ _ refl (c .match .keys9) (c .before .before .pre)
+family-faults-requires c κs = command-there 9 17 _ _ refl (c .match .keys9) (c .before .before .before .pre)
 
 operand-fault-requires : tie.Need-operand-fault-requires
 unfolding operands bytes wide widths widthWith widthOf
-operand-fault-requires c κs = command-there 10 4 _ _ refl (c .match .keys10) (c .before .before .pre)
+operand-fault-requires c κs = command-there 10 4 _ _ refl (c .match .keys10) (c .before .before .before .pre)
 
 field-faults-requires : tie.Need-field-faults-requires
 unfolding operands bytes wide widths widthWith widthOf
-field-faults-requires c κs = command-there 11 33 _ _ refl (c .match .keys11) (c .before .before .pre)
+field-faults-requires c κs = command-there 11 33 _ _ refl (c .match .keys11) (c .before .before .before .pre)
 
 key-faults-requires : tie.Need-key-faults-requires
 unfolding operands bytes wide widths widthWith widthOf
-key-faults-requires c κs = command-there 12 7 _ _ refl (c .match .keys12) (c .before .before .pre)
+key-faults-requires c κs = command-there 12 7 _ _ refl (c .match .keys12) (c .before .before .before .pre)
 
 key-faults-requires-2 : tie.Need-key-faults-requires-2
 unfolding operands bytes wide widths widthWith widthOf
-key-faults-requires-2 c κs = command-there 13 7 _ _ refl (c .match .keys13) (c .before .before .pre)
+key-faults-requires-2 c κs = command-there 13 7 _ _ refl (c .match .keys13) (c .before .before .before .pre)
 
 operand-fault-requires-2 : tie.Need-operand-fault-requires-2
 unfolding operands bytes wide widths widthWith widthOf
-operand-fault-requires-2 c κs = let l = command-there 14 8 _ _ refl (c .match .keys14) (c .before .before .pre) in omega arith
+operand-fault-requires-2 c κs = let l = command-there 14 8 _ _ refl (c .match .keys14) (c .before .before .before .pre) in omega arith
 
 returns : tie.Need-returns
 unfolding faultsOf operands

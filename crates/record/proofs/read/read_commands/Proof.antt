@@ -14,7 +14,7 @@ use Rattle.record.proofs.command.Cursor.judged.Reads as judged-reads
 use Rattle.record.proofs.command.Cursor.new.Reads as new-reads
 
 abbrev Inv-loop : tie.InvT-loop
-Inv-loop side stream pool cursor₀ cursor = outcomeOf (parsedFrom side stream (length pool) start) ≡ outcomeOf (parsedFrom side stream (length pool) cursor)
+Inv-loop side stream pool cursor₀ cursor = outcomeOf (parsedFrom side stream pool start) ≡ outcomeOf (parsedFrom side stream pool cursor)
 
 abbrev μ-loop : tie.MeasureT-loop
 μ-loop side stream pool cursor₀ cursor = length stream - cursor .at
