@@ -5,6 +5,11 @@ use drafts::draft::draft_add;
 use drafts::draft::draft_count;
 use drafts::draft::draft_remove;
 use drafts::saying::DraftAnswer;
+use drafts::shelf::shelf_back;
+use drafts::shelf::shelf_new;
+use drafts::shelf::shelf_set;
+use drafts::shelved::Shelf;
+use drafts::shelved::ShelfAnswer;
 use layout::answer::Answer;
 use layout::list::list_layouts;
 use layout::owner::OwnerFields;
@@ -123,4 +128,34 @@ pub extern "C" fn menqachu_draft_remove(
         ⌜ editedAs r (now (draft .exit)) ≡ edit builtIn copy changed (now (draft .entry)) (removing (now (name .entry))) ⌝ }
 {
     draft_remove(changed, draft, name, past, old)
+}
+
+// A shelf on which no name is held.
+#[no_mangle]
+pub extern "C" fn menqachu_shelf_new() -> Shelf {
+    shelf_new()
+}
+
+// A draft held under a name.
+#[no_mangle]
+pub extern "C" fn menqachu_shelf_set(
+    shelf: Shelf,
+    name: &[u8],
+    draft: &[u8],
+    held: &mut [u8],
+) -> ShelfAnswer {
+    shelf_set(shelf, name, draft, held)
+}
+
+// The draft of a name brought back.
+#[no_mangle]
+pub extern "C" fn menqachu_shelf_back(
+    shelf: Shelf,
+    name: &[u8],
+    draft: &mut [u8],
+    held: &[u8],
+    past: &[u8],
+    old: &[u8],
+) -> ShelfAnswer {
+    shelf_back(shelf, name, draft, held, past, old)
 }

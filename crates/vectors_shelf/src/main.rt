@@ -4,8 +4,8 @@
 // of the buffer that the call may change (the held one on setting, the draft's on coming back); behind that every byte is as before. A shelf is its 320
 // bytes as the struct has them: the names, then the lengths of the names, the starts and the lengths, eight bytes each, little-endian. A part may be as
 // long as its array below. Prints how many vectors there are and how many differ.
-use drafts::shelf::Shelf;
-use drafts::shelf::ShelfAnswer;
+use drafts::shelved::Shelf;
+use drafts::shelved::ShelfAnswer;
 use menqachu::menqachu_shelf_back;
 use menqachu::menqachu_shelf_set;
 use parts::read_byte;
@@ -176,7 +176,14 @@ fn holds(buffer: &[u8], front: &[u8], before: &[u8]) -> bool {
 }
 
 // Whether the answer and the buffer are the oracle's.
-fn judge(case: Case, r: ShelfAnswer, after: Shelf, buffer: &[u8], front: &[u8], before: &[u8]) -> Turn {
+fn judge(
+    case: Case,
+    r: ShelfAnswer,
+    after: Shelf,
+    buffer: &[u8],
+    front: &[u8],
+    before: &[u8],
+) -> Turn {
     let shelf = r.shelf;
     if !same_answer(r, case) {
         return Turn::Differs;
@@ -206,7 +213,15 @@ fn read_shelf(fd: i32) -> Shelf {
 }
 
 // A setting: the copy's parts are skipped.
-fn set(fd: i32, case: Case, given: Shelf, after: Shelf, name: &[u8], draft: &[u8], held: &mut [u8]) -> Turn {
+fn set(
+    fd: i32,
+    case: Case,
+    given: Shelf,
+    after: Shelf,
+    name: &[u8],
+    draft: &[u8],
+    held: &mut [u8],
+) -> Turn {
     let mut front = [0u8; 200000];
     let mut before = [0u8; 200000];
     copy(held, &mut before);
@@ -217,7 +232,15 @@ fn set(fd: i32, case: Case, given: Shelf, after: Shelf, name: &[u8], draft: &[u8
     judge(case, r, after, held, &front[..n], &before)
 }
 
-fn back(fd: i32, case: Case, given: Shelf, after: Shelf, name: &[u8], draft: &mut [u8], held: &[u8]) -> Turn {
+fn back(
+    fd: i32,
+    case: Case,
+    given: Shelf,
+    after: Shelf,
+    name: &[u8],
+    draft: &mut [u8],
+    held: &[u8],
+) -> Turn {
     let mut past = [0u8; 40000];
     let mut old = [0u8; 40000];
     let mut front = [0u8; 200000];
@@ -244,9 +267,25 @@ fn one(fd: i32) -> Turn {
     let m = part_len(fd, &mut draft);
     let k = part_len(fd, &mut held);
     if case.call == 0 {
-        return set(fd, case, given, after, &name[..n], &draft[..m], &mut held[..k]);
+        return set(
+            fd,
+            case,
+            given,
+            after,
+            &name[..n],
+            &draft[..m],
+            &mut held[..k],
+        );
     }
-    back(fd, case, given, after, &name[..n], &mut draft[..m], &held[..k])
+    back(
+        fd,
+        case,
+        given,
+        after,
+        &name[..n],
+        &mut draft[..m],
+        &held[..k],
+    )
 }
 
 fn replay(fd: i32) {

@@ -1,0 +1,65 @@
+// A shelf, and what its calls answer (02, W-211).
+use crate::saying::DraftAnswer;
+use layout::answer::Answer;
+use record::writer::put;
+
+// The names and places of up to eight drafts: of each row sixteen bytes, how many of them are its name, and the start and the length of its place in
+// the held buffer. A row whose name has no byte is free.
+#[repr(C)]
+pub struct Shelf {
+    pub names: [u8; 128],
+    pub name_lens: [usize; 8],
+    pub starts: [usize; 8],
+    pub lens: [usize; 8],
+}
+
+// Number, side, place and length, the count found afresh, and the shelf afterwards.
+#[repr(C)]
+pub struct ShelfAnswer {
+    pub answer: Answer,
+    pub changed: usize,
+    pub shelf: Shelf,
+}
+
+// An answer with a shelf.
+pub(crate) fn with_shelf(r: DraftAnswer, shelf: Shelf) -> ShelfAnswer {
+    let answer = r.answer;
+    ShelfAnswer {
+        answer,
+        changed: r.changed,
+        shelf,
+    }
+}
+
+// A name in its row, with zeros behind it.
+fn put_name(names: [u8; 128], row: usize, name: &[u8]) -> [u8; 128] {
+    let mut word = [0u8; 16];
+    put(&mut word, 0, name);
+    let mut out = names;
+    put(&mut out, 16 * row, &word);
+    out
+}
+
+// A shelf with its starts moved and a row set.
+pub(crate) fn set_row(
+    shelf: Shelf,
+    moved: [usize; 8],
+    row: usize,
+    name: &[u8],
+    start: usize,
+    len: usize,
+) -> Shelf {
+    let names = put_name(shelf.names, row, name);
+    let mut name_lens = shelf.name_lens;
+    let mut starts = moved;
+    let mut lens = shelf.lens;
+    name_lens[row] = name.len();
+    starts[row] = start;
+    lens[row] = len;
+    Shelf {
+        names,
+        name_lens,
+        starts,
+        lens,
+    }
+}
