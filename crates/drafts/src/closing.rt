@@ -1,29 +1,51 @@
-// The drafts that stay on a shelf closed up: those before the place of a new one (02, W-211).
+// The drafts that stay on a shelf closed up, before the place of a new one (02, W-211).
 use crate::places::in_place;
 use crate::shelved::Shelf;
+ghost use mathlib.Core.Path.{_≡_};
+ghost use mathlib.Core.List.{map};
+ghost use Prim.Native.Nat.{_<_};
+ghost use lib.ListN.{set};
+ghost use Rattle.record.specs.Fill.{fronted};
+ghost use Rattle.drafts.specs.Packing.{kept};
+ghost use Rattle.drafts.specs.Shelving.{rowsOf, sizeRow, heldSize, covering, bytesBefore, allBefore, Spaced, least, startsAfter};
 
-// The sizes of the held places; a free row has none.
-fn held_sizes(shelf: Shelf) -> [usize; 8] {
+// The size of a row's place; a free row has none.
+fn held_size(letters: usize, len: usize) -> usize
+    ensures { λ r. ⌜ r ≡ heldSize (sizeRow letters len) ⌝ }
+{
+    if letters == 0 {
+        return 0;
+    }
+    len
+}
+
+// The sizes of the held places.
+fn held_sizes(shelf: Shelf) -> [usize; 8]
+    ensures { λ r. ⌜ r ≡ map heldSize (rowsOf shelf) ⌝ }
+{
     let mut sizes = [0usize; 8];
     let mut i = 0;
     while i < 8 {
-        if shelf.name_lens[i] != 0 {
-            sizes[i] = shelf.lens[i];
-        }
+        sizes[i] = held_size(shelf.name_lens[i], shelf.lens[i]);
         i += 1;
     }
     sizes
 }
 
 // The sizes of the places that stay where a row gives way.
-pub(crate) fn sizes_but(shelf: Shelf, row: usize) -> [usize; 8] {
+pub(crate) fn sizes_but(shelf: Shelf, row: usize) -> [usize; 8]
+    requires { ⌜ row < 8 ⌝ }
+    ensures { λ r. ⌜ r ≡ set (map heldSize (rowsOf shelf)) row 0 ⌝ }
+{
     let mut sizes = held_sizes(shelf);
     sizes[row] = 0;
     sizes
 }
 
 // Whether a byte of the buffer lies in one of the places.
-fn stays(starts: &[usize; 8], sizes: &[usize; 8], at: usize) -> bool {
+fn stays(starts: &[usize; 8], sizes: &[usize; 8], at: usize) -> bool
+    ensures { λ r. ⌜ r ≡ covering (now (starts .entry)) (now (sizes .entry)) at ⌝ }
+{
     let mut i = 0;
     while i < 8 {
         if in_place(at, starts[i], sizes[i]) {
@@ -35,7 +57,9 @@ fn stays(starts: &[usize; 8], sizes: &[usize; 8], at: usize) -> bool {
 }
 
 // How many bytes of a place stand before an end.
-fn bytes_before(end: usize, start: usize, size: usize) -> usize {
+fn bytes_before(end: usize, start: usize, size: usize) -> usize
+    ensures { λ r. ⌜ r ≡ bytesBefore end start size ⌝ }
+{
     if end < start {
         return 0;
     }
@@ -46,7 +70,10 @@ fn bytes_before(end: usize, start: usize, size: usize) -> usize {
 }
 
 // How many bytes of the places stand before an end.
-pub(crate) fn kept_before(starts: &[usize; 8], sizes: &[usize; 8], end: usize) -> usize {
+pub(crate) fn kept_before(starts: &[usize; 8], sizes: &[usize; 8], end: usize) -> usize
+    requires { ⌜ Spaced (now starts) (now sizes) ⌝ }
+    ensures { λ r. ⌜ r ≡ allBefore (now (starts .entry)) (now (sizes .entry)) end ⌝ }
+{
     let mut sum = 0;
     let mut i = 0;
     while i < 8 {
@@ -56,27 +83,43 @@ pub(crate) fn kept_before(starts: &[usize; 8], sizes: &[usize; 8], end: usize) -
     sum
 }
 
+// The smaller of two numbers.
+fn least(a: usize, b: usize) -> usize
+    ensures { λ r. ⌜ r ≡ least a b ⌝ }
+{
+    if a < b {
+        return a;
+    }
+    b
+}
+
 // Where each place begins once all of them are closed up in a buffer of this length.
-pub(crate) fn moved_starts(starts: &[usize; 8], sizes: &[usize; 8], len: usize) -> [usize; 8] {
+pub(crate) fn moved_starts(starts: &[usize; 8], sizes: &[usize; 8], len: usize) -> [usize; 8]
+    requires { ⌜ Spaced (now starts) (now sizes) ⌝ }
+    ensures { λ r. ⌜ r ≡ startsAfter (now (starts .entry)) (now (sizes .entry)) len ⌝ }
+{
     let mut moved = [0usize; 8];
     let mut i = 0;
     while i < 8 {
-        let start = starts[i];
-        moved[i] = kept_before(starts, sizes, if start < len { start } else { len });
+        moved[i] = kept_before(starts, sizes, least(starts[i], len));
         i += 1;
     }
     moved
 }
 
 // Moves the bytes of the places to the front of the buffer, in their order. A byte never moves up, so they move in place.
-pub(crate) fn close_up(held: &mut [u8], starts: &[usize; 8], sizes: &[usize; 8]) {
+pub(crate) fn close_up(held: &mut [u8], starts: &[usize; 8], sizes: &[usize; 8])
+    ensures { λ _. ⌜ now (held .exit) ≡ fronted (now (held .entry)) (kept (covering (now (starts .entry)) (now (sizes .entry))) 0 (now (held .entry))) ⌝ }
+{
     let mut end = 0;
     let mut i = 0;
     while i < held.len() {
         if stays(starts, sizes, i) {
             held[end] = held[i];
             end += 1;
+            i += 1;
+        } else {
+            i += 1;
         }
-        i += 1;
     }
 }

@@ -2,6 +2,12 @@
 use crate::saying::DraftAnswer;
 use layout::answer::Answer;
 use record::writer::put;
+ghost use mathlib.Core.Path.{_≡_};
+ghost use Prim.Native.Nat.{_*_, _≤_, _<_};
+ghost use lib.ListN.{length, set};
+ghost use Rattle.record.specs.Fill.{placed};
+ghost use Rattle.drafts.specs.Shelf.{filled};
+ghost use Rattle.drafts.specs.Shelving.{withRow};
 
 // The names and places of up to eight drafts: of each row sixteen bytes, how many of them are its name, and the start and the length of its place in
 // the held buffer. A row whose name has no byte is free.
@@ -22,7 +28,9 @@ pub struct ShelfAnswer {
 }
 
 // An answer with a shelf.
-pub(crate) fn with_shelf(r: DraftAnswer, shelf: Shelf) -> ShelfAnswer {
+pub(crate) fn with_shelf(r: DraftAnswer, shelf: Shelf) -> ShelfAnswer
+    ensures { λ a. ⌜ a ≡ record { answer = r .answer; changed = r .changed; shelf = shelf } ⌝ }
+{
     let answer = r.answer;
     ShelfAnswer {
         answer,
@@ -32,7 +40,10 @@ pub(crate) fn with_shelf(r: DraftAnswer, shelf: Shelf) -> ShelfAnswer {
 }
 
 // A name in its row, with zeros behind it.
-fn put_name(names: [u8; 128], row: usize, name: &[u8]) -> [u8; 128] {
+fn put_name(names: [u8; 128], row: usize, name: &[u8]) -> [u8; 128]
+    requires { ⌜ (row < 8) × (length (now name) ≤ 16) ⌝ }
+    ensures { λ r. ⌜ r ≡ placed names (16 * row) (filled 16 (now (name .entry))) ⌝ }
+{
     let mut word = [0u8; 16];
     put(&mut word, 0, name);
     let mut out = names;
@@ -48,8 +59,12 @@ pub(crate) fn set_row(
     name: &[u8],
     start: usize,
     len: usize,
-) -> Shelf {
-    let names = put_name(shelf.names, row, name);
+) -> Shelf
+    requires { ⌜ (row < 8) × (length (now name) ≤ 16) ⌝ }
+    ensures { λ r. ⌜ r ≡ withRow shelf moved row (now (name .entry)) start len ⌝ }
+{
+    let given = shelf.names;
+    let names = put_name(given, row, name);
     let mut name_lens = shelf.name_lens;
     let mut starts = moved;
     let mut lens = shelf.lens;
