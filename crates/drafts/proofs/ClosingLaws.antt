@@ -71,6 +71,9 @@ module _ (s : Shelf) where
   pub sizes-end : (xs : List ℕ) (i : ℕ) → Filling (map heldSize (rowsOf s)) xs i → 8 ≤ i → xs ≡ map heldSize (rowsOf s)
   sizes-end xs i f h = let l = sizes-long in filling-end (map heldSize (rowsOf s)) xs i f (omega arith)
 
+pub size-but : (xs ys : List ℕ) (row : ℕ) → xs ≡ ys → set xs row 0 ≡ set ys row 0
+size-but xs ys row e = ap (λ (l : List ℕ). set l row 0) e
+
 -- which bytes lie in a place ------------------------------------------------------------------------------------------------
 
 module _ (starts sizes : List ℕ) (i : ℕ) (a : i < length starts) (b : i < length sizes) where
@@ -88,16 +91,25 @@ module _ (starts sizes : List ℕ) (i : ℕ) (a : i < length starts) (b : i < le
       ap₂ (λ (x y : List ℕ). allBefore x y end) (drop-cons starts i 0 a) (drop-cons sizes i 0 b)
       ∙ ap (λ (k : ℕ). bytesBefore end (getD starts i 0) (getD sizes i 0) + allBefore (drop k starts) (drop k sizes) end) n
 
-module _ (starts sizes : List ℕ) (l : length starts ≡ 8) (m : length sizes ≡ 8) (at i : ℕ) (v : covering starts sizes at ≡ covering (drop i starts) (drop i sizes) at) where
-  pub covers-on : (b : Bool) → i < 8 → b ≡ inPlace at (placeRow (getD starts i 0) (getD sizes i 0)) → b ≡ false → covering starts sizes at ≡ covering (drop (i + 1) starts) (drop (i + 1) sizes) at
-  covers-on b h e f = v ∙ covering-on starts sizes i (omega arith) (omega arith) at ∙ rw (← e, f)
+module _ (starts sizes : List ℕ) (at i : ℕ) (v : covering starts sizes at ≡ covering (drop i starts) (drop i sizes) at) where
+  module _ (g : i < length starts) (h : i < length sizes) (b : Bool) (e : b ≡ inPlace at (placeRow (getD starts i 0) (getD sizes i 0))) where
+    pub covers-on : b ≡ false → covering starts sizes at ≡ covering (drop (i + 1) starts) (drop (i + 1) sizes) at
+    covers-on f = v ∙ covering-on starts sizes i g h at ∙ rw (← e, f)
 
-  pub covers-here : (b : Bool) → i < 8 → b ≡ inPlace at (placeRow (getD starts i 0) (getD sizes i 0)) → b ≡ true → true ≡ covering starts sizes at
-  covers-here b h e f = sym (v ∙ covering-on starts sizes i (omega arith) (omega arith) at ∙ rw (← e, f))
+    pub covers-here : b ≡ true → true ≡ covering starts sizes at
+    covers-here f = sym (v ∙ covering-on starts sizes i g h at ∙ rw (← e, f))
 
-  pub covers-end : 8 ≤ i → false ≡ covering starts sizes at
+  pub covers-short : length sizes ≤ i → false ≡ covering starts sizes at
   unfolding covering
-  covers-end h = sym (v ∙ ap (λ (x : List ℕ). covering x (drop i sizes) at) (drop-of-length-le starts {i = i} (omega arith)))
+  covers-short h = sym (v ∙ ap (λ (x : List ℕ). covering (drop i starts) x at) (drop-of-length-le sizes {i = i} h) ∙ go (drop i starts))
+    where
+      go : (x : List ℕ) → covering x [] at ≡ false
+      go [] = refl
+      go (a ∷ x) = refl
+
+  pub covers-end : length starts ≤ i → false ≡ covering starts sizes at
+  unfolding covering
+  covers-end h = sym (v ∙ ap (λ (x : List ℕ). covering x (drop i sizes) at) (drop-of-length-le starts {i = i} h))
 
 -- how many bytes stand before an end ----------------------------------------------------------------------------------------
 
@@ -116,30 +128,35 @@ module _ (end start size : ℕ) where
 
 module _ (starts sizes : List ℕ) (end : ℕ) where
   abbrev pub SumTo : ℕ → ℕ → Type 0
-  SumTo sum i = (i ≤ 8) × (sum + allBefore (drop i starts) (drop i sizes) end ≡ allBefore starts sizes end)
+  SumTo sum i = sum + allBefore (drop i starts) (drop i sizes) end ≡ allBefore starts sizes end
 
   pub sum-start : SumTo 0 0
-  sum-start = (omega arith, omega arith)
+  sum-start = omega arith
 
-  module _ (l : length starts ≡ 8) (m : length sizes ≡ 8) (sum i x : ℕ) (v : SumTo sum i) (h : i < 8) (e : x ≡ bytesBefore end (getD starts i 0) (getD sizes i 0)) where
+  module _ (sum i x : ℕ) (v : SumTo sum i) (g : i < length starts) (h : i < length sizes) (e : x ≡ bytesBefore end (getD starts i 0) (getD sizes i 0)) where
     pub sum-on : SumTo (sum + x) (i + 1)
-    sum-on =
-        let y = v .1 in
-        let z = before-on starts sizes i (omega arith) (omega arith) end in
-        (omega arith, omega arith)
+    sum-on = let z = before-on starts sizes i g h end in omega arith
 
     pub sum-fits : Spaced starts sizes → end < 18446744073709551616 → sum + x < 18446744073709551616
     sum-fits s k =
-        let y = v .1 in
-        let z = before-on starts sizes i (omega arith) (omega arith) end in
+        let z = before-on starts sizes i g h end in
         let f = s .few end in
         omega arith
 
-  pub sum-end : length starts ≡ 8 → (sum i : ℕ) → SumTo sum i → 8 ≤ i → sum ≡ allBefore starts sizes end
+  pub sum-short : (sum i : ℕ) → SumTo sum i → length sizes ≤ i → sum ≡ allBefore starts sizes end
   unfolding allBefore
-  sum-end l sum i v h =
-      let y = v .1 in
-      let z : allBefore (drop i starts) (drop i sizes) end ≡ 0 = ap (λ (t : List ℕ). allBefore t (drop i sizes) end) (drop-of-length-le starts {i = i} (omega arith)) in
+  sum-short sum i v h =
+      let z : allBefore (drop i starts) (drop i sizes) end ≡ 0 = ap (λ (t : List ℕ). allBefore (drop i starts) t end) (drop-of-length-le sizes {i = i} h) ∙ go (drop i starts) in
+      omega arith
+    where
+      go : (x : List ℕ) → allBefore x [] end ≡ 0
+      go [] = refl
+      go (a ∷ x) = refl
+
+  pub sum-end : (sum i : ℕ) → SumTo sum i → length starts ≤ i → sum ≡ allBefore starts sizes end
+  unfolding allBefore
+  sum-end sum i v h =
+      let z : allBefore (drop i starts) (drop i sizes) end ≡ 0 = ap (λ (t : List ℕ). allBefore t (drop i sizes) end) (drop-of-length-le starts {i = i} h) in
       omega arith
 
 pub least-first : (a b : ℕ) → a < b → a ≡ least a b
@@ -153,7 +170,7 @@ module _ (starts sizes : List ℕ) (l : length starts ≡ 8) (len : ℕ) where
   unfolding startsAfter
   moved-long = length-map starts (λ (a : ℕ). allBefore starts sizes (least a len)) ∙ l
 
-  moved-at : (i : ℕ) → i < 8 → getD (startsAfter starts sizes len) i 0 ≡ allBefore starts sizes (least (getD starts i 0) len)
+  pub moved-at : (i : ℕ) → i < 8 → getD (startsAfter starts sizes len) i 0 ≡ allBefore starts sizes (least (getD starts i 0) len)
   unfolding startsAfter
   moved-at i h = go starts i (omega arith)
     where
@@ -216,8 +233,14 @@ module _ (c : ℕ → Bool) (old : Str) where
         length-drop-is : length (drop (length front) old) ≡ length old - length front
         length-drop-is = lib.ListN.length-drop (length front) old
 
-    pub end-low : end ≤ i
-    end-low = front-few
+    pub closing-write : i < length held → end < length held
+    closing-write h = let k = front-few in omega arith
+
+    pub closing-add : i < length held → length old < 18446744073709551616 → end + 1 < 18446744073709551616
+    closing-add h g = let k = front-few in let l = same-long in omega arith
+
+    pub closing-less : i < length held → length old - (i + 1) < length old - i
+    closing-less h = let l = same-long in omega arith
 
     next : i < length old → kept c 0 (take (i + 1) old) ≡ front ++ kept c i (getD old i 0 ∷ [])
     next h =

@@ -34,24 +34,41 @@ module _ (at start size : ℕ) where
   unfolding inPlace
   is-in h = rw (le-leb start at h) (ends-after h)
 
-module _ (start size other len : ℕ) (a : Bool) (e : a ≡ ltb start (other + len)) where
-  pub meet-first : a ≡ false → false ≡ meets (placeRow start size) (placeRow other len)
+module _ (start size other len : ℕ) where
+  pub meet-none : size ≡ 0 → false ≡ meets (placeRow start size) (placeRow other len)
   unfolding meets
-  meet-first f = rw (← e, f)
+  meet-none h = rw h (sym (go (ltb start (other + len)) (ltb other (start + 0)) (ltb 0 len)))
+    where
+      go : (x y z : Bool) → (x && y && false && z) ≡ false
+      go true true z = refl
+      go true false z = refl
+      go false y z = refl
 
-  module _ (g : a ≡ true) (b : Bool) (k : b ≡ ltb other (start + size)) where
-    pub meet-second : b ≡ false → false ≡ meets (placeRow start size) (placeRow other len)
+  pub meet-nothing : len ≡ 0 → false ≡ meets (placeRow start size) (placeRow other len)
+  unfolding meets
+  meet-nothing h = rw h (sym (go (ltb start (other + 0)) (ltb other (start + size)) (ltb 0 size)))
+    where
+      go : (x y z : Bool) → (x && y && z && false) ≡ false
+      go true true true = refl
+      go true true false = refl
+      go true false z = refl
+      go false y z = refl
+
+  module _ (a : Bool) (e : a ≡ ltb start (other + len)) where
+    pub meet-first : a ≡ false → false ≡ meets (placeRow start size) (placeRow other len)
     unfolding meets
-    meet-second f = rw (← e, g, ← k, f)
+    meet-first f = rw (← e, f)
 
-    module _ (l : b ≡ true) where
-      pub meet-empty : size ≡ 0 → false ≡ meets (placeRow start size) (placeRow other len)
-      unfolding meets
-      meet-empty f = rw (← e, g, ← k, l, f)
-
-      pub meet-last : (size ≡ 0 → ⊥) → ltb 0 len ≡ meets (placeRow start size) (placeRow other len)
-      unfolding meets
-      meet-last f = let z : 0 < size = omega arith in rw (← e, g, ← k, l, lt-ltb 0 size z)
+    pub meet-both : (b : Bool) → (size ≡ 0 → ⊥) → (len ≡ 0 → ⊥) → a ≡ true → b ≡ ltb other (start + size) → b ≡ meets (placeRow start size) (placeRow other len)
+    unfolding meets
+    meet-both b g h f k =
+        let y : 0 < size = omega arith in
+        let z : 0 < len = omega arith in
+        k ∙ rw (← e, f, lt-ltb 0 size y, lt-ltb 0 len z) (go (ltb other (start + size)))
+      where
+        go : (t : Bool) → t ≡ (t && true && true)
+        go true = refl
+        go false = refl
 
 -- one row -------------------------------------------------------------------------------------------------------------------
 

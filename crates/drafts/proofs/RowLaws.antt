@@ -7,7 +7,7 @@ use native.Mathlib.Numerals.{add-one}
 use native.Mathlib.Omega.{arith}
 use lib.ListN.{length, getD, take, drop, drop-of-length-le}
 use lib.Seq.{drop-cons}
-use lib.Dec.{eqb, ltb, leb}
+use lib.Dec.{eqb, ltb, leb, leb·suc-suc}
 use borrow.Author.Tests.{eq-eqb, ne-eqb, le-leb, lt-leb, le-ltb, lt-ltb, ltb-true, ltb-false}
 use Rattle.record.specs.Base.{Str, any, isText, eqs}
 use Rattle.drafts.specs.Shelf.{Row, isHeld, isFree, nameOf, isNamed, goodName}
@@ -87,8 +87,8 @@ first-any q [] = refl
 first-any q (x ∷ xs) = go (q x) (first-any q xs)
   where
     go : (t : Bool) → any q xs ≡ ltb (firstOf q xs) (length xs) → (t || any q xs) ≡ ltb (cond t 0 (suc (firstOf q xs))) (suc (length xs))
-    go true e = refl
-    go false e = e
+    go true e = sym (lt-ltb 0 (suc (length xs)) (omega arith))
+    go false e = e ∙ sym (leb·suc-suc (suc (firstOf q xs)) (length xs))
 
 -- names ---------------------------------------------------------------------------------------------------------------------
 

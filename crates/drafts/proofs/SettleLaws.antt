@@ -47,14 +47,9 @@ use Rattle.drafts.specs.declared.opening.Opening.{Opening}
 use Rattle.drafts.specs.declared.opening.Opening.the-variants.{Ready, Barred}
 use Rattle.drafts.proofs.opening.Opening as opening-type
 use Rattle.drafts.proofs.Outcomes.{readable, ready, nowhere}
+use Rattle.drafts.proofs.StoreLaws.{parts-long}
 
 -- writing ----------------------------------------------------------------------------------------------------------------------------------
-
-parts-long : (s p : Str) (w : List Scalar) → length (partsOf (rec s p w)) ≡ length s + length p + 8
-unfolding partsOf le4
-parts-long s p w =
-    let a = length-append s (le4 (length p) ++ p) in
-    simp length-append (omega arith)
 
 module _ (s p b : Str) (w : List Scalar) (was t : Schema) (k : ℕ) (r : DraftAnswer) where
   pub store-over : length b < length s + length p + 8 → Says r (noRoom (length s + length p + 8) k) → editedAs r b ≡ settled k b was (rec s p w) (read t)

@@ -2,11 +2,10 @@
 use Prim.Native.Nat.{ℕ, zero, suc, _+_, _-_, _*_, _≤_}
 use mathlib.Core.List.{List, [], _∷_, map}
 use mathlib.Core.Bool.{Bool, false, _&&_, _||_, cond}
-use lib.ListN.{length, getD, take, drop, set}
+use lib.ListN.{getD, take, drop, replicate}
 use lib.Dec.{ltb, leb}
 use Rattle.record.specs.Base.{Str, any}
-use Rattle.record.specs.Fill.{placed}
-use Rattle.drafts.specs.Shelf.{Row, isHeld, isFree, isNamed, goodName, filled, Shelved, shelved}
+use Rattle.drafts.specs.Shelf.{Row, isHeld, isFree, isNamed, goodName, Shelved, shelved}
 use Rattle.drafts.specs.declared.shelved.Shelf.{Shelf}
 use Rattle.drafts.specs.declared.shelved.ShelfAnswer.{ShelfAnswer}
 
@@ -26,20 +25,19 @@ listed f (suc k) i = f i ∷ listed f k (i + 1)
 unfoldable pub rowsOf : Shelf → List Row
 rowsOf s = listed (rowAt s) 8 0
 
+-- a shelf on which no name is held
+abbrev pub newShelf : Shelf
+newShelf = record { names = replicate 128 0; «name_lens» = replicate 8 0; starts = replicate 8 0; lens = replicate 8 0 }
+
 -- an answer with the buffer that the call may change
 abbrev pub shelvedAs : ShelfAnswer → Str → Shelved
 shelvedAs r b = shelved
-  (record { number = r .answer .number; side = r .answer .side; place = r .answer .place; len = r .answer .len; changed = r .changed; buffer = b })
-  (rowsOf (r .shelf))
+    (record { number = r .answer .number; side = r .answer .side; place = r .answer .place; len = r .answer .len; changed = r .changed; buffer = b })
+    (rowsOf (r .shelf))
 
--- a shelf with its starts moved and a row set
-abbrev pub withRow : Shelf → List ℕ → ℕ → Str → ℕ → ℕ → Shelf
-withRow s moved row n start len = record {
-  names = placed (s .names) (16 * row) (filled 16 n);
-  «name_lens» = set (s .«name_lens») row (length n);
-  starts = set moved row start;
-  lens = set (s .lens) row len;
-}
+-- a shelf with other starts
+abbrev pub withStarts : Shelf → List ℕ → Shelf
+withStarts s moved = record { names = s .names; «name_lens» = s .«name_lens»; starts = moved; lens = s .lens }
 
 -- names ---------------------------------------------------------------------------------------------------------------------
 

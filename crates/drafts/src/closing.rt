@@ -4,7 +4,7 @@ use crate::shelved::Shelf;
 ghost use mathlib.Core.Path.{_≡_};
 ghost use mathlib.Core.List.{map};
 ghost use Prim.Native.Nat.{_<_};
-ghost use lib.ListN.{set};
+ghost use lib.ListN.{length, set};
 ghost use Rattle.record.specs.Fill.{fronted};
 ghost use Rattle.drafts.specs.Packing.{kept};
 ghost use Rattle.drafts.specs.Shelving.{rowsOf, sizeRow, heldSize, covering, bytesBefore, allBefore, Spaced, least, startsAfter};
@@ -43,11 +43,14 @@ pub(crate) fn sizes_but(shelf: Shelf, row: usize) -> [usize; 8]
 }
 
 // Whether a byte of the buffer lies in one of the places.
-fn stays(starts: &[usize; 8], sizes: &[usize; 8], at: usize) -> bool
+fn stays(starts: &[usize], sizes: &[usize], at: usize) -> bool
     ensures { λ r. ⌜ r ≡ covering (now (starts .entry)) (now (sizes .entry)) at ⌝ }
 {
     let mut i = 0;
-    while i < 8 {
+    while i < starts.len() {
+        if sizes.len() <= i {
+            return false;
+        }
         if in_place(at, starts[i], sizes[i]) {
             return true;
         }
@@ -70,13 +73,16 @@ fn bytes_before(end: usize, start: usize, size: usize) -> usize
 }
 
 // How many bytes of the places stand before an end.
-pub(crate) fn kept_before(starts: &[usize; 8], sizes: &[usize; 8], end: usize) -> usize
+pub(crate) fn kept_before(starts: &[usize], sizes: &[usize], end: usize) -> usize
     requires { ⌜ Spaced (now starts) (now sizes) ⌝ }
     ensures { λ r. ⌜ r ≡ allBefore (now (starts .entry)) (now (sizes .entry)) end ⌝ }
 {
     let mut sum = 0;
     let mut i = 0;
-    while i < 8 {
+    while i < starts.len() {
+        if sizes.len() <= i {
+            return sum;
+        }
         sum += bytes_before(end, starts[i], sizes[i]);
         i += 1;
     }
@@ -94,8 +100,8 @@ fn least(a: usize, b: usize) -> usize
 }
 
 // Where each place begins once all of them are closed up in a buffer of this length.
-pub(crate) fn moved_starts(starts: &[usize; 8], sizes: &[usize; 8], len: usize) -> [usize; 8]
-    requires { ⌜ Spaced (now starts) (now sizes) ⌝ }
+pub(crate) fn moved_starts(starts: &[usize], sizes: &[usize], len: usize) -> [usize; 8]
+    requires { ⌜ (length (now starts) ≡ 8) × Spaced (now starts) (now sizes) ⌝ }
     ensures { λ r. ⌜ r ≡ startsAfter (now (starts .entry)) (now (sizes .entry)) len ⌝ }
 {
     let mut moved = [0usize; 8];
@@ -108,7 +114,7 @@ pub(crate) fn moved_starts(starts: &[usize; 8], sizes: &[usize; 8], len: usize) 
 }
 
 // Moves the bytes of the places to the front of the buffer, in their order. A byte never moves up, so they move in place.
-pub(crate) fn close_up(held: &mut [u8], starts: &[usize; 8], sizes: &[usize; 8])
+pub(crate) fn close_up(held: &mut [u8], starts: &[usize], sizes: &[usize])
     ensures { λ _. ⌜ now (held .exit) ≡ fronted (now (held .entry)) (kept (covering (now (starts .entry)) (now (sizes .entry))) 0 (now (held .entry))) ⌝ }
 {
     let mut end = 0;

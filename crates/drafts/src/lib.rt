@@ -6,6 +6,7 @@ pub mod draft;
 pub mod editing;
 pub mod find;
 pub mod held;
+pub mod holding;
 pub mod judging;
 pub mod marking;
 pub mod names;

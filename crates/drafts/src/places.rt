@@ -33,16 +33,16 @@ pub(crate) fn in_place(at: usize, start: usize, size: usize) -> bool
 fn do_meet(start: usize, size: usize, other: usize, len: usize) -> bool
     ensures { λ r. ⌜ r ≡ meets (placeRow start size) (placeRow other len) ⌝ }
 {
-    if !ends_behind(start, other, len) {
-        return false;
-    }
-    if !ends_behind(other, start, size) {
-        return false;
-    }
     if size == 0 {
         return false;
     }
-    0 < len
+    if len == 0 {
+        return false;
+    }
+    if ends_behind(start, other, len) {
+        return ends_behind(other, start, size);
+    }
+    false
 }
 
 // Whether a row is held and its place lies outside a buffer of this length.

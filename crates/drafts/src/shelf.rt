@@ -1,77 +1,53 @@
 // The calls of a shelf: a draft held under a name, and the draft of a name brought back (02, W-211).
-use crate::closing::close_up;
-use crate::closing::kept_before;
-use crate::closing::moved_starts;
-use crate::closing::sizes_but;
 use crate::editing::store;
 use crate::held::after_part;
 use crate::held::part;
 use crate::held::read_held;
+use crate::holding::hold;
 use crate::names::row_for;
 use crate::names::row_of;
 use crate::opening::Opening;
 use crate::opening::open;
 use crate::places::is_forged;
 use crate::saying::declined;
-use crate::saying::done;
-use crate::saying::no_room;
 use crate::saying::refusal;
 use crate::shelved::Shelf;
 use crate::shelved::ShelfAnswer;
-use crate::shelved::set_row;
 use crate::shelved::with_shelf;
-use crate::store::put_parts;
 use record::cut;
 use record::read::Outcome;
 use record::scalars::built_in;
+ghost use mathlib.Core.Path.{_≡_};
+ghost use Rattle.record.specs.Base.{Str};
+ghost use Rattle.record.specs.Scalars.{scalarsOf, builtIn};
+ghost use Rattle.record.specs.Reading.{Rec, rec, reading};
+ghost use Rattle.record.specs.declared.refusal.Side.the-variants.{Released};
+ghost use Rattle.drafts.specs.Parts.{heldRec, readHeld};
+ghost use Rattle.drafts.specs.Shelf.{shelved, setDraft, broughtBack, backDraft};
+ghost use Rattle.drafts.specs.Shelving.{rowsOf, newShelf, shelvedAs};
 
 // A shelf on which no name is held.
-pub fn shelf_new() -> Shelf {
+pub fn shelf_new() -> Shelf
+    ensures { λ r. ⌜ r ≡ newShelf ⌝ }
+{
+    let names = [0u8; 128];
+    let name_lens = [0usize; 8];
+    let starts = [0usize; 8];
+    let lens = [0usize; 8];
     Shelf {
-        names: [0u8; 128],
-        name_lens: [0usize; 8],
-        starts: [0usize; 8],
-        lens: [0usize; 8],
+        names,
+        name_lens,
+        starts,
+        lens,
     }
-}
-
-// Closes the places up and puts a draft behind them, in a buffer that has the room.
-fn hold_at(
-    held: &mut [u8],
-    starts: &[usize; 8],
-    sizes: &[usize; 8],
-    end: usize,
-    stream: &[u8],
-    pool: &[u8],
-) {
-    close_up(held, starts, sizes);
-    put_parts(&mut held[end..], stream, pool);
-}
-
-// Holds a draft under a name in a row, where it fits.
-fn hold(
-    shelf: Shelf,
-    row: usize,
-    name: &[u8],
-    stream: &[u8],
-    pool: &[u8],
-    held: &mut [u8],
-) -> ShelfAnswer {
-    let starts = shelf.starts;
-    let sizes = sizes_but(shelf, row);
-    let end = kept_before(&starts, &sizes, held.len());
-    let len = stream.len() + pool.len() + 8;
-    let need = end + len;
-    if held.len() < need {
-        return with_shelf(no_room(need, 0), shelf);
-    }
-    let moved = moved_starts(&starts, &sizes, held.len());
-    hold_at(held, &starts, &sizes, end, stream, pool);
-    with_shelf(done(0), set_row(shelf, moved, row, name, end, len))
 }
 
 // Holds a draft under a name, under a table of scalar words.
-fn set_by(rows: &[u8], shelf: Shelf, name: &[u8], draft: &[u8], held: &mut [u8]) -> ShelfAnswer {
+fn set_by(rows: &[u8], shelf: Shelf, name: &[u8], draft: &[u8], held: &mut [u8]) -> ShelfAnswer
+    ensures { λ r.
+        ⌜ shelvedAs r (now (held .exit))
+        ≡ setDraft (scalarsOf (now (rows .entry))) (rowsOf shelf) (now (name .entry)) (now (draft .entry)) (now (held .entry)) ⌝ }
+{
     let row = row_for(shelf, name);
     if 8 <= row {
         return with_shelf(declined(57, 0), shelf);
@@ -86,7 +62,11 @@ fn set_by(rows: &[u8], shelf: Shelf, name: &[u8], draft: &[u8], held: &mut [u8])
 }
 
 // Holds a draft under a name, in place of the one held under it before.
-pub fn shelf_set(shelf: Shelf, name: &[u8], draft: &[u8], held: &mut [u8]) -> ShelfAnswer {
+pub fn shelf_set(shelf: Shelf, name: &[u8], draft: &[u8], held: &mut [u8]) -> ShelfAnswer
+    ensures { λ r.
+        ⌜ shelvedAs r (now (held .exit))
+        ≡ setDraft builtIn (rowsOf shelf) (now (name .entry)) (now (draft .entry)) (now (held .entry)) ⌝ }
+{
     let rows = built_in();
     set_by(&rows, shelf, name, draft, held)
 }
@@ -99,22 +79,27 @@ fn bring_back(
     place: &[u8],
     past: &[u8],
     old: &[u8],
-) -> ShelfAnswer {
+) -> ShelfAnswer
+    ensures { λ r.
+        let copy : Rec = rec (now (past .entry)) (now (old .entry)) (scalarsOf (now (rows .entry))) in
+        let b : Str = now (place .entry) in
+        ⌜ shelvedAs r (now (draft .exit))
+        ≡ shelved (broughtBack (heldRec (scalarsOf (now (rows .entry))) b) (now (draft .entry))
+        (readHeld (scalarsOf (now (rows .entry))) b) (reading Released copy)) (rowsOf shelf) ⌝ }
+{
     if let Opening::Barred(side, number, at) = open(rows, place, past, old) {
         return with_shelf(refusal(side, number, at, 0), shelf);
     }
-    with_shelf(
-        store(
-            rows,
-            0,
-            draft,
-            part(place),
-            part(after_part(place)),
-            past,
-            old,
-        ),
-        shelf,
-    )
+    let stored = store(
+        rows,
+        0,
+        draft,
+        part(place),
+        part(after_part(place)),
+        past,
+        old,
+    );
+    with_shelf(stored, shelf)
 }
 
 // Brings the draft of a name back, under a table of scalar words.
@@ -126,7 +111,12 @@ fn back_by(
     held: &[u8],
     past: &[u8],
     old: &[u8],
-) -> ShelfAnswer {
+) -> ShelfAnswer
+    ensures { λ r.
+        let copy : Rec = rec (now (past .entry)) (now (old .entry)) (scalarsOf (now (rows .entry))) in
+        ⌜ shelvedAs r (now (draft .exit))
+        ≡ backDraft (scalarsOf (now (rows .entry))) copy (rowsOf shelf) (now (name .entry)) (now (draft .entry)) (now (held .entry)) ⌝ }
+{
     if is_forged(shelf, held.len()) {
         return with_shelf(declined(58, 0), shelf);
     }
@@ -146,7 +136,12 @@ pub fn shelf_back(
     held: &[u8],
     past: &[u8],
     old: &[u8],
-) -> ShelfAnswer {
+) -> ShelfAnswer
+    ensures { λ r.
+        let copy : Rec = rec (now (past .entry)) (now (old .entry)) builtIn in
+        ⌜ shelvedAs r (now (draft .exit))
+        ≡ backDraft builtIn copy (rowsOf shelf) (now (name .entry)) (now (draft .entry)) (now (held .entry)) ⌝ }
+{
     let rows = built_in();
     back_by(&rows, shelf, name, draft, held, past, old)
 }

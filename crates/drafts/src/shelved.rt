@@ -6,8 +6,8 @@ ghost use mathlib.Core.Path.{_≡_};
 ghost use Prim.Native.Nat.{_*_, _≤_, _<_};
 ghost use lib.ListN.{length, set};
 ghost use Rattle.record.specs.Fill.{placed};
-ghost use Rattle.drafts.specs.Shelf.{filled};
-ghost use Rattle.drafts.specs.Shelving.{withRow};
+ghost use Rattle.drafts.specs.Shelf.{filled, newRow};
+ghost use Rattle.drafts.specs.Shelving.{rowsOf, withStarts};
 
 // The names and places of up to eight drafts: of each row sixteen bytes, how many of them are its name, and the start and the length of its place in
 // the held buffer. A row whose name has no byte is free.
@@ -42,12 +42,30 @@ pub(crate) fn with_shelf(r: DraftAnswer, shelf: Shelf) -> ShelfAnswer
 // A name in its row, with zeros behind it.
 fn put_name(names: [u8; 128], row: usize, name: &[u8]) -> [u8; 128]
     requires { ⌜ (row < 8) × (length (now name) ≤ 16) ⌝ }
-    ensures { λ r. ⌜ r ≡ placed names (16 * row) (filled 16 (now (name .entry))) ⌝ }
+    ensures { λ r. ⌜ (r ≡ placed names (16 * row) (filled 16 (now (name .entry)))) × (length names ≡ 128) ⌝ }
 {
     let mut word = [0u8; 16];
     put(&mut word, 0, name);
     let mut out = names;
     put(&mut out, 16 * row, &word);
+    out
+}
+
+// Puts a number into its row.
+fn put_number(out: &mut [usize], row: usize, n: usize)
+    requires { ⌜ row < length (now out) ⌝ }
+    ensures { λ _. ⌜ now (out .exit) ≡ set (now (out .entry)) row n ⌝ }
+{
+    out[row] = n;
+}
+
+// Eight numbers with that of a row set.
+fn with_number(numbers: [usize; 8], row: usize, n: usize) -> [usize; 8]
+    requires { ⌜ row < 8 ⌝ }
+    ensures { λ r. ⌜ (r ≡ set numbers row n) × (length numbers ≡ 8) ⌝ }
+{
+    let mut out = numbers;
+    put_number(&mut out, row, n);
     out
 }
 
@@ -61,20 +79,15 @@ pub(crate) fn set_row(
     len: usize,
 ) -> Shelf
     requires { ⌜ (row < 8) × (length (now name) ≤ 16) ⌝ }
-    ensures { λ r. ⌜ r ≡ withRow shelf moved row (now (name .entry)) start len ⌝ }
+    ensures { λ r. ⌜ rowsOf r ≡ set (rowsOf (withStarts shelf moved)) row (newRow (now (name .entry)) start len) ⌝ }
 {
     let given = shelf.names;
-    let names = put_name(given, row, name);
-    let mut name_lens = shelf.name_lens;
-    let mut starts = moved;
-    let mut lens = shelf.lens;
-    name_lens[row] = name.len();
-    starts[row] = start;
-    lens[row] = len;
+    let name_lens = shelf.name_lens;
+    let lens = shelf.lens;
     Shelf {
-        names,
-        name_lens,
-        starts,
-        lens,
+        names: put_name(given, row, name),
+        name_lens: with_number(name_lens, row, name.len()),
+        starts: with_number(moved, row, start),
+        lens: with_number(lens, row, len),
     }
 }

@@ -31,6 +31,8 @@ ghost use Rattle.load.specs.Load.{load};
 ghost use Rattle.pointers.specs.Pointers.{pointers, Answers};
 ghost use Rattle.drafts.specs.Edits.{count, adding, removing, edit};
 ghost use Rattle.drafts.specs.Answering.{editedAs};
+ghost use Rattle.drafts.specs.Shelf.{setDraft, backDraft};
+ghost use Rattle.drafts.specs.Shelving.{rowsOf, newShelf, shelvedAs};
 
 // A current record against a released one.
 #[no_mangle]
@@ -143,7 +145,11 @@ pub extern "C" fn menqachu_shelf_set(
     name: &[u8],
     draft: &[u8],
     held: &mut [u8],
-) -> ShelfAnswer {
+) -> ShelfAnswer
+    ensures { λ r.
+        ⌜ shelvedAs r (now (held .exit))
+        ≡ setDraft builtIn (rowsOf shelf) (now (name .entry)) (now (draft .entry)) (now (held .entry)) ⌝ }
+{
     shelf_set(shelf, name, draft, held)
 }
 
@@ -156,6 +162,11 @@ pub extern "C" fn menqachu_shelf_back(
     held: &[u8],
     past: &[u8],
     old: &[u8],
-) -> ShelfAnswer {
+) -> ShelfAnswer
+    ensures { λ r.
+        let copy : Rec = rec (now (past .entry)) (now (old .entry)) builtIn in
+        ⌜ shelvedAs r (now (draft .exit))
+        ≡ backDraft builtIn copy (rowsOf shelf) (now (name .entry)) (now (draft .entry)) (now (held .entry)) ⌝ }
+{
     shelf_back(shelf, name, draft, held, past, old)
 }
