@@ -86,6 +86,7 @@ module _ (w : List Scalar) (s : Shelf) (n draft held : Str) (row : ℕ) (k : row
 
       module _ (q : OneOf (0 ∷ []) (tagOf outcome-type.the-type o)) (x st p : Str) (u : x ≡ afterPart draft) (v : st ≡ part draft) (y : p ≡ part x) where
         pub set-able : Settable s row n held × Short st p
+        unfolding heldRec
         set-able = (
           record { row-is = k; row-in = h; valid = sym f ∙ g },
           record {
