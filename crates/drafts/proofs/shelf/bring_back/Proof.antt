@@ -18,7 +18,7 @@ with-shelf-requires : tie.Need-with-shelf-requires
 with-shelf-requires c κs = search needs
 
 returns : tie.Need-returns
-returns c = back-shut _ _ _ _ _ _ (c .before .before .before .before .before .«open» .ensures) _ _ _ _ _ (search needs) (c .before .refusal .ensures) (c .with-shelf .ensures)
+returns c = back-shut _ _ _ _ _ (c .before .before .before .before .before .«open» .result) (c .before .before .before .before .before .«open» .ensures) _ _ _ _ _ (search needs) (c .before .refusal .ensures) (c .with-shelf .ensures)
 
 enum-told : tie.Need-enum-told
 enum-told c = search needs
@@ -33,7 +33,7 @@ part-requires-2 : tie.Need-part-requires-2
 part-requires-2 c κs = search needs
 
 store-requires : tie.Need-store-requires
-store-requires c κs = (cut-legible _ _ _ _ _ (c .before .after-part .ensures) (c .before .before .part .ensures) (c .part2 .ensures) (open-held _ _ _ _ (c .before .before .before .before .before .before .«open» .ensures) (search needs)), open-kept _ _ _ _ (c .before .before .before .before .before .before .«open» .ensures) (search needs), rest-small _ _ _ (c .before .after-part .ensures) (c .part2 .ensures) (both-small _ _ _ (open-is-both _ _ _ _ (c .before .before .before .before .before .before .«open» .ensures) (search needs))))
+store-requires c κs = (cut-legible _ _ _ _ _ (c .before .after-part .ensures) (c .before .before .part .ensures) (c .part2 .ensures) (open-held _ _ _ (c .before .before .before .before .before .before .«open» .result) (c .before .before .before .before .before .before .«open» .ensures) (search needs)), open-kept _ _ _ (c .before .before .before .before .before .before .«open» .result) (c .before .before .before .before .before .before .«open» .ensures) (search needs), rest-small _ _ _ (c .before .after-part .ensures) (c .part2 .ensures) (both-small _ _ _ (open-is-both _ _ _ (c .before .before .before .before .before .before .«open» .result) (c .before .before .before .before .before .before .«open» .ensures) (search needs))))
 
 with-shelf-requires-2 : tie.Need-with-shelf-requires-2
 with-shelf-requires-2 c κs = search needs
@@ -42,7 +42,7 @@ same-length : tie.Need-same-length
 same-length c = search needs
 
 returns-2 : tie.Need-returns-2
-returns-2 c = back-open _ _ _ _ _ _ (c .before .before .before .before .before .before .before .before .before .before .«open» .ensures) _ _ _ _ _ _ (search needs) (c .before .before .before .before .before .after-part .ensures) (c .before .before .before .before .before .before .part .ensures) (c .before .before .before .before .part2 .ensures) (c .before .before .before .store .ensures) (c .with-shelf2 .ensures)
+returns-2 c = back-open _ _ _ _ _ (c .before .before .before .before .before .before .before .before .before .before .«open» .result) (c .before .before .before .before .before .before .before .before .before .before .«open» .ensures) _ _ _ _ _ _ (search needs) (c .before .before .before .before .before .after-part .ensures) (c .before .before .before .before .before .before .part .ensures) (c .before .before .before .before .part2 .ensures) (c .before .before .before .store .ensures) (c .with-shelf2 .ensures)
 
 pub bring-back-spec : {M : Type 1} → statement M
 bring-back-spec =
