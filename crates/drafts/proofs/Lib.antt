@@ -41,4 +41,5 @@ pub mod ShelfRoom
 pub mod StayLaws
 pub mod HoldLaws
 pub mod CallLaws
+pub mod ShelfSeries
 pub mod Example

@@ -17,3 +17,4 @@ pub mod Summing
 pub mod Finishing
 pub mod Shelving
 pub mod Holding
+pub mod Calls
