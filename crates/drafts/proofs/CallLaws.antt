@@ -24,7 +24,7 @@ use Rattle.drafts.specs.Parts.{part, afterPart, heldRec, readHeld, parts
 use Rattle.drafts.specs.Code.{HeldRead}
 use Rattle.drafts.specs.Edits.{Edited, refused, declined, settled}
 use Rattle.drafts.specs.Answering.{editedAs, Says, Both, Opens}
-use Rattle.drafts.specs.Shelf.{Row, isFree, isNamed, goodName, rowOf, forged, bytesOf, shelve, shelved, Shelved, hasRow, setRead, setDraft, broughtBack, backFrom, backDraft}
+use Rattle.drafts.specs.Shelf.{Row, isFree, isNamed, goodName, rowOf, forged, bytesOf, shelve, shelved, Shelved, hasRow, setRead, setDraft, broughtBack, broughtFrom, backFrom, backDraft}
 use Rattle.drafts.specs.Shelving.{rowAt, rowsOf, firstOf, rowFor, shelvedAs}
 use Rattle.drafts.specs.Holding.{Short, Settable}
 use Rattle.drafts.specs.declared.saying.DraftAnswer.{DraftAnswer}
@@ -105,13 +105,13 @@ module _ (w : List Scalar) (s : Shelf) (n draft held : Str) (row : ℕ) (k : row
 
 module _ (w : List Scalar) (s : Shelf) (b draft : Str) (copy : Rec) (o : Opening) (h : Opens w b copy o) where
   pub back-shut : (side : ℕ) (n : Refusal) (p : ℕ) (d : DraftAnswer) (r : ShelfAnswer) → o ≡ Barred side n p → Says d (refused side n p 0) → r ≡ answered d s
-      → shelvedAs r draft ≡ shelved (broughtBack (heldRec w b) draft (readHeld w b) (reading Released copy)) (rowsOf s)
+      → shelvedAs r draft ≡ shelved (broughtFrom w copy draft b) (rowsOf s)
   back-shut side n p d r g a e =
       with-is d s r (refused side n p 0) draft a e ∙ ap (λ (x : Edited). shelved x (rowsOf s)) (sym (subst (Opens w b copy) g h .backs draft))
 
   pub back-open : (x st p after : Str) (d : DraftAnswer) (r : ShelfAnswer) → OneOf (0 ∷ []) (tagOf opening-type.the-type o) → x ≡ afterPart b → st ≡ part b → p ≡ part x
       → editedAs d after ≡ settled 0 draft (schemaOf copy) (rec st p w) (read (schemaOf (rec st p w))) → r ≡ answered d s
-      → shelvedAs r after ≡ shelved (broughtBack (heldRec w b) draft (readHeld w b) (reading Released copy)) (rowsOf s)
+      → shelvedAs r after ≡ shelved (broughtFrom w copy draft b) (rowsOf s)
   unfolding broughtBack heldRec
   back-open x st p after d r g u v y a e =
       let k = subst (Opens w b copy) (ready o g) h in
@@ -151,14 +151,14 @@ module _ (w : List Scalar) (s : Shelf) (n draft held : Str) (copy : Rec) (b : Bo
         with-is d s r (declined 58 0) draft a e ∙ rw (← f, g, find-none (isNamed n) (rowsOf s) (omega arith))
 
     pub back-found : (x y after : Str) (r : ShelfAnswer) → row < 8 → x ≡ drop (getD (s .starts) row 0) held → y ≡ take (getD (s .lens) row 0) x
-        → shelvedAs r after ≡ shelved (broughtBack (heldRec w y) draft (readHeld w y) (reading Released copy)) (rowsOf s) → shelvedAs r after ≡ backDraft w copy (rowsOf s) n draft held
+        → shelvedAs r after ≡ shelved (broughtFrom w copy draft y) (rowsOf s) → shelvedAs r after ≡ backDraft w copy (rowsOf s) n draft held
     unfolding backDraft backFrom rowOf bytesOf
     back-found x y after r h u v e =
         let l = rows-long s in
         let i : find (isNamed n) (rowsOf s) ≡ some (rowAt s row) =
         find-at (isNamed n) (rowAt s row) (rowsOf s) (omega arith) ∙ ap some (ap (λ (j : ℕ). getD (rowsOf s) j (rowAt s row)) (sym k) ∙ rows-at s row (rowAt s row) h) in
         let z : y ≡ take (getD (s .lens) row 0) (drop (getD (s .starts) row 0) held) = v ∙ ap (take (getD (s .lens) row 0)) u in
-        e ∙ ap (λ (j : Str). shelved (broughtBack (heldRec w j) draft (readHeld w j) (reading Released copy)) (rowsOf s)) z ∙ rw (← f, g, i)
+        e ∙ ap (λ (j : Str). shelved (broughtFrom w copy draft j) (rowsOf s)) z ∙ rw (← f, g, i)
 
 -- under the built-in rows -----------------------------------------------------------------------------------------------------
 

@@ -1,5 +1,5 @@
--- A series of calls: settings, comings back and W-210's edits (02, W-211: "if only these calls write the buffer and each gets the names and places the
--- last gave"). Assumes nothing.
+-- A series of calls: settings, comings back and W-210's edits (02, W-211: "if only these calls write the buffer and each gets the names and
+-- places the last gave"). Assumes nothing.
 use Prim.Native.Nat.{ℕ}
 use mathlib.Core.List.{List, [], _∷_}
 use mathlib.Core.Option.{Option, none, some}

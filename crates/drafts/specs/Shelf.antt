@@ -155,11 +155,13 @@ broughtBack r draft (refuse m p) was = refused 0 m p 0 draft
 broughtBack r draft (read now) (refuse m p) = refused 1 m p 0 draft
 broughtBack r draft (read now) (read was) = settled 0 draft was r (read now)
 
--- the held draft is read from the bytes of its place alone
+-- the draft of a place, read from the bytes of the place alone
+abbrev pub broughtFrom : List Scalar → Rec → Str → Str → Edited
+broughtFrom w copy draft place = broughtBack (heldRec w place) draft (readHeld w place) (reading Released copy)
+
 unfoldable pub backFrom : List Scalar → Rec → Str → Str → Option Row → Edited
 backFrom w copy draft held none = declined 58 0 draft
-backFrom w copy draft held (some r) =
-    let place = bytesOf held r in broughtBack (heldRec w place) draft (readHeld w place) (reading Released copy)
+backFrom w copy draft held (some r) = broughtFrom w copy draft (bytesOf held r)
 
 -- 02: "58 no such name to come back to, or a held place outside the buffer or over another"; the rows are as they were
 unfoldable pub backDraft : List Scalar → Rec → List Row → Str → Str → Str → Shelved

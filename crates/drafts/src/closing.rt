@@ -5,6 +5,7 @@ ghost use mathlib.Core.Path.{_≡_};
 ghost use mathlib.Core.List.{map};
 ghost use Prim.Native.Nat.{_<_};
 ghost use lib.ListN.{length, set};
+ghost use Rattle.record.specs.Base.{Str};
 ghost use Rattle.record.specs.Fill.{fronted};
 ghost use Rattle.drafts.specs.Packing.{kept};
 ghost use Rattle.drafts.specs.Shelving.{rowsOf, sizeRow, heldSize, covering, bytesBefore, allBefore, Spaced, least, startsAfter};
@@ -115,7 +116,9 @@ pub(crate) fn moved_starts(starts: &[usize], sizes: &[usize], len: usize) -> [us
 
 // Moves the bytes of the places to the front of the buffer, in their order. A byte never moves up, so they move in place.
 pub(crate) fn close_up(held: &mut [u8], starts: &[usize], sizes: &[usize])
-    ensures { λ _. ⌜ now (held .exit) ≡ fronted (now (held .entry)) (kept (covering (now (starts .entry)) (now (sizes .entry))) 0 (now (held .entry))) ⌝ }
+    ensures { λ _.
+        let b : Str = now (held .entry) in
+        ⌜ now (held .exit) ≡ fronted b (kept (covering (now (starts .entry)) (now (sizes .entry))) 0 b) ⌝ }
 {
     let mut end = 0;
     let mut i = 0;

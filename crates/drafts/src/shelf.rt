@@ -18,12 +18,9 @@ use record::cut;
 use record::read::Outcome;
 use record::scalars::built_in;
 ghost use mathlib.Core.Path.{_≡_};
-ghost use Rattle.record.specs.Base.{Str};
 ghost use Rattle.record.specs.Scalars.{scalarsOf, builtIn};
-ghost use Rattle.record.specs.Reading.{Rec, rec, reading};
-ghost use Rattle.record.specs.declared.refusal.Side.the-variants.{Released};
-ghost use Rattle.drafts.specs.Parts.{heldRec, readHeld};
-ghost use Rattle.drafts.specs.Shelf.{shelved, setDraft, broughtBack, backDraft};
+ghost use Rattle.record.specs.Reading.{Rec, rec};
+ghost use Rattle.drafts.specs.Shelf.{shelved, setDraft, broughtFrom, backDraft};
 ghost use Rattle.drafts.specs.Shelving.{rowsOf, newShelf, shelvedAs};
 
 // A shelf on which no name is held.
@@ -82,10 +79,8 @@ fn bring_back(
 ) -> ShelfAnswer
     ensures { λ r.
         let copy : Rec = rec (now (past .entry)) (now (old .entry)) (scalarsOf (now (rows .entry))) in
-        let b : Str = now (place .entry) in
         ⌜ shelvedAs r (now (draft .exit))
-        ≡ shelved (broughtBack (heldRec (scalarsOf (now (rows .entry))) b) (now (draft .entry))
-        (readHeld (scalarsOf (now (rows .entry))) b) (reading Released copy)) (rowsOf shelf) ⌝ }
+        ≡ shelved (broughtFrom (scalarsOf (now (rows .entry))) copy (now (draft .entry)) (now (place .entry))) (rowsOf shelf) ⌝ }
 {
     if let Opening::Barred(side, number, at) = open(rows, place, past, old) {
         return with_shelf(refusal(side, number, at, 0), shelf);

@@ -1,9 +1,9 @@
 // Replays the oracle's answers of the calls of a shelf, data/shelves: each vector is the call (a byte: 0 set, 1 back) and the number, side, place,
 // length and count answered (four bytes each, little-endian), then eight parts (a length of four bytes and the bytes): the shelf given, the shelf
-// answered, the name, the draft's buffer, the held buffer, the copy's stream and pool (both empty on setting), and what stands afterwards at the front
-// of the buffer that the call may change (the held one on setting, the draft's on coming back); behind that every byte is as before. A shelf is its 320
-// bytes as the struct has them: the names, then the lengths of the names, the starts and the lengths, eight bytes each, little-endian. A part may be as
-// long as its array below. Prints how many vectors there are and how many differ.
+// answered, the name, the draft's buffer, the held buffer, the copy's stream and pool (both empty on setting), and what stands afterwards at the
+// front of the buffer that the call may change (the held one on setting, the draft's on coming back); behind that every byte is as before. A shelf
+// is its 320 bytes as the struct has them: the names, then the lengths of the names, the starts and the lengths, eight bytes each, little-endian. A
+// part may be as long as its array below. Prints how many vectors there are and how many differ.
 use drafts::shelved::Shelf;
 use drafts::shelved::ShelfAnswer;
 use menqachu::menqachu_shelf_back;
