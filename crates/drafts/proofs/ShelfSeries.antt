@@ -11,7 +11,7 @@ use lib.ListN.{length}
 use lib.Seq.{drop-nil}
 use lib.Dec.{leb, eqb}
 use borrow.Author.Tests.{leb-true, le-leb, eq-eqb, ne-eqb}
-use Rattle.record.specs.Base.{Str, any, eqs}
+use Rattle.record.specs.Base.{Str, any, filterB, eqs}
 use Rattle.record.specs.Fill.{fronted}
 use Rattle.record.specs.Scalars.{Scalar}
 use Rattle.record.specs.Schema.{Schema}
@@ -20,12 +20,13 @@ use Rattle.record.specs.Reading.{Rec, Reading, read, refuse, reading, streamLim
 use Rattle.record.specs.declared.refusal.Side.the-variants.{Current, Released}
 use Rattle.record.specs.declared.refusal.Refusal.{Refusal}
 use Rattle.record.specs.declared.refusal.Refusal.the-variants as R
-use Rattle.record.proofs.Basics.{both, eqs→eq, eqs-refl}
+use Rattle.record.proofs.Basics.{both, none≢some, eqs→eq, eqs-refl}
 use Rattle.record.proofs.Accepted.{accepting}
 use Rattle.drafts.specs.Parts.{stated, afterPart, heldRec, readHeld, partsOf}
 use Rattle.drafts.specs.Count.{countChanged}
 use Rattle.drafts.specs.Edits.{Edited, refused, declined, noRoom, done, settled, counted, count, Edit, edit, Kept, keeping}
-use Rattle.drafts.specs.Shelf.{Row, isFree, isNamed, goodName, hasRow, forged, bytesOf, rowOf, closed, movedRow, newRow, put, rowsWith, Shelved, shelved, shelve, setRead, setDraft, broughtBack, backFrom, backDraft}
+use Rattle.drafts.specs.Shelf.{Row, isHeld, heldRows, overlapping, isFree, isNamed, goodName, hasRow, forged, bytesOf, rowOf, closed, movedRow, newRow, put, rowsWith, Shelved, shelved, shelve, setRead, setDraft, broughtBack, backFrom, backDraft}
+use Rattle.drafts.specs.Shelving.{listed, rowsOf, newShelf}
 use Rattle.drafts.specs.Calls.{Editor, Call, setting, backing, editing, setOf, backKept, called, calls, noted, named}
 use Rattle.drafts.proofs.Results.{fit}
 use Rattle.drafts.proofs.PartLaws.{held-is, held-read}
@@ -124,6 +125,11 @@ module _ (w : List Scalar) where
   unfolding calls named
   series-holds [] k m h = h
   series-holds (c ∷ cs) k m h = series-holds cs (called w k c) (noted w k m c) (call-holds k m c h)
+
+-- a shelf on which no name is held
+pub new-holds : (w : List Scalar) (held : Str) → Holds w (rowsOf newShelf) held (λ n. none)
+unfolding forged heldRows filterB isHeld rowsOf listed any overlapping
+new-holds w held = record { sound = refl; each = λ n r e. absurd (none≢some e) }
 
 -- coming back: the record of the name, whole, with its count found afresh; and that count is right beside the draft that came back (W-210)
 module _ (w : List Scalar) (rows : List Row) (held n draft : Str) (copy r : Rec) (was : Schema) (sound : forged (length held) rows ≡ false) (h : Held w rows held n r) (c : reading Released copy ≡ read was) where
