@@ -1,9 +1,9 @@
 -- The calls of a shelf: the code's answers are the definition's. Assumes nothing.
 use mathlib.Core.Path.{_≡_, refl, sym, ap, ap₂, _∙_, subst}
 use mathlib.Core.List.{List, [], _∷_}
-use mathlib.Core.Option.{Option, none, some}
+use mathlib.Core.Option.{none, some}
 use mathlib.Core.Bool.{Bool, true, false, _&&_, _||_, cond}
-use Prim.Native.Nat.{ℕ, zero, suc, _+_, _≤_, _<_}
+use Prim.Native.Nat.{ℕ, suc, _≤_, _<_}
 use native.Mathlib.Omega.{arith}
 use lib.ListN.{length, getD, take, drop}
 use lib.Dec.{ltb}
@@ -12,24 +12,23 @@ use types.Run.{OneOf}
 use denote.Enum.Declared.{tagOf}
 use Rattle.record.specs.Base.{Str, any, find}
 use Rattle.record.specs.Scalars.{Scalar, scalarsOf, builtIn, builtInRows}
-use Rattle.record.specs.Reading.{Rec, rec, schemaOf, read, refuse, reading}
+use Rattle.record.specs.Reading.{Rec, rec, schemaOf, read, refuse}
 use Rattle.record.specs.Read.{readingOf}
-use Rattle.record.specs.declared.refusal.Side.the-variants.{Released}
 use Rattle.record.specs.declared.refusal.Refusal.{Refusal}
 use Rattle.record.specs.declared.read.Outcome.{Outcome}
-use Rattle.record.specs.declared.read.Outcome.the-variants.{Readable, Refused}
+use Rattle.record.specs.declared.read.Outcome.the-variants.{Refused}
 use Rattle.record.proofs.read.Outcome as outcome-type
 use Rattle.record.proofs.ScalarLaws.{built-in}
 use Rattle.drafts.specs.Parts.{part, afterPart, heldRec, readHeld, partsOf}
 use Rattle.drafts.specs.Code.{HeldRead}
 use Rattle.drafts.specs.Edits.{Edited, refused, declined, settled}
-use Rattle.drafts.specs.Answering.{editedAs, Says, Both, Opens}
-use Rattle.drafts.specs.Shelf.{Row, isFree, isNamed, goodName, rowOf, forged, bytesOf, shelve, shelved, Shelved, hasRow, setRead, setDraft, broughtBack, broughtFrom, backFrom, backDraft}
+use Rattle.drafts.specs.Answering.{editedAs, Says, Opens}
+use Rattle.drafts.specs.Shelf.{Row, isFree, isNamed, goodName, rowOf, forged, bytesOf, shelve, shelved, hasRow, setRead, setDraft, broughtBack, broughtFrom, backFrom, backDraft}
 use Rattle.drafts.specs.Shelving.{rowAt, rowsOf, firstOf, rowFor, shelvedAs}
 use Rattle.drafts.specs.Holding.{Short, Settable}
 use Rattle.drafts.specs.declared.saying.DraftAnswer.{DraftAnswer}
 use Rattle.drafts.specs.declared.opening.Opening.{Opening}
-use Rattle.drafts.specs.declared.opening.Opening.the-variants.{Ready, Barred}
+use Rattle.drafts.specs.declared.opening.Opening.the-variants.{Barred}
 use Rattle.drafts.specs.declared.shelved.Shelf.{Shelf}
 use Rattle.drafts.specs.declared.shelved.ShelfAnswer.{ShelfAnswer}
 use Rattle.drafts.proofs.opening.Opening as opening-type

@@ -1,18 +1,16 @@
 -- The places that stay: their sizes, how many of their bytes stand before an end, and their bytes moved to the front. Assumes nothing.
 use mathlib.Core.Path.{_≡_, refl, sym, ap, ap₂, _∙_}
 use mathlib.Core.List.{List, [], _∷_, _++_, map, append-assoc, append-nil}
-use mathlib.Core.Bool.{Bool, true, false, _&&_, _||_, not, cond}
+use mathlib.Core.Bool.{Bool, true, false, _||_, cond}
 use Prim.Native.Nat.{ℕ, zero, suc, _+_, _-_, _≤_, _<_}
-use native.Mathlib.Numerals.{add-one}
 use native.Mathlib.Omega.{arith}
 use lib.ListN.{length, getD, take, drop, set, length-append, length-set, length-map, drop-of-length-le, List·getD-map}
-use lib.Seq.{take-all, take-suc, take-suc-set, drop-cons, length-take-le, getD-append-add, getD-drop, set-at, take-length}
-use lib.Dec.{ltb, leb}
+use lib.Seq.{take-all, take-suc, take-suc-set, drop-cons, length-take-le, getD-append-add, getD-drop, set-at}
 use borrow.Author.Tests.{eq-eqb, ne-eqb, le-ltb, lt-ltb}
 use Rattle.record.specs.Base.{Str}
 use Rattle.record.specs.Fill.{fronted}
 use Rattle.drafts.specs.Packing.{kept}
-use Rattle.drafts.specs.Shelf.{Row, isHeld, inPlace}
+use Rattle.drafts.specs.Shelf.{isHeld, inPlace}
 use Rattle.drafts.specs.Shelving.{rowAt, rowsOf, placeRow, sizeRow, heldSize, covering, bytesBefore, allBefore, Spaced, least, startsAfter}
 use Rattle.drafts.specs.declared.shelved.Shelf.{Shelf}
 use Rattle.drafts.proofs.Pools.{kept-append}

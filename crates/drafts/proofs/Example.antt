@@ -14,7 +14,7 @@ use Rattle.record.specs.declared.refusal.Side.the-variants.{Released}
 use Rattle.record.proofs.Basics.{none≢some}
 use Rattle.drafts.specs.Parts.{partsOf}
 use Rattle.drafts.specs.Edits.{Edited, noRoom, done, adding, removing, edit, count, Kept, series}
-use Rattle.drafts.specs.Shelf.{Row, freeRow, forged, backDraft}
+use Rattle.drafts.specs.Shelf.{freeRow, forged, backDraft}
 use Rattle.drafts.specs.Calls.{Editor, Call, setting, backing, editing, calls, named}
 use Rattle.record.specs.Base as Base
 use Rattle.record.specs.Le as Le

@@ -1,10 +1,10 @@
 -- A draft held under a name: the code's answers are the definition's. Assumes nothing.
 use mathlib.Core.Path.{_≡_, refl, sym, ap, ap₂, _∙_, subst}
 use mathlib.Core.List.{List, [], _∷_, _++_, map, append-assoc, append-nil}
-use mathlib.Core.Bool.{Bool, true, false, _&&_, _||_, cond, false≢true}
-use Prim.Native.Nat.{ℕ, zero, suc, _+_, _-_, _*_, _≤_, _<_}
+use mathlib.Core.Bool.{Bool, true, false, _||_, cond, false≢true}
+use Prim.Native.Nat.{ℕ, suc, _+_, _-_, _*_, _≤_, _<_}
 use native.Mathlib.Omega.{arith}
-use lib.ListN.{length, getD, take, drop, set, length-append, length-drop, length-set, length-map, drop-of-length-le, List·getD-map}
+use lib.ListN.{length, getD, take, drop, set, length-append, length-drop, length-map, drop-of-length-le, List·getD-map}
 use lib.Seq.{take-all, take-at, drop-at, drop-drop, length-front, length-take-le, ext-getD}
 use lib.Dec.{leb}
 use borrow.Author.Tests.{le-leb, lt-leb, leb-true}
@@ -17,7 +17,7 @@ use Rattle.record.proofs.WriterLaws.{puts-front}
 use Rattle.drafts.specs.Packing.{kept}
 use Rattle.drafts.specs.Parts.{partsOf}
 use Rattle.drafts.specs.Edits.{Edited, noRoom, done}
-use Rattle.drafts.specs.Answering.{Says, editedAs}
+use Rattle.drafts.specs.Answering.{Says}
 use Rattle.drafts.specs.Shelf.{Row, isHeld, isFree, nameOf, isNamed, goodName, freeRow, putFirst, closed, movedRow, newRow, put, rowsWith, shelve, shelved}
 use Rattle.drafts.specs.Shelving.{rowAt, rowsOf, firstOf, heldSize, covering, allBefore, Spaced, least, startsAfter, withStarts, shelvedAs}
 use Rattle.drafts.specs.Holding.{Short, Room, Settable, Behind}

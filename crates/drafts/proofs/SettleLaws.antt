@@ -1,10 +1,10 @@
 -- The result of an edit read and written. Assumes nothing.
 use mathlib.Core.Path.{_≡_, refl, sym, ap, ap₂, subst, _∙_}
-use mathlib.Core.List.{List, [], _∷_, _++_}
+use mathlib.Core.List.{List, [], _∷_}
 use mathlib.Core.Bool.{Bool, true, false, _&&_}
 use Prim.Native.Nat.{ℕ, zero, suc, _+_, _≤_, _<_}
 use native.Mathlib.Omega.{arith}
-use lib.ListN.{length, take, drop, replicate, length-append}
+use lib.ListN.{length, take, drop}
 use lib.Seq.{take-at}
 use lib.Dec.{leb}
 use borrow.Author.Tests.{le-leb, lt-leb, leb-true, leb-false}
@@ -32,7 +32,7 @@ use Rattle.record.proofs.ScalarLaws.{built-in}
 use Rattle.record.proofs.Accepted.{accepting}
 use Rattle.record.proofs.WriterLaws.{puts-then, puts-exact, puts-front}
 use Rattle.drafts.specs.Packing.{packedCommands, packedPool, streamOf}
-use Rattle.drafts.specs.Parts.{part, afterPart, heldRec, le4, partsOf}
+use Rattle.drafts.specs.Parts.{part, afterPart, heldRec, partsOf}
 use Rattle.drafts.specs.Code.{chosen}
 use Rattle.drafts.specs.Count.{countChanged}
 use Rattle.drafts.specs.Counted.{Legible}

@@ -15,16 +15,14 @@ use Rattle.record.specs.Base.{Str, any, filterB, eqs}
 use Rattle.record.specs.Fill.{fronted}
 use Rattle.record.specs.Scalars.{Scalar}
 use Rattle.record.specs.Schema.{Schema}
-use Rattle.record.specs.Refusals.{refusalNumber}
 use Rattle.record.specs.Reading.{Rec, Reading, read, refuse, reading, streamLimit, poolLimit}
 use Rattle.record.specs.declared.refusal.Side.the-variants.{Current, Released}
-use Rattle.record.specs.declared.refusal.Refusal.{Refusal}
 use Rattle.record.specs.declared.refusal.Refusal.the-variants as R
 use Rattle.record.proofs.Basics.{both, none≢some, eqs→eq, eqs-refl}
 use Rattle.record.proofs.Accepted.{accepting}
 use Rattle.drafts.specs.Parts.{stated, afterPart, heldRec, readHeld, partsOf}
 use Rattle.drafts.specs.Count.{countChanged}
-use Rattle.drafts.specs.Edits.{Edited, refused, declined, noRoom, done, settled, counted, count, Edit, edit, Kept, keeping}
+use Rattle.drafts.specs.Edits.{Edited, refused, declined, noRoom, done, settled, counted, count, edit, Kept, keeping}
 use Rattle.drafts.specs.Shelf.{Row, isHeld, heldRows, overlapping, isFree, isNamed, goodName, hasRow, forged, bytesOf, rowOf, closed, movedRow, newRow, put, rowsWith, Shelved, shelved, shelve, setRead, setDraft, broughtBack, backFrom, backDraft}
 use Rattle.drafts.specs.Shelving.{listed, rowsOf, newShelf}
 use Rattle.drafts.specs.Calls.{Editor, Call, setting, backing, editing, setOf, backKept, called, calls, noted, named}

@@ -1,21 +1,21 @@
 -- The places of the code and the rows of the definition: the places that stay when a row gives way are those of the definition. Assumes nothing.
-use mathlib.Core.Path.{_≡_, refl, sym, ap, ap₂, _∙_, subst}
-use mathlib.Core.List.{List, [], _∷_, _++_, map, List·Memᴰ, List·Memᴰ·head, List·Memᴰ·tail}
+use mathlib.Core.Path.{_≡_, refl, sym, ap, ap₂, _∙_}
+use mathlib.Core.List.{List, [], _∷_, _++_, map}
 use mathlib.Core.Bool.{Bool, true, false, _&&_, _||_, not, cond, false≢true}
-use Prim.Native.Nat.{ℕ, zero, suc, _+_, _-_, _≤_, _<_}
+use Prim.Native.Nat.{ℕ, suc, _+_, _-_, _≤_, _<_}
 use native.Mathlib.Omega.{arith}
-use lib.ListN.{length, getD, take, drop, set, length-append, length-drop, take-append-drop}
+use lib.ListN.{length, take, drop, set, length-append, length-drop, take-append-drop}
 use lib.Seq.{length-take-le}
 use lib.Dec.{ltb, leb}
-use borrow.Author.Tests.{le-leb, lt-ltb, le-ltb, lt-leb, ltb-true, ltb-false, leb-true, leb-false}
+use borrow.Author.Tests.{lt-ltb, le-ltb, ltb-true, ltb-false, leb-true}
 use Rattle.record.specs.Base.{Str, any, filterB}
-use Rattle.record.proofs.Basics.{both, any-some}
+use Rattle.record.proofs.Basics.{any-some}
 use Rattle.drafts.specs.Packing.{kept, keptBefore}
 use Rattle.drafts.specs.Shelf.{Row, isHeld, isFree, isNamed, goodName, heldRows, forged, freeRow, putFirst, others, inPlace, staying, closed}
-use Rattle.drafts.specs.Shelving.{firstOf, rowFor, placeRow, heldSize, covering, bytesBefore, allBefore, Spaced, least}
+use Rattle.drafts.specs.Shelving.{firstOf, rowFor, heldSize, covering, bytesBefore, allBefore, Spaced, least}
 use Rattle.drafts.proofs.Pools.{kept-append, kept-all}
 use Rattle.drafts.proofs.Arrays.{zeros, zeros-long}
-use Rattle.drafts.proofs.ShelfPlaces.{Clear, Pairwise, pairs-fewer, forged-pairs, free-not-held}
+use Rattle.drafts.proofs.ShelfPlaces.{Pairwise, pairs-fewer, forged-pairs, free-not-held}
 use Rattle.drafts.proofs.ShelfRoom.{kept-none, kept-both, in-here, in-before, in-after, no-byte}
 use Rattle.drafts.proofs.RowLaws.{first-any}
 use Rattle.drafts.proofs.ClosingLaws.{kept-few}

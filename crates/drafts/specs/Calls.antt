@@ -1,9 +1,8 @@
 -- A series of calls: settings, comings back and W-210's edits (02, W-211: "if only these calls write the buffer and each gets the names and
 -- places the last gave"). Assumes nothing.
-use Prim.Native.Nat.{ℕ}
 use mathlib.Core.List.{List, [], _∷_}
-use mathlib.Core.Option.{Option, none, some}
-use mathlib.Core.Bool.{Bool, cond}
+use mathlib.Core.Option.{Option, some}
+use mathlib.Core.Bool.{cond}
 use lib.Dec.{eqb}
 use Rattle.record.specs.Base.{Str, eqs}
 use Rattle.record.specs.Scalars.{Scalar}

@@ -1,5 +1,4 @@
 use Rattle.drafts.proofs.ClosingLaws.{before-none, before-some, before-whole}
-use borrow.Author.Needs.{needs}
 use Rattle.drafts.proofs.closing.bytes_before.Statement.{statement}
 use Rattle.drafts.proofs.closing.bytes_before.Tie as tie
 

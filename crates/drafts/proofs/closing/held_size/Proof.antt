@@ -1,5 +1,4 @@
 use Rattle.drafts.proofs.ClosingLaws.{size-free, size-held}
-use borrow.Author.Needs.{needs}
 use Rattle.drafts.proofs.closing.held_size.Statement.{statement}
 use Rattle.drafts.proofs.closing.held_size.Tie as tie
 

@@ -1,5 +1,4 @@
 use Rattle.drafts.proofs.ClosingLaws.{least-first, least-second}
-use borrow.Author.Needs.{needs}
 use Rattle.drafts.proofs.closing.least.Statement.{statement}
 use Rattle.drafts.proofs.closing.least.Tie as tie
 

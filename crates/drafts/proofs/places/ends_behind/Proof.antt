@@ -1,5 +1,4 @@
 use Rattle.drafts.proofs.PlaceLaws.{ends-before, ends-after}
-use borrow.Author.Needs.{needs}
 use Rattle.drafts.proofs.places.ends_behind.Statement.{statement}
 use Rattle.drafts.proofs.places.ends_behind.Tie as tie
 

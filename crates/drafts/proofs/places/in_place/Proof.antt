@@ -1,5 +1,4 @@
 use Rattle.drafts.proofs.PlaceLaws.{not-in, is-in}
-use borrow.Author.Needs.{needs}
 use Rattle.drafts.proofs.places.in_place.Statement.{statement}
 use Rattle.drafts.proofs.places.in_place.Tie as tie
 
