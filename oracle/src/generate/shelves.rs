@@ -42,6 +42,10 @@ const NAMES: [&[u8]; 11] = [
 /// What the buffers are filled with at first.
 const FILL: u8 = 0xA5;
 
+/// No held buffer is made longer than this: a place that a forger put far out
+/// would make it grow again and again.
+const MOST: usize = 150_000;
+
 /// An empty shelf: a new one, or free rows full of drawn numbers. The draft is
 /// one of `draw`.
 pub fn editor(draw: Draw, rng: &mut Rng) -> Editor {
@@ -68,7 +72,7 @@ pub fn editor(draw: Draw, rng: &mut Rng) -> Editor {
     editor
 }
 
-/// A editor whose shelf holds up to so many drafts of `draw`, set by calls.
+/// An editor whose shelf holds up to so many drafts of `draw`, set by calls.
 pub fn filled(names: usize, draw: Draw, rng: &mut Rng) -> Editor {
     let mut editor = editor(draw, rng);
     let first = rng.below(NAMES.len());
@@ -83,7 +87,7 @@ pub fn filled(names: usize, draw: Draw, rng: &mut Rng) -> Editor {
     editor
 }
 
-/// A editor whose next call meets a record that is refused so: the draft set, the
+/// An editor whose next call meets a record that is refused so: the draft set, the
 /// held draft, or the copy.
 pub fn faulty(fault: Fault, draw: Draw, rng: &mut Rng) -> (Editor, Call) {
     let mut editor = filled(rng.between(1, 3), draw, rng);
@@ -187,7 +191,10 @@ impl Editor {
                 let after = ample.answer(call);
                 if after.number == 0 {
                     let needed = last_end(&after.shelf).saturating_sub(less);
-                    self.held.resize(needed.max(last_end(&self.shelf)), FILL);
+                    let room = needed.max(last_end(&self.shelf));
+                    if room <= MOST {
+                        self.held.resize(room, FILL);
+                    }
                 }
             }
             Call::Back(name) => {
