@@ -42,10 +42,6 @@ const NAMES: [&[u8]; 11] = [
 /// What the buffers are filled with at first.
 const FILL: u8 = 0xA5;
 
-/// No held buffer is made longer than this: a place that a forger put far out
-/// would make it grow again and again.
-const MOST: usize = 150_000;
-
 /// An empty shelf: a new one, or free rows full of drawn numbers. The draft is
 /// one of `draw`.
 pub fn editor(draw: Draw, rng: &mut Rng) -> Editor {
@@ -191,10 +187,7 @@ impl Editor {
                 let after = ample.answer(call);
                 if after.number == 0 {
                     let needed = last_end(&after.shelf).saturating_sub(less);
-                    let room = needed.max(last_end(&self.shelf));
-                    if room <= MOST {
-                        self.held.resize(room, FILL);
-                    }
+                    self.held.resize(needed.max(last_end(&self.shelf)), FILL);
                 }
             }
             Call::Back(name) => {
