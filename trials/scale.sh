@@ -49,8 +49,10 @@ step "pointers, seed 108, $(of 100000) records" "$trials" pointers 108 "$(of 100
 step "chains, seed 104, $(of 8000) chains" "$trials" chains 104 "$(of 8000)"
 step "load, seed 109, $(of 1000000) pairs" "$trials" load 109 "$(of 1000000)"
 step "drafts, seed 110, $(of 100000) series" "$trials" drafts 110 "$(of 100000)"
+step "shelf, seed 211, $(of 100000) series" "$trials" shelf 211 "$(of 100000)"
 step "memcheck, seed 105, $(of 3000) pairs" valgrind -q --error-exitcode=1 "$trials" memcheck 105 "$(of 3000)"
 step "drafts under valgrind, seed 111, $(of 300) series" valgrind -q --error-exitcode=1 "$trials" drafts 111 "$(of 300)"
+step "shelf under valgrind, seed 212, $(of 300) series" valgrind -q --error-exitcode=1 "$trials" shelf 212 "$(of 300)"
 step "sections, seed 107, $(of 20000) pairs and a control of $(of 1000)" "$trials" sections 107 "$(of 20000)"
 step "load under memcheck, seed 110, $(of 3000) pairs" valgrind -q --error-exitcode=1 "$trials" load 110 "$(of 3000)"
 step "stack" "$trials" stack

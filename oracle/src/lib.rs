@@ -21,6 +21,8 @@ pub mod pointers;
 pub mod reader;
 pub mod rng;
 pub mod samples;
+pub mod shelf;
+pub mod shelf_vectors;
 pub mod shrink;
 pub mod stats;
 pub mod values;

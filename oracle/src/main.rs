@@ -5,7 +5,7 @@ use std::io::{self, Read, Write};
 use std::process::ExitCode;
 
 use oracle::parts::Parts;
-use oracle::{Answer, Side, answers, draft_vectors, load, samples, stats, vectors};
+use oracle::{Answer, Side, answers, draft_vectors, load, samples, shelf_vectors, stats, vectors};
 
 const USAGE: &str = "\
 oracle stats --seed S --pairs N
@@ -17,6 +17,7 @@ oracle vectors-pointers --seed S --count N OUT
 oracle load --from A --to B
 oracle load-pair --outcome N --seed S OUT
 oracle vectors-draft --seed S --count N OUT
+oracle vectors-shelf --seed S --count N OUT
 oracle samples --seed S --per-number K
 oracle samples-list --seed S --per-number K
 oracle samples-owner --seed S --per-number K
@@ -61,6 +62,7 @@ fn run(args: &Args) -> Option<String> {
             )?)
         }
         "vectors-draft" => args.write(&draft_vectors::drafts(args.seed()?, args.count()?)),
+        "vectors-shelf" => args.write(&shelf_vectors::shelves(args.seed()?, args.count()?)),
         "samples" => lines(samples::pairs(args.seed()?, args.per_number()?)),
         "samples-list" => lines(samples::lists(args.seed()?, args.per_number()?)),
         "samples-owner" => lines(samples::owners(args.seed()?, args.per_number()?)),

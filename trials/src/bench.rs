@@ -14,6 +14,7 @@ use crate::edit_rows;
 use crate::inputs::{self, Input};
 use crate::load;
 use crate::pointers;
+use crate::shelf_rows;
 use crate::table::grouped;
 
 /// A line of the table: nanoseconds a call.
@@ -237,4 +238,5 @@ pub fn run() {
     pointers::bench();
     load::bench();
     edit_rows::run();
+    shelf_rows::run();
 }

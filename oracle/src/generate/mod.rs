@@ -13,6 +13,7 @@ pub mod offers;
 pub mod pointers;
 pub mod questions;
 pub mod sections;
+pub mod shelves;
 pub mod shuffle;
 pub mod steps;
 pub mod wild;

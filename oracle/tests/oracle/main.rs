@@ -10,5 +10,6 @@ mod load;
 mod passes;
 mod pointers;
 mod reader;
+mod shelf;
 mod values;
 mod verdicts;

@@ -11,7 +11,7 @@ pub fn reason(number: u32) -> Option<&'static str> {
     REASONS.get(index).copied()
 }
 
-const WORDS: [(u32, &str); 52] = [
+const WORDS: [(u32, &str); 54] = [
     (0, "accepted"),
     (1, "cut"),
     (2, "unknown"),
@@ -61,6 +61,8 @@ const WORDS: [(u32, &str); 52] = [
     (46, "fell"),
     (55, "name held"),
     (56, "no such name"),
+    (57, "name not taken"),
+    (58, "not held"),
     (59, "names neither"),
     (60, "names the other"),
     (61, "unfit"),
