@@ -1,7 +1,7 @@
 /* The calls of the release check. A slice is a pointer and a length: the pointer is good for that many bytes, and a length of 0 may come with any
    pointer that is not null. The buffer shares no byte with a record. No call changes a byte of a record; text is written at the front of the lent
    buffer and nothing after it. A draft is a record in a buffer, in two parts: the length of its stream (four bytes, little-endian) and the stream,
-   the length of its pool and the pool. */
+   the length of its pool and the pool. A shelf holds up to eight drafts under names, one after another in a buffer of their own. */
 #ifndef MENQACHU_H
 #define MENQACHU_H
 
@@ -35,6 +35,25 @@ typedef struct {
     menqachu_answer answer;
     size_t changed;
 } menqachu_draft_answer;
+
+/* The names and places of up to eight held drafts: row i has its name in the first name_lens[i] of the sixteen bytes names[16 * i] on, and its draft in
+   lens[i] bytes of the held buffer from starts[i]. A row whose name_len is 0 is free. */
+typedef struct {
+    uint8_t names[128];
+    size_t name_lens[8];
+    size_t starts[8];
+    size_t lens[8];
+} menqachu_shelf;
+
+/* What the calls of a shelf answer. Number 0: done, with the names and places afterwards and, coming back, the number of layouts in which the draft and
+   the released record differ (else changed is 0). 1 to 9: a record is refused, with its side (0 the draft, 1 the released record) and the place.
+   10: no room, with the length needed. 57: eight other names are held, or the name has not 1 to 16 bytes. 58: the name is not held, or a held place lies
+   outside the buffer or over another. A refusal gives the shelf back as it came. */
+typedef struct {
+    menqachu_answer answer;
+    size_t changed;
+    menqachu_shelf shelf;
+} menqachu_shelf_answer;
 
 /* A current record against a released one. */
 menqachu_answer menqachu_check(const uint8_t *stream, size_t stream_len, const uint8_t *pool, size_t pool_len,
@@ -73,5 +92,19 @@ menqachu_draft_answer menqachu_draft_remove(size_t changed, uint8_t *draft, size
 /* For tests: how many pairs of bytes are compared of two names. 0 if their lengths differ; else the pairs from the last byte on, up to and with the
    first unequal one, or all. */
 size_t menqachu_pairs_compared(const uint8_t *a, size_t a_len, const uint8_t *b, size_t b_len);
+
+/* A shelf on which no name is held: all zero. */
+menqachu_shelf menqachu_shelf_new(void);
+
+/* Holds a draft under a name, in place of the one held under it before. The shelf is what the last call gave, or a new one, and only these calls write
+   the held buffer, in which the drafts may move. A refused call changes no byte of it. */
+menqachu_shelf_answer menqachu_shelf_set(menqachu_shelf shelf, const uint8_t *name, size_t name_len, const uint8_t *draft, size_t draft_len,
+                                         uint8_t *held, size_t held_len);
+
+/* Puts the draft held under a name at the front of the draft's buffer, and counts against the released record. Neither the shelf nor the held buffer
+   changes; a refused call changes no byte of the draft's buffer. */
+menqachu_shelf_answer menqachu_shelf_back(menqachu_shelf shelf, const uint8_t *name, size_t name_len, uint8_t *draft, size_t draft_len,
+                                          const uint8_t *held, size_t held_len, const uint8_t *past, size_t past_len,
+                                          const uint8_t *old, size_t old_len);
 
 #endif

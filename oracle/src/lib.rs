@@ -23,6 +23,8 @@ pub mod reader;
 pub mod replay;
 pub mod rng;
 pub mod samples;
+pub mod shelf;
+pub mod shelf_vectors;
 pub mod shrink;
 pub mod stats;
 pub mod utf8_vectors;

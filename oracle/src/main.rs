@@ -6,8 +6,8 @@ use std::process::ExitCode;
 
 use oracle::parts::Parts;
 use oracle::{
-    Answer, Side, answers, draft_vectors, load, pairs, replay, samples, stats, utf8_vectors,
-    vectors,
+    Answer, Side, answers, draft_vectors, load, pairs, replay, samples, shelf_vectors, stats,
+    utf8_vectors, vectors,
 };
 
 const USAGE: &str = "\
@@ -21,6 +21,7 @@ oracle vectors-pairs
 oracle load --from A --to B
 oracle load-pair --outcome N --seed S OUT
 oracle vectors-draft --seed S --count N OUT
+oracle vectors-shelf --seed S --count N OUT
 oracle utf8-record|utf8-owner|utf8-list|utf8-check|utf8-pointers|utf8-draft --seed S --count N OUT
 oracle replay record|owner|list|check|pointers|draft FILE [OUT]
 oracle samples --seed S --per-number K
@@ -68,6 +69,7 @@ fn run(args: &Args) -> Option<String> {
             )?)
         }
         "vectors-draft" => args.write(&draft_vectors::drafts(args.seed()?, args.count()?)),
+        "vectors-shelf" => args.write(&shelf_vectors::shelves(args.seed()?, args.count()?)),
         "utf8-record" => args.write(&utf8_vectors::records(args.seed()?, args.count()?)),
         "utf8-owner" => args.write(&utf8_vectors::owners(args.seed()?, args.count()?)),
         "utf8-list" => args.write(&utf8_vectors::lists(args.seed()?, args.count()?)),

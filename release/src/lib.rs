@@ -46,6 +46,26 @@ pub struct DraftAnswer {
     pub changed: usize,
 }
 
+/// The names and places of up to eight held drafts. Row i has its name in the first `name_lens[i]` of the sixteen bytes of `names` from
+/// 16 * i on, and its draft in `lens[i]` bytes of the held buffer from `starts[i]`; it is free where `name_lens[i]` is 0.
+#[repr(C)]
+#[derive(Clone, Copy, Debug, PartialEq, Eq)]
+pub struct Shelf {
+    pub names: [u8; 128],
+    pub name_lens: [usize; 8],
+    pub starts: [usize; 8],
+    pub lens: [usize; 8],
+}
+
+/// What a call of a shelf answers, with the shelf afterwards and, coming back, the number of layouts in which draft and copy differ.
+#[repr(C)]
+#[derive(Clone, Copy, Debug, PartialEq, Eq)]
+pub struct ShelfAnswer {
+    pub answer: Answer,
+    pub changed: usize,
+    pub shelf: Shelf,
+}
+
 #[repr(C)]
 struct OwnerAnswer {
     number: u32,
@@ -120,6 +140,29 @@ unsafe extern "C" {
         old: *const u8,
         old_len: usize,
     ) -> DraftAnswer;
+    fn menqachu_shelf_new() -> Shelf;
+    fn menqachu_shelf_set(
+        shelf: Shelf,
+        name: *const u8,
+        name_len: usize,
+        draft: *const u8,
+        draft_len: usize,
+        held: *mut u8,
+        held_len: usize,
+    ) -> ShelfAnswer;
+    fn menqachu_shelf_back(
+        shelf: Shelf,
+        name: *const u8,
+        name_len: usize,
+        draft: *mut u8,
+        draft_len: usize,
+        held: *const u8,
+        held_len: usize,
+        past: *const u8,
+        past_len: usize,
+        old: *const u8,
+        old_len: usize,
+    ) -> ShelfAnswer;
 }
 
 /// Checks a current record against a released one; a verdict's message stands at the front of `out`.
@@ -237,6 +280,50 @@ pub fn draft_remove(changed: usize, draft: &mut [u8], name: &[u8], released: Rec
             draft.len(),
             name.as_ptr(),
             name.len(),
+            past.as_ptr(),
+            past.len(),
+            old.as_ptr(),
+            old.len(),
+        )
+    }
+}
+
+/// A shelf on which no name is held.
+pub fn shelf_new() -> Shelf {
+    // SAFETY: the call takes nothing.
+    unsafe { menqachu_shelf_new() }
+}
+
+/// Holds a draft under a name, in place of the one held under it before. Only the calls of a shelf write to `held`, and each gets the shelf
+/// that the last one gave.
+pub fn shelf_set(shelf: Shelf, name: &[u8], draft: &[u8], held: &mut [u8]) -> ShelfAnswer {
+    // SAFETY: each pointer comes with the length of its slice, and only `held` is written to.
+    unsafe {
+        menqachu_shelf_set(
+            shelf,
+            name.as_ptr(),
+            name.len(),
+            draft.as_ptr(),
+            draft.len(),
+            held.as_mut_ptr(),
+            held.len(),
+        )
+    }
+}
+
+/// Puts the draft held under a name at the front of `draft`, and counts the layouts in which it and a released record differ.
+pub fn shelf_back(shelf: Shelf, name: &[u8], draft: &mut [u8], held: &[u8], released: Record) -> ShelfAnswer {
+    let (past, old) = (released.stream, released.pool);
+    // SAFETY: each pointer comes with the length of its slice, and only `draft` is written to.
+    unsafe {
+        menqachu_shelf_back(
+            shelf,
+            name.as_ptr(),
+            name.len(),
+            draft.as_mut_ptr(),
+            draft.len(),
+            held.as_ptr(),
+            held.len(),
             past.as_ptr(),
             past.len(),
             old.as_ptr(),

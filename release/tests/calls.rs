@@ -11,8 +11,8 @@ use common::top;
 use common::vectors::{pairs, Vectors};
 use menqachu::record::pair::OUTCOMES;
 use menqachu::{
-    check, draft_add, draft_count, draft_remove, list, load, owner, pairs_compared, pointers, Answer,
-    DraftAnswer, Owner, Side,
+    check, draft_add, draft_count, draft_remove, list, load, owner, pairs_compared, pointers, shelf_back,
+    shelf_new, shelf_set, Answer, DraftAnswer, Owner, Shelf, ShelfAnswer, Side,
 };
 
 const STACK: usize = 512 * 1024;
@@ -167,6 +167,60 @@ fn pairs_compared_counts_from_the_back() {
             }
         }
     });
+}
+
+#[test]
+fn shelves_answer_as_the_oracle() {
+    let mut file = Vectors::open("crates/vectors_shelf/data/shelves");
+    on_small_stack(move || {
+        let mut counts = [0; 59];
+        while !file.done() {
+            let (call, answer, changed) = (file.byte(), file.answer(), file.number());
+            let (given, after) = (shelf_of(&file.part()), shelf_of(&file.part()));
+            let [name, draft, held] = [(); 3].map(|()| file.part());
+            let (copy, front) = (file.record(), file.part());
+            let [mut lent_draft, mut lent_held] =
+                [&draft, &held].map(|bytes| bytes.clone().into_boxed_slice());
+            let (answered, before, written, other) = match call {
+                0 => (
+                    shelf_set(given, &name, &lent_draft, &mut lent_held),
+                    &held,
+                    &lent_held,
+                    *lent_draft == draft[..],
+                ),
+                _ => {
+                    let answered = shelf_back(given, &name, &mut lent_draft, &lent_held, copy.record());
+                    (answered, &draft, &lent_draft, *lent_held == held[..])
+                }
+            };
+            let count: usize = counts.iter().sum();
+            assert_eq!(answered, ShelfAnswer { answer, changed, shelf: after }, "call {count}");
+            assert!(
+                **written == [&front, &before[front.len()..]].concat() && other,
+                "buffer of call {count}"
+            );
+            counts[answer.number as usize] += 1;
+        }
+        assert!([0, 10, 57, 58].iter().all(|&number| counts[number] >= 40), "{counts:?}");
+        assert!((1..=9).all(|number| counts[number] >= 16), "{counts:?}");
+    });
+}
+
+#[test]
+fn a_new_shelf_is_all_zero() {
+    assert_eq!(shelf_new(), shelf_of(&[0; 320]));
+}
+
+/// A shelf from the bytes of its struct.
+fn shelf_of(bytes: &[u8]) -> Shelf {
+    let numbers = |from: usize| {
+        std::array::from_fn(|row| {
+            let bytes = bytes[from + 8 * row..][..8].try_into().expect("eight bytes");
+            u64::from_le_bytes(bytes) as usize
+        })
+    };
+    let names = bytes[..128].try_into().expect("the names");
+    Shelf { names, name_lens: numbers(128), starts: numbers(192), lens: numbers(256) }
 }
 
 /// What the check program prints.

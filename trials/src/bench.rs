@@ -15,6 +15,7 @@ use crate::inputs::{self, Input};
 use crate::load;
 use crate::pairs;
 use crate::pointers;
+use crate::shelf_rows;
 use crate::table::grouped;
 
 /// A line of the table: nanoseconds a call.
@@ -239,4 +240,5 @@ pub fn run() {
     pairs::bench();
     load::bench();
     edit_rows::run();
+    shelf_rows::run();
 }

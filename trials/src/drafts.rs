@@ -51,7 +51,7 @@ fn full(tally: &mut Tally, rng: &mut Rng) {
 }
 
 /// The count, held to the oracle's.
-fn afresh(tally: &mut Tally, buffer: &[u8], copy: &Encoded) -> usize {
+pub fn afresh(tally: &mut Tally, buffer: &[u8], copy: &Encoded) -> usize {
     let meant = edits::count(buffer, copy);
     let lent = (buffer.to_vec(), copy.clone());
     let answer = menqachu::draft_count(&lent.0, record(&lent.1));
@@ -62,7 +62,7 @@ fn afresh(tally: &mut Tally, buffer: &[u8], copy: &Encoded) -> usize {
 }
 
 /// An edit, held to the oracle's, which is given back.
-fn edited(tally: &mut Tally, given: usize, buffer: &[u8], next: &Edit, copy: &Encoded) -> Edited {
+pub fn edited(tally: &mut Tally, given: usize, buffer: &[u8], next: &Edit, copy: &Encoded) -> Edited {
     let meant = edits::edit(given, buffer, next, copy);
     let mut lent = (buffer.to_vec(), next.clone(), copy.clone());
     let (answer, kind) = match &lent.1 {

@@ -79,12 +79,16 @@ pub fn run() {
             &mut || timed(|| edits.add(added)),
         ]);
         for (call, ours) in [("draft_count", count), ("draft_remove", remove), ("draft_add", add)] {
-            let [bytes, time, beside] =
-                [now.stream.len() as f64, ours, check].map(|n| grouped(n.round() as u64));
-            let ratio = ours / check;
-            println!("| {call} | {} | {bytes} | {time} | {beside} | {ratio:.2} |", input.name);
+            print_row(call, input, now.stream.len(), ours, check);
         }
     }
+}
+
+/// A line of the table.
+pub fn print_row(call: &str, input: &Input, bytes: usize, ours: f64, check: f64) {
+    let [bytes, time, beside] = [bytes as f64, ours, check].map(|n| grouped(n.round() as u64));
+    let ratio = ours / check;
+    println!("| {call} | {} | {bytes} | {time} | {beside} | {ratio:.2} |", input.name);
 }
 
 /// One call on one input so many times and nothing else; none where the words name no call or no input.

@@ -10,6 +10,7 @@
 //!     trials pools SEED COUNT            pools of UTF-8 and not, with texts of them, beside Rust's own decoder
 //!     trials load SEED COUNT             pairs of the load call, checked, and a share held to the model
 //!     trials drafts SEED COUNT           series of edits of a draft, and the count found afresh after each
+//!     trials shelf SEED COUNT            series of calls of a shelf, made by calls alone or forged
 //!     trials memcheck SEED COUNT         the calls on blocks of exact lengths, to be run under valgrind
 //!     trials stack                       the smallest thread that suffices for the largest records
 //!     trials fuzz SECONDS SEED [FOLDER]  a search for pairs that differ; they are written to the folder
@@ -38,6 +39,8 @@ mod pointers;
 mod pools;
 mod premises;
 mod sections;
+mod shelf_rows;
+mod shelves;
 mod stack;
 mod table;
 mod tally;
@@ -46,10 +49,10 @@ use std::path::Path;
 use std::process::ExitCode;
 
 const USAGE: &str =
-    "usage: trials checks SEED COUNT [LEAST] | trials lists|owners|pointers|chains|sections|pairs|pools|load|drafts|memcheck SEED COUNT
+    "usage: trials checks SEED COUNT [LEAST] | trials lists|owners|pointers|chains|sections|pairs|pools|load|drafts|shelf|memcheck SEED COUNT
        trials fuzz SECONDS SEED [FOLDER] | trials stack | trials bench [--against FOLDER]
        trials repeat check|list|owner INPUT TURNS [--against FOLDER]
-       trials repeat pointers|load|draft_count|draft_remove|draft_add INPUT TURNS";
+       trials repeat pointers|load|draft_count|draft_remove|draft_add|shelf_set|shelf_back INPUT TURNS";
 
 fn main() -> ExitCode {
     let words: Vec<String> = std::env::args().skip(1).collect();
@@ -98,7 +101,7 @@ fn run(words: &[&str]) -> Option<bool> {
         }
         ("stack", 1) => Some(stack::run()),
         ("stack-of", 4) => stack::call(words[1], number(2)? as usize, number(3)? as usize),
-        (call @ ("lists" | "owners" | "pointers" | "pairs" | "pools" | "drafts" | "memcheck"), 3) => {
+        (call @ ("lists" | "owners" | "pointers" | "pairs" | "pools" | "drafts" | "shelf" | "memcheck"), 3) => {
             let run = match call {
                 "lists" => differ::lists,
                 "owners" => differ::owners,
@@ -106,6 +109,7 @@ fn run(words: &[&str]) -> Option<bool> {
                 "pairs" => pairs::run,
                 "pools" => pools::run,
                 "drafts" => drafts::run,
+                "shelf" => shelves::run,
                 _ => memcheck::run,
             };
             let tally = run(number(1)?, number(2)?);
@@ -128,6 +132,9 @@ fn measure(words: &[&str]) -> Option<bool> {
         ["repeat", "pointers", input, turns] => pointers::repeat(input, turns.parse().ok()?)?,
         ["repeat", call, input, turns] if call.starts_with("draft_") => {
             edit_rows::repeat(call, input, turns.parse().ok()?)?
+        }
+        ["repeat", call, input, turns] if call.starts_with("shelf_") => {
+            shelf_rows::repeat(call, input, turns.parse().ok()?)?
         }
         ["repeat", call, input, turns] => against::repeat(&other::OURS, call, input, turns.parse().ok()?)?,
         ["repeat", call, input, turns, "--against", folder] => match other::others(folder) {

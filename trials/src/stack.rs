@@ -11,6 +11,7 @@ use oracle::verdicts::FIRST_VERDICT;
 use crate::differ::record;
 use crate::edit_rows::Edits;
 use crate::inputs::{self, Input};
+use crate::shelf_rows::{self, Shelves};
 
 /// What every call has to do with, in KiB.
 const ENOUGH: usize = 512;
@@ -20,13 +21,15 @@ const STEP: usize = 4;
 
 type Call = fn(&Input);
 
-const CALLS: [(&str, Call); 6] = [
+const CALLS: [(&str, Call); 8] = [
     ("check", check),
     ("list", list),
     ("owner", owner),
     ("pointers", pointers),
     ("draft_remove", remove),
     ("draft_add", add),
+    ("shelf_set", set),
+    ("shelf_back", back),
 ];
 
 /// The largest records, and the deepest walk.
@@ -131,4 +134,17 @@ fn add(input: &Input) {
     let edits = Edits::of(input);
     let mut buffer = edits.whole.clone();
     assert!(matches!(edits.add(&mut buffer), 0 | 8), "the type is added, or the texts are too many");
+}
+
+/// The first of eight drafts is set again.
+fn set(input: &Input) {
+    let shelves = Shelves::of(input);
+    let mut held = shelves.held.clone();
+    assert_eq!(shelves.set(&mut held), 0, "the draft is set");
+}
+
+/// The last of eight drafts comes back.
+fn back(input: &Input) {
+    let shelves = Shelves::of(input);
+    assert_eq!(shelves.back(&mut shelf_rows::lent()), 0, "the draft comes back");
 }

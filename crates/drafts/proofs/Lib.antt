@@ -31,4 +31,15 @@ pub mod SumLaws
 pub mod FinishLaws
 pub mod Outcomes
 pub mod Arrays
+pub mod RowLaws
+pub mod PlaceLaws
+pub mod ClosingLaws
+pub mod ShelvedLaws
+pub mod ShelfLaws
+pub mod ShelfPlaces
+pub mod ShelfRoom
+pub mod StayLaws
+pub mod HoldLaws
+pub mod CallLaws
+pub mod ShelfSeries
 pub mod Example

@@ -22,6 +22,7 @@ use Rattle.drafts.specs.Count.{countChanged}
 use Rattle.drafts.specs.Counted.{Legible}
 use Rattle.drafts.specs.Edits.{refused, done, edited, edit, counted, count}
 use Rattle.drafts.specs.Found.{TypeAt}
+use Rattle.drafts.specs.Shelf.{broughtBack}
 use Rattle.drafts.specs.Answering.{editedAs, Says, Both, Opens}
 use Rattle.record.specs.declared.seek.Sought.{Sought}
 use Rattle.drafts.specs.declared.saying.DraftAnswer.{DraftAnswer}
@@ -32,20 +33,20 @@ use Rattle.drafts.proofs.Outcomes.{readable, ready}
 
 module _ (w : List Scalar) (b s p : Str) (o : Outcome) (h : HeldRead w b o) where
   pub open-draft : (n : Refusal) (q : ℕ) → o ≡ Refused n q → Opens w b (rec s p w) (Barred 0 n q)
-  unfolding edit edited count counted
+  unfolding edit edited count counted broughtBack
   open-draft n q e =
       let r : readHeld w b ≡ refuse n q = sym (h .answer) ∙ ap (readingOf (heldRec w b)) e in
-      record { edits = λ k x. rw r; counts = rw r }
+      record { edits = λ k x. rw r; counts = rw r; backs = λ d. rw r }
 
   module _ (g : OneOf (0 ∷ []) (tagOf outcome-type.the-type o)) (v : Outcome) (i : Read Released (rec s p w) v) where
     held-read : readHeld w b ≡ read (schemaOf (heldRec w b))
     held-read = sym (h .answer) ∙ ap (readingOf (heldRec w b)) (readable o g)
 
     pub open-copy : (n : Refusal) (q : ℕ) → v ≡ Refused n q → Opens w b (rec s p w) (Barred 1 n q)
-    unfolding edit edited count counted
+    unfolding edit edited count counted broughtBack
     open-copy n q e =
         let r : reading Released (rec s p w) ≡ refuse n q = sym (i .answer) ∙ ap (readingOf (rec s p w)) e in
-        record { edits = λ k x. rw (held-read, r); counts = rw (held-read, r) }
+        record { edits = λ k x. rw (held-read, r); counts = rw (held-read, r); backs = λ d. rw (held-read, r) }
 
     pub open-both : OneOf (0 ∷ []) (tagOf outcome-type.the-type v) → Opens w b (rec s p w) Ready
     open-both x =

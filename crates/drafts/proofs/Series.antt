@@ -28,7 +28,7 @@ use Rattle.drafts.proofs.Results.{fit}
 use Rattle.drafts.proofs.PartLaws.{held-read}
 
 -- no refusal has the number 0
-refusal-not0 : (n : Refusal) → refusalNumber n ≡ 0 → ⊥
+pub refusal-not0 : (n : Refusal) → refusalNumber n ≡ 0 → ⊥
 refusal-not0 Cut e = omega arith
 refusal-not0 Unknown e = omega arith
 refusal-not0 Misplaced e = omega arith
@@ -114,7 +114,7 @@ module _ (w : List Scalar) (copy : Rec) where
       ap (λ (v : List Scalar). readHeld v (fronted b (partsOf r))) (sym s)
       ∙ held-read r b (accepting Current r now h .stream-short) (fit Current r now h .pool-short) ∙ h
 
-  edit-right : (k : Kept) (e : Edit) → Right w copy k → Right w copy (keeping (edit w copy (k .changed) (k .buffer) e))
+  pub edit-right : (k : Kept) (e : Edit) → Right w copy k → Right w copy (keeping (edit w copy (k .changed) (k .buffer) e))
   unfolding count counted done
   edit-right k e h = go (did (k .changed) (k .buffer) e)
     where

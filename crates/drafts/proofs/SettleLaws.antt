@@ -1,10 +1,10 @@
 -- The result of an edit read and written. Assumes nothing.
 use mathlib.Core.Path.{_≡_, refl, sym, ap, ap₂, subst, _∙_}
-use mathlib.Core.List.{List, [], _∷_, _++_}
+use mathlib.Core.List.{List, [], _∷_}
 use mathlib.Core.Bool.{Bool, true, false, _&&_}
 use Prim.Native.Nat.{ℕ, zero, suc, _+_, _≤_, _<_}
 use native.Mathlib.Omega.{arith}
-use lib.ListN.{length, take, drop, replicate, length-append}
+use lib.ListN.{length, take, drop}
 use lib.Seq.{take-at}
 use lib.Dec.{leb}
 use borrow.Author.Tests.{le-leb, lt-leb, leb-true, leb-false}
@@ -32,7 +32,7 @@ use Rattle.record.proofs.ScalarLaws.{built-in}
 use Rattle.record.proofs.Accepted.{accepting}
 use Rattle.record.proofs.WriterLaws.{puts-then, puts-exact, puts-front}
 use Rattle.drafts.specs.Packing.{packedCommands, packedPool, streamOf}
-use Rattle.drafts.specs.Parts.{part, afterPart, heldRec, le4, partsOf}
+use Rattle.drafts.specs.Parts.{part, afterPart, heldRec, partsOf}
 use Rattle.drafts.specs.Code.{chosen}
 use Rattle.drafts.specs.Count.{countChanged}
 use Rattle.drafts.specs.Counted.{Legible}
@@ -47,14 +47,9 @@ use Rattle.drafts.specs.declared.opening.Opening.{Opening}
 use Rattle.drafts.specs.declared.opening.Opening.the-variants.{Ready, Barred}
 use Rattle.drafts.proofs.opening.Opening as opening-type
 use Rattle.drafts.proofs.Outcomes.{readable, ready, nowhere}
+use Rattle.drafts.proofs.StoreLaws.{parts-long}
 
 -- writing ----------------------------------------------------------------------------------------------------------------------------------
-
-parts-long : (s p : Str) (w : List Scalar) → length (partsOf (rec s p w)) ≡ length s + length p + 8
-unfolding partsOf le4
-parts-long s p w =
-    let a = length-append s (le4 (length p) ++ p) in
-    simp length-append (omega arith)
 
 module _ (s p b : Str) (w : List Scalar) (was t : Schema) (k : ℕ) (r : DraftAnswer) where
   pub store-over : length b < length s + length p + 8 → Says r (noRoom (length s + length p + 8) k) → editedAs r b ≡ settled k b was (rec s p w) (read t)

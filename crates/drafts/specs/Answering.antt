@@ -10,6 +10,7 @@ use Rattle.record.specs.declared.refusal.Refusal.{Refusal}
 use Rattle.record.specs.declared.refusal.Side.the-variants.{Released}
 use Rattle.drafts.specs.Parts.{heldRec, readHeld}
 use Rattle.drafts.specs.Edits.{Edited, refused, Edit, edit, count}
+use Rattle.drafts.specs.Shelf.{broughtFrom}
 use Rattle.drafts.specs.Counted.{Legible}
 use Rattle.drafts.specs.declared.saying.DraftAnswer.{DraftAnswer}
 use Rattle.drafts.specs.declared.opening.Opening.{Opening}
@@ -41,6 +42,7 @@ pub record Both (w : List Scalar) (b : Str) (copy : Rec) : Type 0 where
 pub record Shut (w : List Scalar) (b : Str) (copy : Rec) (side : ℕ) (n : Refusal) (p : ℕ) : Type 0 where
   pub edits : (k : ℕ) (e : Edit) → edit w copy k b e ≡ refused side n p k b
   pub counts : count w copy b ≡ refused side n p 0 b
+  pub backs : (d : Str) → broughtFrom w copy d b ≡ refused side n p 0 d
 
 abbrev pub Opens : List Scalar → Str → Rec → Opening → Type 0
 Opens w b copy Ready = Both w b copy

@@ -4,6 +4,7 @@ pub mod Parts
 pub mod Addition
 pub mod Count
 pub mod Edits
+pub mod Shelf
 pub mod Effects
 pub mod Code
 pub mod Packed
@@ -14,3 +15,6 @@ pub mod Answering
 pub mod Building
 pub mod Summing
 pub mod Finishing
+pub mod Shelving
+pub mod Holding
+pub mod Calls

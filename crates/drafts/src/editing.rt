@@ -30,7 +30,7 @@ ghost use Rattle.drafts.specs.Finishing.{finished};
 ghost use Rattle.drafts.specs.Building.{restStream, restPool, Built};
 
 // Writes a result that can be read to the draft, where it fits.
-fn store(
+pub(crate) fn store(
     rows: &[u8],
     changed: usize,
     draft: &mut [u8],

@@ -5,6 +5,11 @@ use drafts::draft::draft_add;
 use drafts::draft::draft_count;
 use drafts::draft::draft_remove;
 use drafts::saying::DraftAnswer;
+use drafts::shelf::shelf_back;
+use drafts::shelf::shelf_new;
+use drafts::shelf::shelf_set;
+use drafts::shelved::Shelf;
+use drafts::shelved::ShelfAnswer;
 use layout::answer::Answer;
 use layout::list::list_layouts;
 use layout::owner::OwnerFields;
@@ -27,6 +32,8 @@ ghost use Rattle.load.specs.Load.{load};
 ghost use Rattle.pointers.specs.Pointers.{pointers, Answers};
 ghost use Rattle.drafts.specs.Edits.{count, adding, removing, edit};
 ghost use Rattle.drafts.specs.Answering.{editedAs};
+ghost use Rattle.drafts.specs.Shelf.{setDraft, backDraft};
+ghost use Rattle.drafts.specs.Shelving.{rowsOf, newShelf, shelvedAs};
 ghost use Rattle.texts.specs.Back.{pairsCompared};
 
 // A current record against a released one.
@@ -133,4 +140,43 @@ pub extern "C" fn menqachu_pairs_compared(a: &[u8], b: &[u8]) -> usize
     ensures { λ r. ⌜ r ≡ pairsCompared (now (a .entry)) (now (b .entry)) ⌝ }
 {
     pairs_compared(a, b)
+}
+
+// A shelf on which no name is held.
+#[no_mangle]
+pub extern "C" fn menqachu_shelf_new() -> Shelf {
+    shelf_new()
+}
+
+// A draft held under a name.
+#[no_mangle]
+pub extern "C" fn menqachu_shelf_set(
+    shelf: Shelf,
+    name: &[u8],
+    draft: &[u8],
+    held: &mut [u8],
+) -> ShelfAnswer
+    ensures { λ r.
+        ⌜ shelvedAs r (now (held .exit))
+        ≡ setDraft builtIn (rowsOf shelf) (now (name .entry)) (now (draft .entry)) (now (held .entry)) ⌝ }
+{
+    shelf_set(shelf, name, draft, held)
+}
+
+// The draft of a name brought back.
+#[no_mangle]
+pub extern "C" fn menqachu_shelf_back(
+    shelf: Shelf,
+    name: &[u8],
+    draft: &mut [u8],
+    held: &[u8],
+    past: &[u8],
+    old: &[u8],
+) -> ShelfAnswer
+    ensures { λ r.
+        let copy : Rec = rec (now (past .entry)) (now (old .entry)) builtIn in
+        ⌜ shelvedAs r (now (draft .exit))
+        ≡ backDraft builtIn copy (rowsOf shelf) (now (name .entry)) (now (draft .entry)) (now (held .entry)) ⌝ }
+{
+    shelf_back(shelf, name, draft, held, past, old)
 }

@@ -73,11 +73,7 @@ pub fn full_series(rng: &mut Rng) -> Series {
     }
     content.items.push(s.into());
     let record = loosened(encode_tight(&content), rng);
-    Series {
-        buffer: lent(&record, rng),
-        copy: encode_tight(&make::content("0.8.0")),
-        shipped: Vec::new(),
-    }
+    Series::of(lent(&record, rng), encode_tight(&make::content("0.8.0")))
 }
 
 /// An addition to a full draft, on either side of the limits.
@@ -209,6 +205,15 @@ fn is_type(item: &Item) -> bool {
 }
 
 impl Series {
+    /// A draft in its buffer beside a copy, with no types to be added again.
+    pub fn of(buffer: Vec<u8>, copy: Encoded) -> Series {
+        Series {
+            buffer,
+            copy,
+            shipped: Vec::new(),
+        }
+    }
+
     /// What the draft says, if it can be read.
     fn content(&self) -> Option<Content> {
         let draft = held(&self.buffer);

@@ -14,6 +14,7 @@ pub mod pointers;
 pub mod questions;
 pub mod sections;
 pub mod sequences;
+pub mod shelves;
 pub mod shuffle;
 pub mod slices;
 pub mod steps;

@@ -5,8 +5,9 @@ use std::collections::BTreeMap;
 use oracle::edits::{Edit, count, edit};
 use oracle::generate::encode::Encoded;
 use oracle::reader::{LONG, read};
+use oracle::shelf::{Row, Shelf};
 use oracle::verdicts::{FIRST_VERDICT, LAST_VERDICT};
-use oracle::{Side, draft_vectors, samples, vectors};
+use oracle::{Side, draft_vectors, samples, shelf, shelf_vectors, vectors};
 use serde_json::Value as Json;
 
 /// A packed file being read.
@@ -159,7 +160,6 @@ fn the_file_of_pointers_holds_every_number() {
     assert!(counts[&LONG] >= 2);
 }
 
-/// The bytes of a hexadecimal text.
 #[test]
 fn the_file_of_drafts_holds_every_number() {
     let mut file = File::new(draft_vectors::drafts(1, 600));
@@ -193,6 +193,63 @@ fn the_file_of_drafts_holds_every_number() {
     );
 }
 
+#[test]
+fn the_file_of_shelves_holds_every_number() {
+    let mut file = File::new(shelf_vectors::shelves(1, 600));
+    let mut counts: BTreeMap<(u32, u32, u32), usize> = BTreeMap::new();
+    while file.more() {
+        let call = file.byte();
+        let answer = [(); 5].map(|()| file.word());
+        let [given, after, name, draft, held, stream, pool, front] = [(); 8].map(|()| file.part());
+        let shelf = shelf_of(&given);
+        let copy = Encoded { stream, pool };
+        let (again, before) = match call {
+            0 => (shelf::set(&shelf, &name, &draft, &held), &held),
+            _ => (shelf::back(&shelf, &name, &draft, &held, &copy), &draft),
+        };
+        let places = [again.place, again.length, again.changed].map(|n| n as u32);
+        assert_eq!([&[again.number, again.side], &places[..]].concat(), answer);
+        assert_eq!(shelf_of(&after), again.shelf);
+        let written = [&front, &before[front.len()..]].concat();
+        match call {
+            0 => assert_eq!((again.held, again.draft), (written, draft)),
+            _ => assert_eq!((again.draft, again.held), (written, held)),
+        }
+        *counts.entry((call, again.number, again.side)).or_default() += 1;
+    }
+    assert!(file.bytes.len() < 1_000_000);
+    let of = |number: u32| -> usize {
+        let counts = counts.iter().filter(|((_, of, _), _)| *of == number);
+        counts.map(|(_, count)| count).sum()
+    };
+    assert!(
+        [0, 10, 57, 58].iter().all(|&number| of(number) >= 40),
+        "{counts:?}"
+    );
+    for number in 1..=9 {
+        let long = if number == LONG { 2 } else { 8 };
+        assert!(counts[&(0, number, 0)] >= 8 && counts[&(1, number, 0)] >= 8);
+        assert!(counts[&(1, number, 1)] >= long, "{number}: {counts:?}");
+    }
+}
+
+/// A shelf from the bytes of its struct.
+fn shelf_of(bytes: &[u8]) -> Shelf {
+    let number = |at: usize| {
+        let bytes = bytes[at..at + 8].try_into().expect("eight bytes");
+        u64::from_le_bytes(bytes) as usize
+    };
+    std::array::from_fn(|row| Row {
+        name: bytes[16 * row..16 * row + 16]
+            .try_into()
+            .expect("sixteen bytes"),
+        name_len: number(128 + 8 * row),
+        start: number(192 + 8 * row),
+        len: number(256 + 8 * row),
+    })
+}
+
+/// The bytes of a hexadecimal text.
 fn unhex(text: &Json) -> Vec<u8> {
     let digits = text.as_str().expect("a text").as_bytes().chunks(2);
     digits

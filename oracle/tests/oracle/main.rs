@@ -11,6 +11,7 @@ mod pairs;
 mod passes;
 mod pointers;
 mod reader;
+mod shelf;
 mod utf8;
 mod values;
 mod verdicts;

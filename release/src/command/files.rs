@@ -3,7 +3,7 @@
 use std::ffi::{OsStr, OsString};
 use std::fs::File;
 use std::io::{self, Read, Write};
-use std::path::Path;
+use std::path::{Path, PathBuf};
 
 use menqachu::record::parts::Parts;
 use menqachu::text::letters::{escaped, unseen};
@@ -12,8 +12,8 @@ use menqachu::Record;
 use super::output::complain;
 use super::Stop;
 
-/// Far more than the text form of any record needs.
-const TEXT_ROOM: u64 = 16 * 1024 * 1024;
+/// Far more than the text form of any record or a shelf of eight drafts needs.
+const ROOM: u64 = 16 * 1024 * 1024;
 
 /// A record as it was given: the name of its file, and its parts.
 pub struct Given {
@@ -22,6 +22,11 @@ pub struct Given {
 }
 
 impl Given {
+    /// A record out of a file that holds more.
+    pub fn within(file: &OsStr, parts: Parts) -> Given {
+        Given { file: file.to_os_string(), parts }
+    }
+
     pub fn record(&self) -> Record<'_> {
         self.parts.record()
     }
@@ -54,10 +59,13 @@ pub fn record(file: &OsStr) -> Result<Given, Stop> {
     }
 }
 
-/// Puts bytes in place of a file: they are written beside it, and the new file takes its name.
+/// Puts bytes in place of a file, or where none is: they are written beside it, and the new file takes its name.
 pub fn replace(file: &OsStr, bytes: &[u8]) -> Result<(), Stop> {
     let failed = |error: io::Error| Stop::failed(format!("cannot write {}: {error}", shown_file(file)));
-    let path = std::fs::canonicalize(file).map_err(failed)?;
+    let path = match std::fs::canonicalize(file) {
+        Err(error) if error.kind() == io::ErrorKind::NotFound => PathBuf::from(file),
+        path => path.map_err(failed)?,
+    };
     let mut beside = path.clone().into_os_string();
     beside.push(format!(".{}.new", std::process::id()));
     let written = write_like(&path, &beside, bytes).and_then(|()| std::fs::rename(&beside, &path));
@@ -67,10 +75,13 @@ pub fn replace(file: &OsStr, bytes: &[u8]) -> Result<(), Stop> {
     })
 }
 
-/// Writes a new file with the permissions of another.
+/// Writes a new file with the permissions of another, if that is there.
 fn write_like(path: &Path, beside: &OsStr, bytes: &[u8]) -> io::Result<()> {
     let mut new = File::create_new(beside)?;
-    new.set_permissions(std::fs::metadata(path)?.permissions())?;
+    match std::fs::metadata(path) {
+        Err(error) if error.kind() == io::ErrorKind::NotFound => {}
+        metadata => new.set_permissions(metadata?.permissions())?,
+    }
     new.write_all(bytes)?;
     new.sync_all()
 }
@@ -89,20 +100,28 @@ fn read_parts(from: &mut impl Read, file: &OsStr) -> io::Result<Parts> {
 
 /// A text from a file or from standard input.
 pub fn text(file: &OsStr) -> Result<Vec<u8>, Stop> {
-    let mut text = Vec::new();
-    let read = if file == "-" {
-        io::stdin().lock().take(TEXT_ROOM + 1).read_to_end(&mut text)
-    } else {
-        File::open(file).and_then(|opened| opened.take(TEXT_ROOM + 1).read_to_end(&mut text))
-    };
-    match read {
-        Ok(length) if length as u64 > TEXT_ROOM => {
-            let file = shown_file(file);
-            Err(Stop::failed(format!("{file} is over 16 MiB; the text form of a record is shorter")))
-        }
-        Ok(_) => Ok(text),
-        Err(error) => Err(unread(file, &error)),
+    let read = if file == "-" { whole(io::stdin().lock()) } else { File::open(file).and_then(whole) };
+    read.map_err(|error| unread(file, &error))?.ok_or_else(|| over(file, "the text form of a record"))
+}
+
+/// The bytes of a shelf's file, none where there is no such file.
+pub fn shelf(file: &OsStr) -> Result<Option<Vec<u8>>, Stop> {
+    match File::open(file).and_then(whole) {
+        Ok(bytes) => bytes.ok_or_else(|| over(file, "a shelf")).map(Some),
+        Err(error) if error.kind() == io::ErrorKind::NotFound => Ok(None),
+        Err(error) => Err(Stop::failed(format!("cannot read {}: {error}", shown_file(file)))),
     }
+}
+
+/// All bytes, none where they are too many.
+fn whole(from: impl Read) -> io::Result<Option<Vec<u8>>> {
+    let mut bytes = Vec::new();
+    from.take(ROOM + 1).read_to_end(&mut bytes)?;
+    Ok((bytes.len() as u64 <= ROOM).then_some(bytes))
+}
+
+fn over(file: &OsStr, what: &str) -> Stop {
+    Stop::failed(format!("{} is over 16 MiB; {what} is shorter", shown_file(file)))
 }
 
 fn unread(file: &OsStr, error: &io::Error) -> Stop {
@@ -120,8 +139,13 @@ pub fn shown_file(file: &OsStr) -> String {
 
 /// A word of the command line in one line of output.
 pub fn shown(word: &OsStr) -> String {
+    shown_bytes(word.as_encoded_bytes())
+}
+
+/// Bytes in one line of output.
+pub fn shown_bytes(bytes: &[u8]) -> String {
     let mut text = String::new();
-    for letter in word.to_string_lossy().chars() {
+    for letter in String::from_utf8_lossy(bytes).chars() {
         match letter {
             _ if letter.is_ascii_control() => text.extend(letter.escape_default()),
             _ if unseen(letter) => text.push_str(&escaped(letter)),

@@ -6,8 +6,8 @@ pub fn usage(help: &str) -> &str {
 }
 
 pub const COMMANDS: &str = "\
-the commands are check, chain, list, owner, pointers, diff, draft, reordered, assemble,
-show, load and burn-in
+the commands are check, chain, list, owner, pointers, diff, draft, shelf, reordered,
+assemble, show, load and burn-in
 `release --help` says what each does";
 
 pub const WHOLE: &str = "\
@@ -22,6 +22,7 @@ Checks the record of a scan-record schema against the record of the last release
   release pointers RECORD [--json]           whether every pointer names what it must
   release diff CURRENT RELEASED [--json]     both layouts side by side
   release draft EDIT DRAFT .. [--json]       a type added, taken out, or changes counted
+  release shelf CALL SHELF .. [--json]       drafts left under names, and taken back
   release reordered ONE OTHER [--json]       whether only the order of sections differs
   release assemble TEXT > RECORD             a record from its text form
   release show RECORD                        the text form of a record
@@ -40,9 +41,9 @@ Exit status:
      what it must (pointers), records of which it is not proved that they are accepted
      alike (reordered), or a pair whose check gives another number than its outcome
      (burn-in)
-  2  a damaged record, or a text that cannot be assembled
-  3  a usage error, a file that cannot be read or written, or an edit that cannot be
-     made (draft)
+  2  a damaged record or shelf, or a text that cannot be assembled
+  3  a usage error, a file that cannot be read or written, an edit that cannot be made
+     (draft), or a name that cannot be set or is not held (shelf)
 ";
 
 pub const CHECK: &str = "\
@@ -159,6 +160,32 @@ is refused, the draft is not touched.
 
 Exit status: 0 done, 2 a damaged record, or a draft that would be one, 3 a usage or
 file error, 55 (the draft has a type of that name) or 56 (it has none).
+";
+
+pub const SHELF: &str = "\
+usage: release shelf CALL SHELF .. [--json]
+
+  release shelf set SHELF NAME DRAFT              leaves a draft under a name
+  release shelf back SHELF NAME DRAFT RELEASED    takes it back
+  release shelf list SHELF                        the names held
+
+Keeps up to eight drafts in the file SHELF, each under a name of 1 to 16 bytes. `set`
+puts the record in the file DRAFT, read as a current one, on the shelf, in place of the
+draft held under that name before, and prints `held` and the number of names held; it
+makes the file SHELF where there is none. `back` writes the draft of a name to the file
+DRAFT, in place of what is there, and prints `changed` and the number of layouts that
+differ from those of RELEASED; the shelf keeps it. A draft comes back with every byte
+of its stream and its pool. `list` prints each name with the bytes of its draft, in the
+order of the rows. A file is written beside the old one and then takes its place; where
+a call is refused, no file is touched.
+
+  --json  an object with the keys refusal (which has the keys of check) and held,
+          changed or drafts, a list of objects with name and bytes; a row without a
+          name has null
+
+Exit status: 0 done, 2 a damaged record, or a file that is no shelf, 3 a usage or file
+error, 57 (eight other names are held, or the name does not have 1 to 16 bytes) or 58
+(the name is not held, or the file has a draft outside its bytes or over another).
 ";
 
 pub const REORDERED: &str = "\

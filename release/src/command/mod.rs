@@ -20,6 +20,7 @@ mod pointers;
 mod problem;
 mod reordered;
 mod rows;
+mod shelf;
 mod show;
 mod table;
 
@@ -65,7 +66,7 @@ const JSON: &[&str] = &["--json"];
 const BURN_IN: &[&str] = &["--json", "--seeds=", "--outcome="];
 const MANY: usize = usize::MAX;
 
-static ENTRIES: [Entry; 12] = [
+static ENTRIES: [Entry; 13] = [
     Entry { rule: rule("check", help::CHECK, 2, 2, JSON), run: check::run },
     Entry { rule: rule("chain", help::CHAIN, 2, MANY, JSON), run: chain::run },
     Entry { rule: rule("list", help::LIST, 1, 1, &["--json", "--released"]), run: list::run },
@@ -73,6 +74,7 @@ static ENTRIES: [Entry; 12] = [
     Entry { rule: rule("pointers", help::POINTERS, 1, 1, JSON), run: pointers::run },
     Entry { rule: rule("diff", help::DIFF, 2, 2, JSON), run: diff::run },
     Entry { rule: rule("draft", help::DRAFT, 3, 4, JSON), run: draft::run },
+    Entry { rule: rule("shelf", help::SHELF, 2, 5, JSON), run: shelf::run },
     Entry { rule: rule("reordered", help::REORDERED, 2, 2, JSON), run: reordered::run },
     Entry { rule: rule("assemble", help::ASSEMBLE, 1, 1, &[]), run: assemble::run },
     Entry { rule: rule("show", help::SHOW, 1, 1, &[]), run: show::run },

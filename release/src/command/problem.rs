@@ -30,13 +30,17 @@ pub fn stop(problem: Problem, given: &Given, side: Option<Side>, json: Option<&'
 
 /// Ends a command for a damaged record; `json` names the key that its answer would have had.
 pub fn refused(told: &Told, given: &Given, json: Option<&'static str>) -> Stop {
-    if let Some(key) = json {
-        let value = Json::Object(vec![("refusal", told.json()), (key, Json::Null)]);
-        if let Err(stop) = print_line(&value.to_string()) {
-            return stop;
-        }
+    match print_refusal(told, json) {
+        Ok(()) => Stop::damaged(format!("{}: {}", given.shown(), told.line())),
+        Err(stop) => stop,
     }
-    Stop::damaged(format!("{}: {}", given.shown(), told.line()))
+}
+
+/// Writes a refusal as JSON, where a key is given that its answer would have had.
+pub fn print_refusal(told: &Told, json: Option<&'static str>) -> Result<(), Stop> {
+    let Some(key) = json else { return Ok(()) };
+    let value = Json::Object(vec![("refusal", told.json()), (key, Json::Null)]);
+    print_line(&value.to_string())
 }
 
 #[cfg(test)]

@@ -1,4 +1,4 @@
-//! Records as bytes: their file, their commands, their numbers, their layouts and the order of their sections.
+//! Records as bytes: their file, their commands, their numbers, their layouts, the order of their sections, and drafts in a shelf's file.
 
 pub mod apart;
 pub mod commands;
@@ -12,6 +12,7 @@ pub mod pointers;
 pub mod reorder;
 pub mod room;
 pub mod sections;
+pub mod shelf;
 pub mod twice;
 
 use crate::Answer;

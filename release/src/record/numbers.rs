@@ -17,7 +17,7 @@ pub const INSIDE: &str = "a text begins or ends inside a character";
 /// What a pool is refused for that is UTF-8 as far as the place and at it.
 pub const CONTROL: &str = "the byte is 00 to 1F or 7F hex";
 
-const WORDS: [(u32, &str); 52] = [
+const WORDS: [(u32, &str); 54] = [
     (0, "accepted"),
     (1, "cut"),
     (2, "unknown"),
@@ -67,6 +67,8 @@ const WORDS: [(u32, &str); 52] = [
     (46, "fell"),
     (55, "name held"),
     (56, "no such name"),
+    (57, "name not taken"),
+    (58, "not held"),
     (59, "names neither"),
     (60, "names the other"),
     (61, "unfit"),

@@ -11,6 +11,7 @@ pub mod lists;
 pub mod owners;
 pub mod pointers;
 pub mod records;
+pub mod shelves;
 pub mod utf8;
 
 use super::Pair;

@@ -13,7 +13,7 @@ use Rattle.record.specs.Base.{Str, any, find, isText}
 use Rattle.record.specs.Fill.{fronted}
 use Rattle.record.proofs.Basics.{both, eqs-refl, eqs→eq, find-some, filter-mem, any-none}
 use Rattle.drafts.specs.Packing.{keptBefore}
-use Rattle.drafts.specs.Shelf.{Row, isHeld, nameOf, isNamed, goodName, heldRows, rowOf, outside, forged, overlapping, bytesOf, freeRow, putFirst, others, inPlace, staying, closed, movedRow, filled, put}
+use Rattle.drafts.specs.Shelf.{Row, isHeld, isFree, nameOf, isNamed, goodName, heldRows, rowOf, outside, forged, overlapping, bytesOf, freeRow, putFirst, others, inPlace, staying, closed, movedRow, filled, newRow, put}
 use Rattle.drafts.proofs.Pools.{any-mem, text-same}
 
 -- a draft under a name ----------------------------------------------------------------------------------------------------------
@@ -90,9 +90,6 @@ filled-take k [] h = refl
 filled-take zero (b ∷ n) h = absurd (omega arith)
 filled-take (suc k) (b ∷ n) h = ap (λ (l : Str). b ∷ l) (filled-take k n (omega arith))
 
-abbrev pub newRow : Str → ℕ → ℕ → Row
-newRow n start size = record { word = filled 16 n; letters = length n; start = start; size = size }
-
 pub new-named : (n : Str) (a l : ℕ) → goodName n ≡ true → isNamed n (newRow n a l) ≡ true
 unfolding goodName isNamed nameOf isHeld isText
 new-named n a l g =
@@ -111,12 +108,12 @@ mem-put p x (r ∷ rows) u (List·Memᴰ·tail m) h = go (p r) (mem-put p x rows
     go true k = List·Memᴰ·tail m
     go false k = List·Memᴰ·tail k
 
-any-map : (p : Row → Bool) (f : Row → Row) (rows : List Row) → ((u : Row) → p (f u) ≡ p u) → any p (map f rows) ≡ any p rows
+pub any-map : (p : Row → Bool) (f : Row → Row) (rows : List Row) → ((u : Row) → p (f u) ≡ p u) → any p (map f rows) ≡ any p rows
 unfolding any
 any-map p f [] h = refl
 any-map p f (r ∷ rows) h = ap₂ _||_ (h r) (any-map p f rows h)
 
-free-unnamed : (m : Str) (r : Row) → not (isHeld r) ≡ true → isNamed m r ≡ false
+free-unnamed : (m : Str) (r : Row) → isFree r ≡ true → isNamed m r ≡ false
 free-unnamed m r h = go (isNamed m r) refl
   where
     go : (t : Bool) → isNamed m r ≡ t → t ≡ false
@@ -142,7 +139,7 @@ in-heldRows m rows u k a = filter-mem isHeld rows k (named-held m u a)
 -- setting ---------------------------------------------------------------------------------------------------------------------------
 
 module _ (rows : List Row) (held n new : Str) (good : goodName n ≡ true) (valid : forged (length held) rows ≡ false)
-    (row-for : (any (isNamed n) rows || any (λ (r : Row). not (isHeld r)) rows) ≡ true) where
+    (row-for : (any (isNamed n) rows || any isFree rows) ≡ true) where
   abbrev front : Str
   front = closed n rows held
 
@@ -171,12 +168,12 @@ module _ (rows : List Row) (held n new : Str) (good : goodName n ≡ true) (vali
   unfolding rowOf put
   own-found = go (any (isNamed n) moved-rows) refl
     where
-      go : (t : Bool) → any (isNamed n) moved-rows ≡ t → find (isNamed n) (cond t (putFirst (isNamed n) own moved-rows) (putFirst (λ (r : Row). not (isHeld r)) own moved-rows)) ≡ some own
+      go : (t : Bool) → any (isNamed n) moved-rows ≡ t → find (isNamed n) (cond t (putFirst (isNamed n) own moved-rows) (putFirst isFree own moved-rows)) ≡ some own
       go true q = find-own n (isNamed n) own moved-rows (new-named n (length front) (length new) good) q (λ r e m. e)
       go false q =
           let a : any (isNamed n) rows ≡ false = sym (any-map (isNamed n) (movedRow n rows held) rows (same-name n)) ∙ q in
-          let b : any (λ (r : Row). not (isHeld r)) moved-rows ≡ true = any-map (λ (r : Row). not (isHeld r)) (movedRow n rows held) rows same-free ∙ (rw a at row-for) in
-          find-own n (λ (r : Row). not (isHeld r)) own moved-rows (new-named n (length front) (length new) good) b (λ r e m. unnamed q r m)
+          let b : any isFree moved-rows ≡ true = any-map isFree (movedRow n rows held) rows same-free ∙ (rw a at row-for) in
+          find-own n isFree own moved-rows (new-named n (length front) (length new) good) b (λ r e m. unnamed q r m)
         where
           unnamed : any (isNamed n) moved-rows ≡ false → (r : Row) → List·Memᴰ r moved-rows → isNamed n r ≡ false
           unnamed q r m = is (isNamed n r) refl
@@ -217,9 +214,9 @@ module _ (rows : List Row) (held n new : Str) (good : goodName n ≡ true) (vali
         x-other : isNamed m own ≡ false
         x-other = not-named n m own (λ e. other (sym e)) (new-named n (length front) (length new) good)
 
-        go : (t : Bool) → find (isNamed m) (cond t (putFirst (isNamed n) own moved-rows) (putFirst (λ (r : Row). not (isHeld r)) own moved-rows)) ≡ find (isNamed m) moved-rows
+        go : (t : Bool) → find (isNamed m) (cond t (putFirst (isNamed n) own moved-rows) (putFirst isFree own moved-rows)) ≡ find (isNamed m) moved-rows
         go true = find-put m (isNamed n) own moved-rows x-other (λ r e. not-named n m r (λ q. other (sym q)) e)
-        go false = find-put m (λ (r : Row). not (isHeld r)) own moved-rows x-other (λ r e. free-unnamed m r e)
+        go false = find-put m isFree own moved-rows x-other (λ r e. free-unnamed m r e)
 
     pub set-other : Under rows-after held-after m x
     unfolding bytesOf fronted movedRow closed

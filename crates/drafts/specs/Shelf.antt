@@ -8,14 +8,13 @@ use lib.Dec.{eqb, ltb, leb}
 use Rattle.record.specs.Base.{Str, any, find, filterB, isText}
 use Rattle.record.specs.Fill.{fronted}
 use Rattle.record.specs.Scalars.{Scalar}
-use Rattle.record.specs.Refusals.{refusalNumber}
 use Rattle.record.specs.Reading.{Rec, Reading, read, refuse, reading}
 use Rattle.record.specs.declared.refusal.Side.the-variants.{Released}
 use Rattle.drafts.specs.Packing.{kept, keptBefore}
 use Rattle.drafts.specs.Parts.{heldRec, readHeld, partsOf}
-use Rattle.drafts.specs.Count.{countChanged}
+use Rattle.drafts.specs.Edits.{Edited, refused, declined, noRoom, done, settled}
 
--- rows ----------------------------------------------------------------------------------------------------------------------------
+-- rows ----------------------------------------------------------------------------------------------------------------------
 
 -- sixteen bytes of which so many are the name, and a place of the held buffer
 pub record Row : Type 0 where
@@ -28,24 +27,28 @@ pub record Row : Type 0 where
 unfoldable pub isHeld : Row → Bool
 isHeld r = not (eqb (r .letters) 0)
 
--- a row of more letters than sixteen has no name
+abbrev pub isFree : Row → Bool
+isFree r = not (isHeld r)
+
+-- a row of more letters than sixteen is held and has no name
 unfoldable pub nameOf : Row → Option Str
 nameOf r = cond (isHeld r && leb (r .letters) 16) (some (take (r .letters) (r .word))) none
 
 unfoldable pub isNamed : Str → Row → Bool
 isNamed n r = isText (nameOf r) n
 
--- 02: names of 1 to 16 bytes
+-- 02: "names of 1 to 16 bytes"
 unfoldable pub goodName : Str → Bool
 goodName n = leb 1 (length n) && leb (length n) 16
 
 unfoldable pub heldRows : List Row → List Row
 heldRows = filterB isHeld
 
+-- of two rows of one name, which no call makes, the first counts
 unfoldable pub rowOf : Str → List Row → Option Row
 rowOf n rows = find (isNamed n) rows
 
--- places --------------------------------------------------------------------------------------------------------------------------
+-- places --------------------------------------------------------------------------------------------------------------------
 
 unfoldable pub outside : ℕ → Row → Bool
 outside room r = ltb room (r .start + r .size)
@@ -59,7 +62,7 @@ unfoldable pub overlapping : List Row → Bool
 overlapping [] = false
 overlapping (r ∷ rows) = any (meets r) rows || overlapping rows
 
--- 02: a held place outside the buffer or over another
+-- 02: "a held place outside the buffer or over another", of all held rows
 unfoldable pub forged : ℕ → List Row → Bool
 forged room rows = any (outside room) (heldRows rows) || overlapping (heldRows rows)
 
@@ -67,7 +70,7 @@ forged room rows = any (outside room) (heldRows rows) || overlapping (heldRows r
 unfoldable pub bytesOf : Str → Row → Str
 bytesOf held r = take (r .size) (drop (r .start) held)
 
--- setting ---------------------------------------------------------------------------------------------------------------------------
+-- setting -------------------------------------------------------------------------------------------------------------------
 
 abbrev pub freeRow : Row
 freeRow = record { word = []; letters = 0; start = 0; size = 0 }
@@ -93,7 +96,8 @@ unfoldable pub closed : Str → List Row → Str → Str
 closed n rows held = kept (staying n rows) 0 held
 
 unfoldable pub movedRow : Str → List Row → Str → Row → Row
-movedRow n rows held r = record { word = r .word; letters = r .letters; start = keptBefore (staying n rows) held (r .start); size = r .size }
+movedRow n rows held r =
+    record { word = r .word; letters = r .letters; start = keptBefore (staying n rows) held (r .start); size = r .size }
 
 -- a name, filled up with zeros
 unfoldable pub filled : ℕ → Str → Str
@@ -101,56 +105,65 @@ filled zero n = []
 filled (suc k) [] = 0 ∷ filled k []
 filled (suc k) (b ∷ n) = b ∷ filled k n
 
+abbrev pub newRow : Str → ℕ → ℕ → Row
+newRow n start size = record { word = filled 16 n; letters = length n; start = start; size = size }
+
 -- into the row of its name, or else into the first free one
 unfoldable pub put : Str → Row → List Row → List Row
-put n x rows = cond (any (isNamed n) rows) (putFirst (isNamed n) x rows) (putFirst (λ (r : Row). not (isHeld r)) x rows)
+put n x rows = cond (any (isNamed n) rows) (putFirst (isNamed n) x rows) (putFirst isFree x rows)
 
+-- what a call answers, with the buffer that it may change (the held one on setting, the draft's on coming back), and the rows afterwards
 pub record Shelved : Type 0 where
-  pub number : ℕ
-  pub side : ℕ
-  pub place : ℕ
-  pub len : ℕ
-  pub changed : ℕ
+  pub edited : Edited
   pub rows : List Row
-  pub buffer : Str
 
-unfoldable pub unshelved : ℕ → ℕ → ℕ → ℕ → List Row → Str → Shelved
-unshelved number side place len rows b = record { number = number; side = side; place = place; len = len; changed = 0; rows = rows; buffer = b }
+abbrev pub shelved : Edited → List Row → Shelved
+shelved e rows = record { edited = e; rows = rows }
 
-unfoldable pub shelved : ℕ → List Row → Str → Shelved
-shelved changed rows b = record { number = 0; side = 0; place = 0; len = 0; changed = changed; rows = rows; buffer = b }
+-- the rows with a draft of this length held under a name, behind those that stay
+unfoldable pub rowsWith : Str → ℕ → List Row → Str → List Row
+rowsWith n size rows held = put n (newRow n (length (closed n rows held)) size) (map (movedRow n rows held) rows)
 
--- 02: 10 exactly if the buffer is too small for the drafts then held
-unfoldable pub placed : Str → Str → List Row → Str → Shelved
-placed n new rows held =
-    cond (leb (length (closed n rows held) + length new) (length held))
-    (shelved 0 (put n (record { word = filled 16 n; letters = length n; start = length (closed n rows held); size = length new }) (map (movedRow n rows held) rows)) (fronted held (closed n rows held ++ new)))
-    (unshelved 10 0 0 (length (closed n rows held) + length new) rows held)
+-- 02: "10 is given exactly if the buffer is too small for the drafts then held", with the length that they take
+unfoldable pub shelve : Str → Str → List Row → Str → Shelved
+shelve n new rows held =
+    let front = closed n rows held in
+    cond (leb (length front + length new) (length held))
+    (shelved (done 0 (fronted held (front ++ new))) (rowsWith n (length new) rows held))
+    (shelved (noRoom (length front + length new) 0 held) rows)
 
 unfoldable pub setRead : Str → Rec → List Row → Str → Reading → Shelved
-setRead n r rows held (refuse m p) = unshelved (refusalNumber m) 0 p 0 rows held
-setRead n r rows held (read now) = placed n (partsOf r) rows held
+setRead n r rows held (refuse m p) = shelved (refused 0 m p 0 held) rows
+setRead n r rows held (read now) = shelve n (partsOf r) rows held
 
--- 57 eight other names held or a name of bad length; 58; the draft's refusal; 10
+-- 02: "57 eight other names held or a name of bad length"
+unfoldable pub hasRow : Str → List Row → Bool
+hasRow n rows = goodName n && (any (isNamed n) rows || any isFree rows)
+
+-- 02: "57 ..; 58 ..; the refusal of the draft set ..; 10"
 unfoldable pub setDraft : List Scalar → List Row → Str → Str → Str → Shelved
 setDraft w rows n draft held =
-    cond (goodName n && (any (isNamed n) rows || any (λ (r : Row). not (isHeld r)) rows))
-    (cond (forged (length held) rows) (unshelved 58 0 0 0 rows held) (setRead n (heldRec w draft) rows held (readHeld w draft)))
-    (unshelved 57 0 0 0 rows held)
+    cond (hasRow n rows)
+    (cond (forged (length held) rows) (shelved (declined 58 0 held) rows) (setRead n (heldRec w draft) rows held (readHeld w draft)))
+    (shelved (declined 57 0 held) rows)
 
--- coming back -------------------------------------------------------------------------------------------------------------------------
+-- coming back ---------------------------------------------------------------------------------------------------------------
 
-unfoldable pub backRead : Rec → List Row → Str → Reading → Reading → Shelved
-backRead r rows draft (refuse m p) was = unshelved (refusalNumber m) 0 p 0 rows draft
-backRead r rows draft (read now) (refuse m p) = unshelved (refusalNumber m) 1 p 0 rows draft
-backRead r rows draft (read now) (read was) =
-    cond (leb (length (partsOf r)) (length draft)) (shelved (countChanged now was) rows (fronted draft (partsOf r))) (unshelved 10 0 0 (length (partsOf r)) rows draft)
+-- 02: "the refusal of the draft .. come back to; coming back, the copy's; 10"
+unfoldable pub broughtBack : Rec → Str → Reading → Reading → Edited
+broughtBack r draft (refuse m p) was = refused 0 m p 0 draft
+broughtBack r draft (read now) (refuse m p) = refused 1 m p 0 draft
+broughtBack r draft (read now) (read was) = settled 0 draft was r (read now)
 
-unfoldable pub backFrom : List Scalar → Rec → List Row → Str → Str → Option Row → Shelved
-backFrom w copy rows draft held none = unshelved 58 0 0 0 rows draft
-backFrom w copy rows draft held (some r) = backRead (heldRec w (bytesOf held r)) rows draft (readHeld w (bytesOf held r)) (reading Released copy)
+-- the draft of a place, read from the bytes of the place alone
+abbrev pub broughtFrom : List Scalar → Rec → Str → Str → Edited
+broughtFrom w copy draft place = broughtBack (heldRec w place) draft (readHeld w place) (reading Released copy)
 
--- 58 no such name, or a place outside the buffer or over another; the held draft's refusal; the copy's; 10. The buffer is the draft's
+unfoldable pub backFrom : List Scalar → Rec → Str → Str → Option Row → Edited
+backFrom w copy draft held none = declined 58 0 draft
+backFrom w copy draft held (some r) = broughtFrom w copy draft (bytesOf held r)
+
+-- 02: "58 no such name to come back to, or a held place outside the buffer or over another"; the rows are as they were
 unfoldable pub backDraft : List Scalar → Rec → List Row → Str → Str → Str → Shelved
 backDraft w copy rows n draft held =
-    cond (forged (length held) rows) (unshelved 58 0 0 0 rows draft) (backFrom w copy rows draft held (rowOf n rows))
+    shelved (cond (forged (length held) rows) (declined 58 0 draft) (backFrom w copy draft held (rowOf n rows))) rows

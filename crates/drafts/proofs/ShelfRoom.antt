@@ -21,13 +21,13 @@ unfoldable pub sizes : List Row → ℕ
 sizes [] = 0
 sizes (r ∷ rows) = r .size + sizes rows
 
-kept-none : (c : ℕ → Bool) (i : ℕ) (a : Str) → ((j : ℕ) → i ≤ j → j < i + length a → c j ≡ false) → kept c i a ≡ []
+pub kept-none : (c : ℕ → Bool) (i : ℕ) (a : Str) → ((j : ℕ) → i ≤ j → j < i + length a → c j ≡ false) → kept c i a ≡ []
 unfolding kept
 kept-none c i [] h = refl
 kept-none c i (x ∷ a) h = rw (h i (omega arith) (omega arith)) (kept-none c (i + 1) a (λ j p q. h j (omega arith) (omega arith)))
 
 -- two tests that never hold together
-kept-both : (c d e : ℕ → Bool) → ((j : ℕ) → e j ≡ (c j || d j)) → ((j : ℕ) → c j ≡ true → d j ≡ true → ⊥) → (i : ℕ) (p : Str) → length (kept e i p) ≡ length (kept c i p) + length (kept d i p)
+pub kept-both : (c d e : ℕ → Bool) → ((j : ℕ) → e j ≡ (c j || d j)) → ((j : ℕ) → c j ≡ true → d j ≡ true → ⊥) → (i : ℕ) (p : Str) → length (kept e i p) ≡ length (kept c i p) + length (kept d i p)
 unfolding kept
 kept-both c d e same never i [] = refl
 kept-both c d e same never i (x ∷ p) = rw (same i) (go (c i) refl (d i) refl (kept-both c d e same never (i + 1) p))
@@ -40,15 +40,15 @@ kept-both c d e same never i (x ∷ p) = rw (same i) (go (c i) refl (d i) refl (
     go false a false b h = h
 
 module _ (r : Row) where
-  in-here : (j : ℕ) → r .start ≤ j → j < r .start + r .size → inPlace j r ≡ true
+  pub in-here : (j : ℕ) → r .start ≤ j → j < r .start + r .size → inPlace j r ≡ true
   unfolding inPlace
   in-here j a b = rw (le-leb (r .start) j a, lt-ltb j (r .start + r .size) b)
 
-  in-before : (j : ℕ) → j < r .start → inPlace j r ≡ false
+  pub in-before : (j : ℕ) → j < r .start → inPlace j r ≡ false
   unfolding inPlace
   in-before j a = rw (lt-leb (r .start) j a)
 
-  in-after : (j : ℕ) → r .start + r .size ≤ j → inPlace j r ≡ false
+  pub in-after : (j : ℕ) → r .start + r .size ≤ j → inPlace j r ≡ false
   unfolding inPlace
   in-after j a = rw (le-ltb j (r .start + r .size) a) (go (leb (r .start) j))
     where
@@ -78,7 +78,7 @@ module _ (r : Row) where
       ap length (e1 ∙ ap₂ (λ (x y : Str). x ++ y) f1 (e2 ∙ ap₂ (λ (x y : Str). x ++ y) f2 f3)) ∙ length-append (take l q) [] ∙ (let z = m in omega arith)
 
 -- places that do not meet have no byte together
-no-byte : (r u : Row) (j : ℕ) → Clear r u → inPlace j r ≡ true → inPlace j u ≡ true → ⊥
+pub no-byte : (r u : Row) (j : ℕ) → Clear r u → inPlace j r ≡ true → inPlace j u ≡ true → ⊥
 no-byte r u j c a b = go c (in-bounds r j a) (in-bounds u j b)
   where
     go : Clear r u → (r .start ≤ j) × (j < r .start + r .size) → (u .start ≤ j) × (j < u .start + u .size) → ⊥

@@ -13,9 +13,9 @@ use Rattle.record.specs.Base.{Str, any, filterB}
 use Rattle.record.specs.Fill.{fronted}
 use Rattle.record.proofs.Basics.{filter-mem, any-none}
 use Rattle.drafts.specs.Packing.{kept, keptBefore}
-use Rattle.drafts.specs.Shelf.{Row, isHeld, nameOf, isNamed, goodName, heldRows, outside, meets, overlapping, forged, freeRow, putFirst, others, inPlace, staying, closed, movedRow, put}
+use Rattle.drafts.specs.Shelf.{Row, isHeld, isFree, nameOf, isNamed, goodName, heldRows, outside, meets, overlapping, forged, freeRow, putFirst, others, inPlace, staying, closed, movedRow, newRow, put}
 use Rattle.drafts.proofs.Pools.{any-mem, kept-append, kept-all}
-use Rattle.drafts.proofs.ShelfLaws.{newRow, new-named, named-held, mem-put, not-outside}
+use Rattle.drafts.proofs.ShelfLaws.{new-named, named-held, mem-put, not-outside}
 
 -- how many bytes are kept before a place --------------------------------------------------------------------------------------------
 
@@ -371,7 +371,7 @@ module _ (rows : List Row) (held n new : Str) (good : goodName n ≡ true) (vali
   -- no place is outside the buffer or over another
   pub set-valid : forged (length (fronted held (front ++ new))) (put n own (map mv rows)) ≡ false
   unfolding put fronted
-  set-valid = ap (λ (k : ℕ). forged k (cond (any (isNamed n) (map mv rows)) (putFirst (isNamed n) own (map mv rows)) (putFirst (λ (r : Row). not (isHeld r)) own (map mv rows)))) same-length
+  set-valid = ap (λ (k : ℕ). forged k (cond (any (isNamed n) (map mv rows)) (putFirst (isNamed n) own (map mv rows)) (putFirst isFree own (map mv rows)))) same-length
       ∙ go (any (isNamed n) (map mv rows)) refl
     where
       same-length : length ((front ++ new) ++ drop (length (front ++ new)) held) ≡ length held
@@ -381,14 +381,14 @@ module _ (rows : List Row) (held n new : Str) (good : goodName n ≡ true) (vali
       unnamed q u m true e = absurd (any-none (isNamed n) (map mv rows) q (Memᴰ·map mv m) (same-named u ∙ e))
       unnamed q u m false e = refl
 
-      free-stay : any (isNamed n) (map mv rows) ≡ false → (u : Row) → List·Memᴰ u (heldRows (putFirst (λ (r : Row). not (isHeld r)) freeRow rows)) → S u
+      free-stay : any (isNamed n) (map mv rows) ≡ false → (u : Row) → List·Memᴰ u (heldRows (putFirst isFree freeRow rows)) → S u
       free-stay q u m = stay-in q u (of-held u m)
         where
-          of-held : (u : Row) → List·Memᴰ u (heldRows (putFirst (λ (r : Row). not (isHeld r)) freeRow rows)) → List·Memᴰ u (putFirst (λ (r : Row). not (isHeld r)) freeRow rows) × (isHeld u ≡ true)
-          of-held u m = held-in (putFirst (λ (r : Row). not (isHeld r)) freeRow rows) u m
+          of-held : (u : Row) → List·Memᴰ u (heldRows (putFirst isFree freeRow rows)) → List·Memᴰ u (putFirst isFree freeRow rows) × (isHeld u ≡ true)
+          of-held u m = held-in (putFirst isFree freeRow rows) u m
 
-          stay-in : any (isNamed n) (map mv rows) ≡ false → (u : Row) → List·Memᴰ u (putFirst (λ (r : Row). not (isHeld r)) freeRow rows) × (isHeld u ≡ true) → S u
-          stay-in q u x = in-others u (not-free (from-putFirst (λ (r : Row). not (isHeld r)) freeRow rows u (x .0)) (x .1)) (x .1)
+          stay-in : any (isNamed n) (map mv rows) ≡ false → (u : Row) → List·Memᴰ u (putFirst isFree freeRow rows) × (isHeld u ≡ true) → S u
+          stay-in q u x = in-others u (not-free (from-putFirst isFree freeRow rows u (x .0)) (x .1)) (x .1)
             where
               not-free : (u ≡ freeRow) ⊎ List·Memᴰ u rows → isHeld u ≡ true → List·Memᴰ u rows
               not-free (inl e) k = absurd (false≢true (sym free-not-held ∙ ap isHeld (sym e) ∙ k))
@@ -397,6 +397,6 @@ module _ (rows : List Row) (held n new : Str) (good : goodName n ≡ true) (vali
               in-others : (u : Row) → List·Memᴰ u rows → isHeld u ≡ true → S u
               in-others u m k = other-in n rows u m (unnamed q u m (isNamed n u) refl) k
 
-      go : (t : Bool) → any (isNamed n) (map mv rows) ≡ t → forged (length held) (cond t (putFirst (isNamed n) own (map mv rows)) (putFirst (λ (r : Row). not (isHeld r)) own (map mv rows))) ≡ false
+      go : (t : Bool) → any (isNamed n) (map mv rows) ≡ t → forged (length held) (cond t (putFirst (isNamed n) own (map mv rows)) (putFirst isFree own (map mv rows))) ≡ false
       go true q = all-fit (isNamed n) same-named (λ u m. named-stay n rows u m)
-      go false q = all-fit (λ (r : Row). not (isHeld r)) (λ u. ap not (same-held u)) (free-stay q)
+      go false q = all-fit isFree (λ u. ap not (same-held u)) (free-stay q)
