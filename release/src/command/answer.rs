@@ -1,6 +1,8 @@
 //! An answer of the check, or a record's refusal, as a line for people and as JSON.
 
+use menqachu::explain::hint::hint;
 use menqachu::record::commands::by_byte;
+use menqachu::record::decode::commands;
 use menqachu::record::numbers::{reason, word};
 use menqachu::record::parts::STREAM_LIMIT;
 use menqachu::{Answer, Record, Side};
@@ -82,6 +84,13 @@ impl Told {
         }
     }
 
+    /// What to do about a verdict on these records.
+    pub fn hint(&self, current: Record, released: Record) -> Option<String> {
+        let message = self.message.as_deref()?;
+        let [current, released] = [current, released].map(commands);
+        hint(self.number, message, &current.ok()?, &released.ok()?).map(|hint| hint.words)
+    }
+
     pub fn line(&self) -> String {
         if self.accepted() {
             return "accepted".to_string();
@@ -140,6 +149,17 @@ impl Refusal {
         };
         let side = self.side.map_or(String::new(), |side| format!("{} ", side_name(side)));
         format!("{side}record, place {} of the {}{at}", self.place, self.part())
+    }
+}
+
+/// An object with one more key.
+pub fn with(value: Json, key: &'static str, more: Json) -> Json {
+    match value {
+        Json::Object(mut pairs) => {
+            pairs.push((key, more));
+            Json::Object(pairs)
+        }
+        other => other,
     }
 }
 

@@ -6,8 +6,8 @@ pub fn usage(help: &str) -> &str {
 }
 
 pub const COMMANDS: &str = "\
-the commands are check, chain, list, owner, pointers, diff, draft, reordered, assemble,
-show, load and burn-in
+the commands are check, chain, list, owner, pointers, diff, draft, reordered, explain,
+assemble, show, load and burn-in
 `release --help` says what each does";
 
 pub const WHOLE: &str = "\
@@ -23,6 +23,7 @@ Checks the record of a scan-record schema against the record of the last release
   release diff CURRENT RELEASED [--json]     both layouts side by side
   release draft EDIT DRAFT .. [--json]       a type added, taken out, or changes counted
   release reordered ONE OTHER [--json]       whether only the order of sections differs
+  release explain [NUMBER] [--json]          what a number means and what to do
   release assemble TEXT > RECORD             a record from its text form
   release show RECORD                        the text form of a record
   release load OUTCOME SEED > PAIR           a pair of records with a wanted outcome
@@ -51,10 +52,12 @@ usage: release check CURRENT RELEASED [--json]
 Checks the record about to ship against the record of the last release and prints
 one line: `accepted`; or the verdict's number, word and message; or, for a damaged
 record, the refusal's number, word, side and place, and the command at that place.
+After a verdict a line with a hint says what to do: the lines of the text form to
+change where that is plain, and else what `release explain NUMBER` says.
 
   --json  an object with the keys accepted, number, word, message (of a verdict),
           side, part, place, byte and command (of a refusal); what does not apply
-          is null
+          is null; and hint (of a verdict)
 
 Exit status: 0 accepted, 1 a verdict, 2 a damaged record, 3 a usage or file error.
 ";
@@ -186,6 +189,19 @@ ONE that OTHER lacks is named, or else the first of OTHER, and what differs in i
 
 Exit status: 0 the proof covers them, or they are equal; 1 it does not; 2 a damaged
 record; 3 a usage or file error.
+";
+
+pub const EXPLAIN: &str = "\
+usage: release explain [NUMBER] [--json]
+
+Prints what a number means in the words of the text form, why it is a fault, what to
+do about it, and a smallest example with the answer that it gets. NUMBER may be the
+number's word too. Without it all numbers are listed with their words.
+
+  --json  an object with the keys number, word, means, why and cure; without NUMBER
+          a list of them
+
+Exit status: 0 explained, 3 a usage error, or a number that is never given.
 ";
 
 pub const ASSEMBLE: &str = "\

@@ -8,6 +8,7 @@ mod chain;
 mod check;
 mod diff;
 mod draft;
+mod explain;
 mod files;
 mod help;
 mod json;
@@ -64,7 +65,7 @@ const JSON: &[&str] = &["--json"];
 const BURN_IN: &[&str] = &["--json", "--seeds=", "--outcome="];
 const MANY: usize = usize::MAX;
 
-static ENTRIES: [Entry; 12] = [
+static ENTRIES: [Entry; 13] = [
     Entry { rule: rule("check", help::CHECK, 2, 2, JSON), run: check::run },
     Entry { rule: rule("chain", help::CHAIN, 2, MANY, JSON), run: chain::run },
     Entry { rule: rule("list", help::LIST, 1, 1, &["--json", "--released"]), run: list::run },
@@ -73,6 +74,7 @@ static ENTRIES: [Entry; 12] = [
     Entry { rule: rule("diff", help::DIFF, 2, 2, JSON), run: diff::run },
     Entry { rule: rule("draft", help::DRAFT, 3, 4, JSON), run: draft::run },
     Entry { rule: rule("reordered", help::REORDERED, 2, 2, JSON), run: reordered::run },
+    Entry { rule: rule("explain", help::EXPLAIN, 0, 1, JSON), run: explain::run },
     Entry { rule: rule("assemble", help::ASSEMBLE, 1, 1, &[]), run: assemble::run },
     Entry { rule: rule("show", help::SHOW, 1, 1, &[]), run: show::run },
     Entry { rule: rule("load", help::LOAD, 2, 2, &[]), run: load::run },
