@@ -3,6 +3,8 @@
 #[forbid(unsafe_code)]
 pub mod explain;
 #[forbid(unsafe_code)]
+pub mod premises;
+#[forbid(unsafe_code)]
 pub mod record;
 #[forbid(unsafe_code)]
 pub mod text;

@@ -48,7 +48,7 @@ fn json() {
     assert_eq!(
         run(&["check", "--json", &new, &old]).said(0),
         "{\"accepted\":true,\"number\":0,\"word\":\"accepted\",\"message\":null,\"side\":null,\"part\":null,\
-         \"place\":null,\"byte\":null,\"command\":null,\"hint\":null}\n"
+         \"place\":null,\"byte\":null,\"command\":null,\"hint\":null,\"premises\":[]}\n"
     );
     let ran = run(&["check", &gone, &old, "--json"]);
     let front =
@@ -57,13 +57,13 @@ fn json() {
     assert_eq!(
         run(&["check", &new, &letter, "--json"]).said(2),
         "{\"accepted\":false,\"number\":7,\"word\":\"letter\",\"message\":null,\"side\":\"released\",\
-         \"part\":\"pool\",\"place\":0,\"byte\":\"07\",\"command\":null,\"hint\":null}\n"
+         \"part\":\"pool\",\"place\":0,\"byte\":\"07\",\"command\":null,\"hint\":null,\"premises\":[]}\n"
     );
     let misplaced = folder.file("misplaced.rec", b"\x01\0\0\0\x0f");
     assert_eq!(
         run(&["check", &misplaced, &old, "--json"]).said(2),
         "{\"accepted\":false,\"number\":3,\"word\":\"misplaced\",\"message\":null,\"side\":\"current\",\
-         \"part\":\"stream\",\"place\":0,\"byte\":\"0F\",\"command\":\"end\",\"hint\":null}\n"
+         \"part\":\"stream\",\"place\":0,\"byte\":\"0F\",\"command\":\"end\",\"hint\":null,\"premises\":[]}\n"
     );
 }
 

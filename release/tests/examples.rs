@@ -66,7 +66,7 @@ fn the_page_of_the_examples() {
             fs::copy(&path, folder.path().join(name)).expect("a copy");
         }
     }
-    assert_eq!(replay("examples/README.md", folder.path()), 39);
+    assert_eq!(replay("examples/README.md", folder.path()), 43);
 }
 
 #[test]

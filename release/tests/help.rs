@@ -6,7 +6,7 @@ use std::os::unix::ffi::OsStringExt;
 
 use common::run;
 
-const COMMANDS: [&str; 13] = [
+const COMMANDS: [&str; 14] = [
     "check",
     "chain",
     "list",
@@ -15,6 +15,7 @@ const COMMANDS: [&str; 13] = [
     "diff",
     "draft",
     "reordered",
+    "lint",
     "explain",
     "assemble",
     "show",
@@ -51,8 +52,8 @@ fn help_of_each_command() {
 
 #[test]
 fn no_command_and_unknown_commands() {
-    let commands = "the commands are check, chain, list, owner, pointers, diff, draft, reordered, explain,\n\
-                    assemble, show, load and burn-in\n\
+    let commands = "the commands are check, chain, list, owner, pointers, diff, draft, reordered, lint,\n\
+                    explain, assemble, show, load and burn-in\n\
                     `release --help` says what each does\n";
     assert_eq!(run::<&str>(&[]).complained(3), format!("release: expected a command\n{commands}"));
     let unknown = format!("release: expected a command, found chek\n{commands}");

@@ -125,7 +125,7 @@ fn what_is_printed() {
     assert_eq!(lines.len(), 2);
     assert_eq!(lines[1], "hint: set constant GENERATION to 4 and add: version scan 4");
     let json = run(&["check", &new, &old, "--json"]);
-    let hint = "\"hint\":\"set constant GENERATION to 4 and add: version scan 4\"}\n";
+    let hint = "\"hint\":\"set constant GENERATION to 4 and add: version scan 4\",\"premises\":[]}\n";
     assert!(json.said(1).ends_with(hint), "{}", json.text());
     let gone = folder.record("gone.rec", "head 1.1.0\nconstant GENERATION 3\nend");
     let ran = run(&["check", &gone, &old]);
@@ -133,5 +133,5 @@ fn what_is_printed() {
     // A refusal and an accepted record have none.
     let empty = folder.file("empty.rec", b"");
     assert!(!run(&["check", &empty, &old]).said(2).contains("hint"));
-    assert!(run(&["check", &empty, &old, "--json"]).said(2).contains("\"hint\":null}"));
+    assert!(run(&["check", &empty, &old, "--json"]).said(2).contains("\"hint\":null,"));
 }

@@ -6,6 +6,7 @@ use menqachu::Record;
 use super::answer::{with, Told};
 use super::args::Args;
 use super::json::Json;
+use super::notes::Notes;
 use super::output::{print, print_line};
 use super::{files, Done};
 
@@ -13,12 +14,17 @@ pub fn run(args: &Args) -> Done {
     let current = files::record(&args.operands[0])?;
     let released = files::record(&args.operands[1])?;
     let told = told(current.record(), released.record());
+    let notes = match told.accepted() {
+        true => Notes::of(&[("the released record", &released), ("the current record", &current)])?,
+        false => Notes::default(),
+    };
     let hint = told.hint(current.record(), released.record());
     if args.json {
-        print_line(&with(told.json(), "hint", Json::or_null(hint.map(Json::text))).to_string())?;
+        let value = with(told.json(), "hint", Json::or_null(hint.map(Json::text)));
+        print_line(&with(value, "premises", notes.json()).to_string())?;
     } else {
         let hint = hint.map_or(String::new(), |hint| format!("hint: {hint}\n"));
-        print(format!("{}\n{hint}", told.line()).as_bytes())?;
+        print(format!("{}\n{hint}{}", told.line(), notes.lines()).as_bytes())?;
     }
     Ok(told.status())
 }

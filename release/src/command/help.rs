@@ -6,8 +6,8 @@ pub fn usage(help: &str) -> &str {
 }
 
 pub const COMMANDS: &str = "\
-the commands are check, chain, list, owner, pointers, diff, draft, reordered, explain,
-assemble, show, load and burn-in
+the commands are check, chain, list, owner, pointers, diff, draft, reordered, lint,
+explain, assemble, show, load and burn-in
 `release --help` says what each does";
 
 pub const WHOLE: &str = "\
@@ -23,6 +23,7 @@ Checks the record of a scan-record schema against the record of the last release
   release diff CURRENT RELEASED [--json]     both layouts side by side
   release draft EDIT DRAFT .. [--json]       a type added, taken out, or changes counted
   release reordered ONE OTHER [--json]       whether only the order of sections differs
+  release lint RECORD [--json]               what is proved of chains, and what not
   release explain [NUMBER] [--json]          what a number means and what to do
   release assemble TEXT > RECORD             a record from its text form
   release show RECORD                        the text form of a record
@@ -39,8 +40,8 @@ Exit status:
   0  accepted, or done
   1  a verdict (check), an offered record dropped (chain), a pointer that does not name
      what it must (pointers), records of which it is not proved that they are accepted
-     alike (reordered), or a pair whose check gives another number than its outcome
-     (burn-in)
+     alike (reordered), a record outside the premises or with a remark (lint), or a pair
+     whose check gives another number than its outcome (burn-in)
   2  a damaged record, or a text that cannot be assembled
   3  a usage error, a file that cannot be read or written, or an edit that cannot be
      made (draft)
@@ -55,9 +56,14 @@ record, the refusal's number, word, side and place, and the command at that plac
 After a verdict a line with a hint says what to do: the lines of the text form to
 change where that is plain, and else what `release explain NUMBER` says.
 
+What is proved of a chain of accepted records has premises. Where an accepted record
+is outside one, a note follows, with the first place and how many more there are;
+`release lint` tells them of one record. The exit status does not change by it.
+
   --json  an object with the keys accepted, number, word, message (of a verdict),
           side, part, place, byte and command (of a refusal); what does not apply
-          is null; and hint (of a verdict)
+          is null; hint (of a verdict); and premises, a list of objects with
+          premise, record, words (of document 01) and what
 
 Exit status: 0 accepted, 1 a verdict, 2 a damaged record, 3 a usage or file error.
 ";
@@ -67,11 +73,12 @@ usage: release chain FIRST OFFERED.. [--json]
 
 Checks each offered record against the last accepted one, where FIRST counts as
 accepted, and prints a line for each. A record that is not accepted is dropped, and
-the next one is checked against the same record again.
+the next one is checked against the same record again. Notes follow as those of
+check, over FIRST and all accepted records.
 
   --json  an object with the keys first, refusal (of FIRST), offered (a list of
-          objects with file, against and answer, which has the keys of check) and
-          last, the file of the last accepted record
+          objects with file, against and answer, which has the keys of check up to
+          command), last, the file of the last accepted record, and premises
 
 Exit status: 0 all are accepted, 1 one is dropped, 2 FIRST cannot be read as a
 released record, 3 a usage or file error.
@@ -189,6 +196,33 @@ ONE that OTHER lacks is named, or else the first of OTHER, and what differs in i
 
 Exit status: 0 the proof covers them, or they are equal; 1 it does not; 2 a damaged
 record; 3 a usage or file error.
+";
+
+pub const LINT: &str = "\
+usage: release lint RECORD [--json]
+
+Says where a record is outside the premises under which it is proved that no chain of
+accepted records loses or moves anything, a line for each place that begins with the
+premise:
+
+  unreleased  the head says unreleased
+  kinds       a field's kind is none of the sixteen
+  twice       a name or slot stands twice in its list or among the layouts
+  colon       a name has a colon
+  constant    a structure in one of the three slots names no constant
+  integer     the constant that it names is not there, or is a text
+  owned       a type belongs to no such structure, so no generation number covers it
+
+The last three are asked for what is proved of generation numbers alone. Lines that
+begin with `remark` are about sizes: scalar words other than u8, char, u16 and u32,
+and enums, aliases and bit fields that nothing declares. The record is read as a
+released one, which may lack some texts.
+
+  --json  an object with the keys refusal, premises (a list of objects with premise,
+          words, of document 01, and what) and remarks (a list of texts)
+
+Exit status: 0 nothing to say, 1 something is said, 2 a damaged record, 3 a usage or
+file error.
 ";
 
 pub const EXPLAIN: &str = "\

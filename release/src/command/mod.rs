@@ -12,8 +12,10 @@ mod explain;
 mod files;
 mod help;
 mod json;
+mod lint;
 mod list;
 mod load;
+mod notes;
 mod output;
 mod owner;
 mod pointers;
@@ -29,7 +31,7 @@ use args::{Args, Asked, Rule};
 
 /// Accepted, or done.
 pub const DONE: u8 = 0;
-/// A verdict, an offered record dropped, a pointer that breaks the rule, or records that are not reordered.
+/// A verdict, an offered record dropped, a pointer that breaks the rule, records that are not reordered, or a remark.
 pub const STOPPED: u8 = 1;
 /// A record that is refused, or a text that is not a record's.
 pub const DAMAGED: u8 = 2;
@@ -65,7 +67,7 @@ const JSON: &[&str] = &["--json"];
 const BURN_IN: &[&str] = &["--json", "--seeds=", "--outcome="];
 const MANY: usize = usize::MAX;
 
-static ENTRIES: [Entry; 13] = [
+static ENTRIES: [Entry; 14] = [
     Entry { rule: rule("check", help::CHECK, 2, 2, JSON), run: check::run },
     Entry { rule: rule("chain", help::CHAIN, 2, MANY, JSON), run: chain::run },
     Entry { rule: rule("list", help::LIST, 1, 1, &["--json", "--released"]), run: list::run },
@@ -74,6 +76,7 @@ static ENTRIES: [Entry; 13] = [
     Entry { rule: rule("diff", help::DIFF, 2, 2, JSON), run: diff::run },
     Entry { rule: rule("draft", help::DRAFT, 3, 4, JSON), run: draft::run },
     Entry { rule: rule("reordered", help::REORDERED, 2, 2, JSON), run: reordered::run },
+    Entry { rule: rule("lint", help::LINT, 1, 1, JSON), run: lint::run },
     Entry { rule: rule("explain", help::EXPLAIN, 0, 1, JSON), run: explain::run },
     Entry { rule: rule("assemble", help::ASSEMBLE, 1, 1, &[]), run: assemble::run },
     Entry { rule: rule("show", help::SHOW, 1, 1, &[]), run: show::run },
