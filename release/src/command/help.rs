@@ -7,7 +7,7 @@ pub fn usage(help: &str) -> &str {
 
 pub const COMMANDS: &str = "\
 the commands are check, chain, list, owner, pointers, diff, draft, reordered, lint,
-explain, assemble, show, load and burn-in
+explain, assemble, show, load, burn-in, help and completions
 `release --help` says what each does";
 
 pub const WHOLE: &str = "\
@@ -29,7 +29,9 @@ Checks the record of a scan-record schema against the record of the last release
   release show RECORD                        the text form of a record
   release load OUTCOME SEED > PAIR           a pair of records with a wanted outcome
   release burn-in --seeds A..B [--outcome N] [--json]  the pairs of many seeds, checked
-  release COMMAND --help                     more about a command
+  release help [COMMAND]                     this text, or more about a command
+  release completions                        completions for bash
+  release --version                          the version, and that of the proved library
 
 A record file holds the command stream and then the text pool, each as a length of
 four bytes (little-endian) and its bytes. - in place of a file is standard input;
@@ -38,10 +40,11 @@ where it is given more than once, the records follow each other there. Words aft
 
 Exit status:
   0  accepted, or done
-  1  a verdict (check), an offered record dropped (chain), a pointer that does not name
-     what it must (pointers), records of which it is not proved that they are accepted
-     alike (reordered), a record outside the premises or with a remark (lint), or a pair
-     whose check gives another number than its outcome (burn-in)
+  1  a verdict (check), an offered record dropped (chain), a name that nobody owns
+     (owner), a pointer that does not name what it must (pointers), records of which it
+     is not proved that they are accepted alike (reordered), a record outside the
+     premises or with a remark (lint), or a pair whose check gives another number than
+     its outcome (burn-in)
   2  a damaged record, or a text that cannot be assembled
   3  a usage error, a file that cannot be read or written, or an edit that cannot be
      made (draft)
@@ -108,11 +111,12 @@ usage: release owner RECORD NAME [--json]
 
 Prints the name of the versioned structure that NAME belongs to, which is the first
 of the structures in the slots metadata, runtime and info whose references lead to
-it; or `none`. The record is read as a current one.
+it. Where it belongs to nobody, nothing is printed but a line on standard error. The
+record is read as a current one.
 
-  --json  an object with the keys refusal and owner, which is null for none
+  --json  an object with the keys refusal and owner, which is null for nobody
 
-Exit status: 0 answered, 2 a damaged record, 3 a usage or file error.
+Exit status: 0 an owner, 1 nobody, 2 a damaged record, 3 a usage or file error.
 ";
 
 pub const POINTERS: &str = "\
@@ -305,4 +309,26 @@ and a bar on standard error where that is a terminal.
 
 Exit status: 0 each pair has its outcome, 1 one has not, 3 another outcome or seed,
 a usage or file error.
+";
+
+pub const HELP: &str = "\
+usage: release help [COMMAND]
+
+Prints the help of a command, as `release COMMAND --help` does, or that of the whole.
+
+Exit status: 0 printed, 3 a usage error.
+";
+
+pub const COMPLETIONS: &str = "\
+usage: release completions
+
+Prints a script that completes commands and options in bash. For one shell:
+
+  source <(release completions)
+
+For all, put it where bash looks for completions:
+
+  release completions > ~/.local/share/bash-completion/completions/release
+
+Exit status: 0 printed, 3 a usage error.
 ";

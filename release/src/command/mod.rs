@@ -1,5 +1,6 @@
 //! The subcommands and how one is chosen.
 
+mod about;
 mod answer;
 mod args;
 mod assemble;
@@ -31,7 +32,7 @@ use args::{Args, Asked, Rule};
 
 /// Accepted, or done.
 pub const DONE: u8 = 0;
-/// A verdict, an offered record dropped, a pointer that breaks the rule, records that are not reordered, or a remark.
+/// A verdict, an offered record dropped, a name without an owner, a pointer that breaks the rule, records that are not reordered, or a remark.
 pub const STOPPED: u8 = 1;
 /// A record that is refused, or a text that is not a record's.
 pub const DAMAGED: u8 = 2;
@@ -67,7 +68,7 @@ const JSON: &[&str] = &["--json"];
 const BURN_IN: &[&str] = &["--json", "--seeds=", "--outcome="];
 const MANY: usize = usize::MAX;
 
-static ENTRIES: [Entry; 14] = [
+static ENTRIES: [Entry; 16] = [
     Entry { rule: rule("check", help::CHECK, 2, 2, JSON), run: check::run },
     Entry { rule: rule("chain", help::CHAIN, 2, MANY, JSON), run: chain::run },
     Entry { rule: rule("list", help::LIST, 1, 1, &["--json", "--released"]), run: list::run },
@@ -82,6 +83,8 @@ static ENTRIES: [Entry; 14] = [
     Entry { rule: rule("show", help::SHOW, 1, 1, &[]), run: show::run },
     Entry { rule: rule("load", help::LOAD, 2, 2, &[]), run: load::run },
     Entry { rule: rule("burn-in", help::BURN_IN, 0, 0, BURN_IN), run: burn_in::run },
+    Entry { rule: rule("help", help::HELP, 0, 1, &[]), run: about::help },
+    Entry { rule: rule("completions", help::COMPLETIONS, 0, 0, &[]), run: about::completions },
 ];
 
 const fn rule(
@@ -111,6 +114,9 @@ fn chosen(words: &[OsString]) -> Done {
     };
     if first == "--help" || first == "-h" {
         return output::print(help::WHOLE.as_bytes()).map(|()| DONE);
+    }
+    if first == "--version" {
+        return about::version();
     }
     let Some(entry) = ENTRIES.iter().find(|entry| first == entry.rule.name) else {
         let given = files::shown(first);

@@ -4,9 +4,10 @@ use menqachu::{owner, Owner, Side};
 
 use super::answer::Told;
 use super::args::Args;
+use super::files::shown;
 use super::json::Json;
-use super::output::{print, print_line};
-use super::{files, problem, Done, DONE};
+use super::output::{complain, print, print_line};
+use super::{files, problem, Done, DONE, STOPPED};
 
 pub fn run(args: &Args) -> Done {
     let given = files::record(&args.operands[0])?;
@@ -24,7 +25,11 @@ pub fn run(args: &Args) -> Done {
         let value = vec![("refusal", Json::Null), ("owner", Json::or_null(owner.map(Json::bytes)))];
         print_line(&Json::Object(value).to_string())?;
     } else {
-        print(&[owner.unwrap_or(b"none"), b"\n"].concat())?;
+        match owner {
+            Some(owner) => print(&[owner, b"\n"].concat())?,
+            // A root may have any name, so nobody is no word on standard output.
+            None => complain(&format!("{}: nobody owns {}", given.shown(), shown(&args.operands[1]))),
+        }
     }
-    Ok(DONE)
+    Ok(if owner.is_some() { DONE } else { STOPPED })
 }

@@ -10,3 +10,5 @@ mod write;
 pub use read::{assemble, Fault};
 pub use tokens::{quoted, written};
 pub use write::{constant_value, line, show};
+
+impl std::error::Error for Fault {}
