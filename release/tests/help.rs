@@ -6,13 +6,14 @@ use std::os::unix::ffi::OsStringExt;
 
 use common::run;
 
-const COMMANDS: [&str; 16] = [
+const COMMANDS: [&str; 17] = [
     "check",
     "chain",
     "list",
     "owner",
     "pointers",
     "diff",
+    "report",
     "draft",
     "reordered",
     "lint",
@@ -54,8 +55,8 @@ fn help_of_each_command() {
 
 #[test]
 fn no_command_and_unknown_commands() {
-    let commands = "the commands are check, chain, list, owner, pointers, diff, draft, reordered, lint,\n\
-                    explain, assemble, show, load, burn-in, help and completions\n\
+    let commands = "the commands are check, chain, list, owner, pointers, diff, report, draft, reordered,\n\
+                    lint, explain, assemble, show, load, burn-in, help and completions\n\
                     `release --help` says what each does\n";
     assert_eq!(run::<&str>(&[]).complained(3), format!("release: expected a command\n{commands}"));
     let unknown = format!("release: expected a command, found chek\n{commands}");

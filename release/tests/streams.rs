@@ -31,6 +31,7 @@ fn calls() -> Vec<(Vec<&'static str>, i32)> {
         ("owner FILE t --json", 1),
         ("diff FILE FILE", 0),
         ("diff FILE FILE --json", 0),
+        ("report FILE FILE", 0),
         ("lint FILE", 1),
         ("lint FILE --json", 1),
         ("explain", 0),
@@ -207,6 +208,8 @@ fn drawn_bytes_to_every_command() {
             ["check", &file, &good],
             ["chain", &good, &file],
             ["diff", &file, &good],
+            ["report", &file, &good],
+            ["report", &good, &file],
         ] {
             let ran = run_on(&call, b"");
             assert!(allowed(call[0]).contains(&ran.status), "round {round}: {call:?}: {}", ran.status);

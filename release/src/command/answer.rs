@@ -72,6 +72,15 @@ impl Told {
         Told { number, message: None, refusal: Some(refusal) }
     }
 
+    pub fn number(&self) -> u32 {
+        self.number
+    }
+
+    /// The message of a verdict.
+    pub fn message(&self) -> Option<&str> {
+        self.message.as_deref()
+    }
+
     pub fn accepted(&self) -> bool {
         self.number == 0
     }

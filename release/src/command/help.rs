@@ -6,8 +6,8 @@ pub fn usage(help: &str) -> &str {
 }
 
 pub const COMMANDS: &str = "\
-the commands are check, chain, list, owner, pointers, diff, draft, reordered, lint,
-explain, assemble, show, load, burn-in, help and completions
+the commands are check, chain, list, owner, pointers, diff, report, draft, reordered,
+lint, explain, assemble, show, load, burn-in, help and completions
 `release --help` says what each does";
 
 pub const WHOLE: &str = "\
@@ -21,6 +21,7 @@ Checks the record of a scan-record schema against the record of the last release
   release owner RECORD NAME [--json]         which versioned structure a name belongs to
   release pointers RECORD [--json]           whether every pointer names what it must
   release diff CURRENT RELEASED [--json]     both layouts side by side
+  release report CURRENT RELEASED > PAGE     the verdict and all changes for a browser
   release draft EDIT DRAFT .. [--json]       a type added, taken out, or changes counted
   release reordered ONE OTHER [--json]       whether only the order of sections differs
   release lint RECORD [--json]               what is proved of chains, and what not
@@ -152,6 +153,19 @@ first current field of its name, which is the one that the check compares it wit
           current; each of the last two is null or has offset, size and description
 
 Exit status: 0 shown, 2 a damaged record, 3 a usage or file error.
+";
+
+pub const REPORT: &str = "\
+usage: release report CURRENT RELEASED > PAGE
+
+Writes a page for a browser, in one file that loads nothing: the verdict in words with
+what to do about it; for every type that changed a map of its bytes, with what a
+reader built for the last release would take from the new ones; all differences, line
+by line of the text form; and where the two records are outside the premises of what
+is proved of chains.
+
+Exit status: 0 written, also for a verdict; 2 a damaged record, 3 a usage or file
+error.
 ";
 
 pub const DRAFT: &str = "\

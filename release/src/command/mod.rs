@@ -22,6 +22,7 @@ mod owner;
 mod pointers;
 mod problem;
 mod reordered;
+mod report;
 mod rows;
 mod show;
 mod table;
@@ -68,13 +69,14 @@ const JSON: &[&str] = &["--json"];
 const BURN_IN: &[&str] = &["--json", "--seeds=", "--outcome="];
 const MANY: usize = usize::MAX;
 
-static ENTRIES: [Entry; 16] = [
+static ENTRIES: [Entry; 17] = [
     Entry { rule: rule("check", help::CHECK, 2, 2, JSON), run: check::run },
     Entry { rule: rule("chain", help::CHAIN, 2, MANY, JSON), run: chain::run },
     Entry { rule: rule("list", help::LIST, 1, 1, &["--json", "--released"]), run: list::run },
     Entry { rule: rule("owner", help::OWNER, 2, 2, JSON), run: owner::run },
     Entry { rule: rule("pointers", help::POINTERS, 1, 1, JSON), run: pointers::run },
     Entry { rule: rule("diff", help::DIFF, 2, 2, JSON), run: diff::run },
+    Entry { rule: rule("report", help::REPORT, 2, 2, &[]), run: report::run },
     Entry { rule: rule("draft", help::DRAFT, 3, 4, JSON), run: draft::run },
     Entry { rule: rule("reordered", help::REORDERED, 2, 2, JSON), run: reordered::run },
     Entry { rule: rule("lint", help::LINT, 1, 1, JSON), run: lint::run },

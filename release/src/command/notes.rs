@@ -48,6 +48,11 @@ impl Notes {
         lines
     }
 
+    /// All places, each with the key of its premise.
+    pub fn places(&self) -> impl Iterator<Item = (&'static str, &str)> {
+        self.outside.iter().map(|outside| (outside.premise.key, outside.what.as_str()))
+    }
+
     /// All places, each with its premise.
     pub fn json(&self) -> Json {
         Json::List(
