@@ -22,25 +22,35 @@ fn hinted(current: &Parts, released: &Parts) -> Option<(u32, String, Hint)> {
     Some((answer.number, message, hint))
 }
 
+/// The line that a part stands in: `struct tile`, or `family step, variant MOVE`.
+fn opener(lines: &[String], into: &str) -> Option<usize> {
+    let find = |from: usize, name: &str| {
+        let found =
+            lines[from..].iter().position(|line| line == name || line.starts_with(&format!("{name} ")));
+        found.map(|at| from + at)
+    };
+    match into.split_once(", variant ") {
+        Some((family, variant)) => find(find(0, family)?, &format!("variant {variant}")),
+        None => find(0, into),
+    }
+}
+
 /// The text with an edit made.
 fn edited(text: &str, edit: &Edit) -> Option<String> {
     let mut lines: Vec<String> = text.lines().map(|line| line.trim().to_string()).collect();
     match edit {
-        Edit::Set { old, new, .. } => {
-            let at = lines.iter().position(|line| line == old)?;
+        Edit::Set { old, new, into, .. } => {
+            let from = into.as_ref().map_or(Some(0), |into| opener(&lines, into))?;
+            let at = from + lines[from..].iter().position(|line| line == old)?;
             lines[at] = new.clone();
         }
         Edit::Add { line, into, after } => {
-            let last = lines.iter().rposition(|line| line == "end")?;
-            let parent = into.as_ref().map(|parent| {
-                lines.iter().position(|line| line == parent || line.starts_with(&format!("{parent} ")))
-            });
-            let at = match (parent, after) {
-                (None, _) => last,
-                (Some(parent), None) => parent? + 1,
-                (Some(parent), Some(after)) => {
-                    let parent = parent?;
-                    parent + 1 + lines[parent..].iter().position(|line| line == after)?
+            let at = match (into, after) {
+                (None, _) => lines.iter().rposition(|line| line == "end")?,
+                (Some(into), None) => opener(&lines, into)? + 1,
+                (Some(into), Some(after)) => {
+                    let from = opener(&lines, into)?;
+                    from + 1 + lines[from..].iter().position(|line| line == after)?
                 }
             };
             lines.insert(at, line.clone());

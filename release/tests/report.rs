@@ -100,16 +100,20 @@ fn no_markup_from_a_record() {
         "</style><script>x</script>",
         "<img src=x onerror=alert(1)>",
         "\"><b>",
-        "' onmouseover='x",
+        "' onmouseover='x `",
         "--><!--",
-        "&lt;b&gt;&amp;",
-        "</bdi></code></td><td>",
+        "&lt;b&gt;&amp; `code`",
+        "`</bdi></code></td><td>",
     ];
-    for more in ["", "field new padding size=1\n", "field new scalar type=u8\n"] {
-        let page = |names| report(&text(names, "1.1.0", more), &text(names, "1.0.0", ""), &folder);
+    for more in ["", "field new padding size=1\n", "field new scalar type=u8\n", "gone"] {
+        let page = |names| {
+            let new = text(names, "1.1.0", more.trim_end_matches("gone"));
+            let new = if more == "gone" { "head 1.1.0\nend".to_string() } else { new };
+            report(&new, &text(names, "1.0.0", ""), &folder)
+        };
         let (plain, odd) = (page(harmless), page(marked));
         assert_eq!(tags(&plain), tags(&odd));
-        assert!(odd.contains("&lt;/style&gt;&lt;script&gt;x&lt;/script&gt;"));
+        assert!(odd.contains("&lt;/style&gt;&lt;script&gt;x&lt;/script&gt;"), "{odd}");
         for outside in
             ["<script", "<link", "<img", "<iframe", "url(", "@import", "http:", "https:", "javascript:"]
         {

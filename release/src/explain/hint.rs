@@ -10,8 +10,8 @@ use crate::text::{line, written};
 /// A change of the current record's text.
 #[derive(Clone, Debug, PartialEq, Eq)]
 pub enum Edit {
-    /// This line in place of that one; `told` says it in short.
-    Set { old: String, new: String, told: String },
+    /// This line in place of that one, which stands in another where `into` names one; `told` says it in short.
+    Set { old: String, new: String, into: Option<String>, told: String },
     /// One more line at the end of the record, or among the parts of a line: after one of them, or as the first.
     Add { line: String, into: Option<String>, after: Option<String> },
 }
@@ -53,10 +53,11 @@ struct Pair<'a> {
     released: &'a [Said],
 }
 
-/// A command with the one that it is a part of, if any, as the messages call it.
+/// A command as the messages call it, with the one that it is a part of, if any, and where that stands.
 struct Item<'a> {
     label: String,
     parent: Option<&'a Said>,
+    into: Option<String>,
     said: &'a Said,
 }
 
@@ -108,7 +109,7 @@ impl<'a> Pair<'a> {
         let head = head(self.current)?;
         let new = changed(head, 0, Value::Text(Some(next.into_bytes())));
         let told = format!("raise the release in the head above {was}, as in: {}", line(&new));
-        Some(vec![Edit::Set { old: line(head), new: line(&new), told }])
+        Some(vec![Edit::Set { old: line(head), new: line(&new), into: None, told }])
     }
 
     /// The current release as the `since` of what arrives.
@@ -134,7 +135,7 @@ impl<'a> Pair<'a> {
             parent.is_some_and(|parent| parent.text(0) == Some(name))
         });
         let add = |said: &Said, into| Edit::Add { line: line(said), into, after: None };
-        let own = add(item.said, item.parent.map(named));
+        let own = add(item.said, item.into);
         let parts = parts.map(|part| add(part.said, Some(named(item.said))));
         Some(std::iter::once(own).chain(parts).collect())
     }
@@ -151,9 +152,9 @@ impl<'a> Pair<'a> {
                 && item.said.command.byte == was.said.command.byte
                 && rest.starts_with(&format!("{name} now - "))
         })?;
-        let told =
-            format!("put back in {}: {} in place of {}", named(was.parent?), line(was.said), line(is.said));
-        Some(vec![Edit::Set { old: line(is.said), new: line(was.said), told }])
+        let (old, new) = (line(is.said), line(was.said));
+        let told = format!("put back in {}: {new} in place of {old}", is.into.as_deref()?);
+        Some(vec![Edit::Set { old, new, into: is.into, told }])
     }
 
     /// A field that is gone, after the field that it followed.
@@ -163,7 +164,7 @@ impl<'a> Pair<'a> {
         let fields = items(self.released).into_iter().filter(|item| item.label.starts_with(open));
         let before = fields.take_while(|item| item.label != was.label).last();
         let after = before.and_then(|item| Pair::same(self.current, &item)).map(|item| line(item.said));
-        Some(vec![Edit::Add { line: line(was.said), into: was.parent.map(named), after }])
+        Some(vec![Edit::Add { line: line(was.said), into: was.into, after }])
     }
 
     /// The line of the last release in place of the current one.
@@ -174,11 +175,11 @@ impl<'a> Pair<'a> {
         if old == new {
             return None;
         }
-        let told = match was.parent {
-            Some(parent) => format!("put back in {}: {new}", named(parent)),
+        let told = match &is.into {
+            Some(parent) => format!("put back in {parent}: {new}"),
             None => format!("put back: {new}"),
         };
-        Some(vec![Edit::Set { old, new, told }])
+        Some(vec![Edit::Set { old, new, into: is.into, told }])
     }
 
     /// A constant for a structure that lacks one.
@@ -205,6 +206,7 @@ impl<'a> Pair<'a> {
             edits.push(Edit::Set {
                 old: line(root),
                 new: line(&new),
+                into: None,
                 told: format!("write: {}", line(&new)),
             });
         }
@@ -213,7 +215,7 @@ impl<'a> Pair<'a> {
         match self.current.iter().find(declared) {
             Some(said) => {
                 let new = format!("constant {name} 1");
-                edits.push(Edit::Set { old: line(said), told: format!("write: {new}"), new });
+                edits.push(Edit::Set { old: line(said), into: None, told: format!("write: {new}"), new });
             }
             None => edits.push(Edit::Add { line: format!("constant {name} 1"), into: None, after: None }),
         }
@@ -229,7 +231,7 @@ impl<'a> Pair<'a> {
         let name = written(constant.text(0)?);
         if number != 44 {
             let told = format!("set constant {name} to {next}");
-            edits.push(Edit::Set { old: line(constant), new: line(&new), told });
+            edits.push(Edit::Set { old: line(constant), new: line(&new), into: None, told });
         }
         let mut entry = Said::unsaid(by_word(b"version")?);
         entry.values[0] = Value::Text(Some(root.text(0)?.to_vec()));
@@ -271,12 +273,14 @@ impl<'a> Pair<'a> {
 fn items(commands: &[Said]) -> Vec<Item<'_>> {
     let mut items = Vec::new();
     let (mut family, mut open, mut parent) = (String::new(), String::new(), None);
+    let (mut section, mut place) = (String::new(), String::new());
     for said in commands {
         let name = String::from_utf8_lossy(said.text(0).unwrap_or_default()).into_owned();
         let (label, of) = match said.command.byte {
             CONSTANT => (format!("constant {name}"), None),
             ENUM | BIT_FIELD | STRUCT | FAMILY => {
                 (family, open) = (name.clone(), name.clone());
+                (section, place) = (named(said), named(said));
                 parent = Some(said);
                 let sort = match said.command.byte {
                     ENUM => "enum ",
@@ -287,6 +291,7 @@ fn items(commands: &[Said]) -> Vec<Item<'_>> {
             }
             VARIANT => {
                 open = format!("{family}::{name}");
+                place = format!("{section}, {}", named(said));
                 parent = Some(said);
                 (open.clone(), None)
             }
@@ -299,7 +304,8 @@ fn items(commands: &[Said]) -> Vec<Item<'_>> {
             }
             _ => continue,
         };
-        items.push(Item { label, parent: of, said });
+        let inside = matches!(said.command.byte, VALUE | MEMBER | FIELD | FIELD_KEY);
+        items.push(Item { label, parent: of, into: inside.then(|| place.clone()), said });
     }
     items
 }
@@ -324,7 +330,7 @@ fn since(item: &Item, release: Vec<u8>) -> Edit {
     let index = since_at(item.said).unwrap_or_default();
     let told = format!("set since={} in: {}", written(&release), line(item.said));
     let new = changed(item.said, index, Value::Text(Some(release)));
-    Edit::Set { old: line(item.said), new: line(&new), told }
+    Edit::Set { old: line(item.said), new: line(&new), into: item.into.clone(), told }
 }
 
 /// A command with another value of an operand.

@@ -16,18 +16,23 @@ pub fn escaped(text: &str) -> String {
     safe
 }
 
-/// A name of a record; letters that are written from the right stay inside it.
-pub fn name(bytes: &[u8]) -> String {
-    format!("<bdi>{}</bdi>", escaped(&String::from_utf8_lossy(bytes)))
+/// A text of a record or a file; letters that are written from the right stay inside it.
+pub fn plain(text: &str) -> String {
+    format!("<bdi>{}</bdi>", escaped(text))
 }
 
-/// Words in which back quotes mark what is typed.
-pub fn in_code(text: &str) -> String {
+/// A name of a record.
+pub fn name(bytes: &[u8]) -> String {
+    plain(&String::from_utf8_lossy(bytes))
+}
+
+/// Words of this program, in which back quotes mark what is typed.
+pub fn in_code(text: &'static str) -> String {
     let mut marked = String::new();
     for (index, part) in escaped(text).split('`').enumerate() {
         marked.push_str(&if index % 2 == 1 { format!("<code>{part}</code>") } else { part.to_string() });
     }
-    format!("<bdi>{marked}</bdi>")
+    marked
 }
 
 pub fn section(title: &str, inside: &str) -> String {

@@ -23,7 +23,7 @@ use super::notes::Notes;
 use super::output::print;
 use super::rows::{pairs, Pair};
 use super::{files, problem, Done, Stop, DONE};
-use html::{escaped, in_code, list, section};
+use html::{escaped, in_code, list, plain, section};
 
 pub fn run(args: &Args) -> Done {
     if stdout().is_terminal() {
@@ -64,23 +64,21 @@ fn read(given: &Given, side: Side) -> Result<(Layouts, Vec<Said>), Stop> {
 fn verdict(told: &Told, current: &Given, released: &Given) -> String {
     let files = format!(
         "<p>Record about to ship: {}<br>Last release: {}</p>\n",
-        in_code(&current.shown()),
-        in_code(&released.shown())
+        plain(&current.shown()),
+        plain(&released.shown())
     );
     let Some(page) = page(told.number()) else {
         return format!("<div class=\"verdict good\">\n<h1>Accepted</h1>\n{files}</div>\n");
     };
     let title = format!("Not accepted: {} {}", page.number, word(page.number).unwrap_or_default());
     let message = told.message().unwrap_or_default();
-    let mut words =
-        vec![("What it means", page.means.to_string()), ("Why it is a fault", page.why.to_string())];
-    match told.hint(current.record(), released.record()) {
-        Some(hint) if hint != page.cure => words.push(("What to do", format!("{hint}. {}", page.cure))),
-        _ => words.push(("What to do", page.cure.to_string())),
-    }
+    let mut words = vec![("What it means", in_code(page.means)), ("Why it is a fault", in_code(page.why))];
+    let hint = told.hint(current.record(), released.record()).filter(|hint| hint != page.cure);
+    words.extend(hint.map(|hint| ("Lines to change", plain(&hint))));
+    words.push(("What to do", in_code(page.cure)));
     let words: String =
-        words.iter().map(|(name, text)| format!("<dt>{name}</dt><dd>{}</dd>\n", in_code(text))).collect();
-    let message = in_code(message);
+        words.iter().map(|(name, text)| format!("<dt>{name}</dt><dd>{text}</dd>\n")).collect();
+    let message = plain(message);
     format!("<div class=\"verdict bad\">\n<h1>{title}</h1>\n<p class=\"message\">{message}</p>\n{files}<dl>\n{words}</dl>\n</div>\n")
 }
 
@@ -102,7 +100,7 @@ fn premises(told: &Told, current: &Given, released: &Given) -> Result<String, St
     }
     let notes = Notes::of(&[("the released record", released), ("the current record", current)])?;
     let lines: Vec<String> =
-        notes.places().map(|(key, what)| format!("<b>{key}</b>: {}", in_code(what))).collect();
+        notes.places().map(|(key, what)| format!("<b>{key}</b>: {}", plain(what))).collect();
     let words = if lines.is_empty() {
         "<p>Over every chain of accepted records no field, enum value or bit member is lost or moved, and under one \
          generation number no byte of a type changes. Both records are inside the premises of this.</p>\n"
