@@ -1,11 +1,17 @@
 //! `release lint`, and the notes of `release check` and `release chain`: where records are outside the premises.
 mod common;
 
-use common::{record, run, top, Folder};
+use common::vectors::records;
+use common::{record, run, top, Drawn, Folder};
 use menqachu::premises::chain::{outside, Link};
 use menqachu::premises::record::SIXTEEN;
+use menqachu::premises::remarks::remarks;
 use menqachu::premises::{Asked, PREMISES};
+use menqachu::record::commands::Said;
 use menqachu::record::decode;
+use menqachu::record::owners::owners;
+use menqachu::record::room::list_whole;
+use menqachu::{owner, Owner, Side};
 
 fn page(name: &str) -> String {
     std::fs::read_to_string(top().join(name)).expect("the page")
@@ -68,13 +74,44 @@ fn the_table_has_what_the_trials_test() {
     assert!(plain.iter().all(|kind| SIXTEEN.contains(kind) && !kind.ends_with("_ptr")));
 }
 
+/// The walk over all owners answers as the proved call, for every name of the vectors' records.
+#[test]
+fn owners_are_the_proved_call_s() {
+    let (mut named, mut nobody) = (0, 0);
+    for parts in records() {
+        let record = parts.record();
+        let Ok(commands) = decode::commands(record) else { continue };
+        if list_whole(record, Side::Current).0.number != 0 {
+            continue;
+        }
+        let owners = owners(&commands);
+        let texts =
+            commands.iter().flat_map(|said| (0..said.values.len()).filter_map(|index| said.text(index)));
+        for name in texts.collect::<std::collections::BTreeSet<_>>() {
+            let found = owners.get(name).copied();
+            match owner(record, name) {
+                Owner::Named { start, len } => {
+                    assert_eq!(found, record.pool.get(start..start + len));
+                    named += 1;
+                }
+                Owner::Nobody => {
+                    assert_eq!(found, None);
+                    nobody += 1;
+                }
+                Owner::Refused { .. } => panic!("a record that can be listed"),
+            }
+        }
+    }
+    assert!(named > 3000 && nobody > 5000, "{named} {nobody}");
+}
+
 /// The premises that the records of these texts are outside, as keys, with what is found.
 fn found(texts: &[&str]) -> Vec<(String, String)> {
     let parts: Vec<_> = texts.iter().map(|text| record(text)).collect();
     let link = |(index, parts): (usize, _)| {
         let parts: &menqachu::record::parts::Parts = parts;
         let commands = decode::commands(parts.record()).expect("commands");
-        Link { label: format!("r{index}"), record: parts.record(), commands }
+        Link { label: format!("r{index}"), commands }
     };
     let links: Vec<Link> = parts.iter().enumerate().map(link).collect();
     let outside = outside(&links);
@@ -318,4 +355,29 @@ fn notes_of_chain() {
         "{}",
         json.text()
     );
+}
+
+/// Every record of the vectors, and drawn ones that can be decoded, by itself and beside another: nothing ends the program.
+#[test]
+fn any_record() {
+    let mut drawn = Drawn(0x11A7);
+    let (mut found, mut remarked) = (0, 0);
+    let mut before = decode::commands(record("head 1.0.0\nend").record()).expect("commands");
+    for mut parts in records() {
+        for _ in 0..drawn.below(3) {
+            let at = drawn.below(parts.stream.len());
+            if let Some(byte) = parts.stream.get_mut(at) {
+                *byte = drawn.next() as u8;
+            }
+        }
+        let Ok(commands) = decode::commands(parts.record()) else { continue };
+        remarked += remarks(&commands).len();
+        let link =
+            |label: &str, commands: &[Said]| Link { label: label.to_string(), commands: commands.to_vec() };
+        let outside = outside(&[link("a", &before), link("b", &commands)]);
+        found += outside.len();
+        assert!(outside.iter().all(|one| one.record < 2 && !one.what.is_empty()));
+        before = commands;
+    }
+    assert!(found > 1000 && remarked > 1000, "{found} {remarked}");
 }

@@ -1,6 +1,7 @@
 //! `release report`: one page without outside parts, into which no record can put markup.
 mod common;
 
+use common::vectors::pairs;
 use common::{run, run_on, top, Folder};
 
 fn example(name: &str) -> String {
@@ -161,4 +162,28 @@ fn long_records() {
     let page = run_on(&["report", "-", "-"], &bytes);
     assert_eq!(page.said(0).matches("class=\"wrong\"").count(), 900);
     assert!(began.elapsed().as_secs() < 2, "{:?}", began.elapsed());
+}
+
+/// Pairs of the vectors: a page or a refusal, and no tag but those of a page.
+#[test]
+fn pages_of_the_vectors() {
+    let known = [
+        "!DOCTYPE", "html", "head", "meta", "title", "style", "body", "main", "div", "h1", "h2", "h3", "p",
+        "br", "dl", "dt", "dd", "section", "small", "b", "bdi", "em", "table", "thead", "tbody", "tr", "th",
+        "td", "code", "ul", "li", "footer",
+    ];
+    let mut pages = 0;
+    for pair in pairs().iter().step_by(40) {
+        let ran = run_on(&["report", "-", "-"], &pair.bytes());
+        if (1..=9).contains(&pair.answer.number) {
+            ran.complained(2);
+            continue;
+        }
+        for tag in tags(ran.said(0)) {
+            let name = tag.trim_start_matches('/').split([' ', '\n']).next().unwrap_or_default();
+            assert!(known.contains(&name), "{tag}");
+        }
+        pages += 1;
+    }
+    assert!(pages > 50, "{pages}");
 }

@@ -12,12 +12,11 @@ use super::{files, problem, Done, DONE, STOPPED};
 
 pub fn run(args: &Args) -> Done {
     let given = files::record(&args.operands[0])?;
-    let record = given.record();
-    let commands = readable(record);
+    let commands = readable(given.record());
     let commands =
         commands.map_err(|problem| problem::stop(problem, &given, None, args.json.then_some("premises")))?;
     let remarks = remarks(&commands);
-    let outside = outside(&[Link { label: "the record".to_string(), record, commands }]);
+    let outside = outside(&[Link { label: "the record".to_string(), commands }]);
     if args.json {
         let places = outside.iter().map(|outside| Json::Object(place_json(outside)));
         let value = vec![

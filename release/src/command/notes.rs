@@ -20,11 +20,10 @@ impl Notes {
     pub fn of(chain: &[(&str, &Given)]) -> Result<Notes, Stop> {
         let mut links = Vec::new();
         for (label, given) in chain {
-            let record = given.record();
-            let commands = decode::commands(record);
+            let commands = decode::commands(given.record());
             let commands =
                 commands.map_err(|place| problem::stop(Problem::Undecoded { place }, given, None, None))?;
-            links.push(Link { label: label.to_string(), record, commands });
+            links.push(Link { label: label.to_string(), commands });
         }
         Ok(Notes { outside: outside(&links), labels: links.into_iter().map(|link| link.label).collect() })
     }
