@@ -122,7 +122,7 @@ impl<'a> Pair<'a> {
     fn dated_back(&self, words: &str) -> Option<Vec<Edit>> {
         let item = self.told(self.current, words)?;
         let was = Pair::same(self.released, &item)?;
-        let was = was.since().or_else(|| was.parent.and_then(|parent| said_since(parent)))?;
+        let was = was.since().or_else(|| was.parent.and_then(said_since))?;
         Some(vec![since(&item, was)])
     }
 
