@@ -8,8 +8,8 @@ use super::args::Args;
 use super::check::told;
 use super::files::Given;
 use super::json::Json;
-use super::notes::Notes;
 use super::output::{print, print_line};
+use super::premises::Notes;
 use super::{files, Done, Stop, DONE, STOPPED};
 
 pub fn run(args: &Args) -> Done {

@@ -6,8 +6,8 @@ use menqachu::Record;
 use super::answer::{with, Told};
 use super::args::Args;
 use super::json::Json;
-use super::notes::Notes;
 use super::output::{print, print_line};
+use super::premises::Notes;
 use super::{files, Done};
 
 pub fn run(args: &Args) -> Done {

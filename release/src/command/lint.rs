@@ -6,8 +6,8 @@ use menqachu::record::sections::readable;
 
 use super::args::Args;
 use super::json::Json;
-use super::notes::place_json;
 use super::output::{print, print_line};
+use super::premises::place_json;
 use super::{files, problem, Done, DONE, STOPPED};
 
 pub fn run(args: &Args) -> Done {
