@@ -9,6 +9,10 @@
 #include <stddef.h>
 #include <stdint.h>
 
+#ifdef __cplusplus
+extern "C" {
+#endif
+
 /* Number 0: accepted, or the list is written. 1 to 9: a record is refused, with its side (0 current, 1 released) and the place.
    10: no room, with the length needed. 11 to 46: a verdict, with its message of that length. 59, 60: a pointer that names neither a structure
    nor a family, or only the other of the two, with the place of its field. 61: an outcome or a seed that no pair has. */
@@ -106,5 +110,9 @@ menqachu_shelf_answer menqachu_shelf_set(menqachu_shelf shelf, const uint8_t *na
 menqachu_shelf_answer menqachu_shelf_back(menqachu_shelf shelf, const uint8_t *name, size_t name_len, uint8_t *draft, size_t draft_len,
                                           const uint8_t *held, size_t held_len, const uint8_t *past, size_t past_len,
                                           const uint8_t *old, size_t old_len);
+
+#ifdef __cplusplus
+}
+#endif
 
 #endif

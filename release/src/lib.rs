@@ -1,6 +1,10 @@
 //! The proved calls as safe functions over byte slices, with what the command `release` knows of records.
 
 #[forbid(unsafe_code)]
+pub mod explain;
+#[forbid(unsafe_code)]
+pub mod premises;
+#[forbid(unsafe_code)]
 pub mod record;
 #[forbid(unsafe_code)]
 pub mod text;

@@ -52,14 +52,16 @@ fn json() {
     };
     let expected = format!(
         "{{\"first\":\"{a}\",\"refusal\":null,\"offered\":[{{\"file\":\"{b}\",\"against\":\"{a}\",\
-         \"answer\":{accepted}}},{{\"file\":\"{cut}\",\"against\":\"{b}\",\"answer\":{}}}],\"last\":\"{b}\"}}\n",
+         \"answer\":{accepted}}},{{\"file\":\"{cut}\",\"against\":\"{b}\",\"answer\":{}}}],\"last\":\"{b}\",\"premises\":[]}}\n",
         refused("current")
     );
     assert_eq!(run(&["chain", "--json", &a, &b, &cut]).said(1), expected);
 
     let ran = run(&["chain", "--json", &cut, &a]);
-    let expected =
-        format!("{{\"first\":\"{cut}\",\"refusal\":{},\"offered\":[],\"last\":null}}\n", refused("released"));
+    let expected = format!(
+        "{{\"first\":\"{cut}\",\"refusal\":{},\"offered\":[],\"last\":null,\"premises\":[]}}\n",
+        refused("released")
+    );
     assert_eq!((ran.status, ran.text()), (2, expected.as_str()));
     assert!(ran.err.contains("no chain can begin with it"), "{}", ran.err);
 }

@@ -56,9 +56,9 @@ fn replay(page: &str, folder: &Path) -> usize {
     steps.len()
 }
 
-#[test]
-fn the_page_of_the_examples() {
-    let folder = Folder::new("examples");
+/// A folder with the examples.
+fn with_examples(name: &str) -> Folder {
+    let folder = Folder::new(name);
     for entry in fs::read_dir(top().join("examples")).expect("the examples") {
         let path = entry.expect("an example").path();
         let name = path.file_name().and_then(|name| name.to_str()).expect("a name");
@@ -66,7 +66,17 @@ fn the_page_of_the_examples() {
             fs::copy(&path, folder.path().join(name)).expect("a copy");
         }
     }
-    assert_eq!(replay("examples/README.md", folder.path()), 53);
+    folder
+}
+
+#[test]
+fn the_page_of_the_examples() {
+    assert_eq!(replay("examples/README.md", with_examples("examples").path()), 57);
+}
+
+#[test]
+fn the_page_of_ci_systems() {
+    assert_eq!(replay("docs/CI.md", with_examples("ci").path()), 6);
 }
 
 #[test]

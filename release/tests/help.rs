@@ -6,20 +6,25 @@ use std::os::unix::ffi::OsStringExt;
 
 use common::run;
 
-const COMMANDS: [&str; 13] = [
+const COMMANDS: [&str; 18] = [
     "check",
     "chain",
     "list",
     "owner",
     "pointers",
     "diff",
+    "report",
     "draft",
     "shelf",
     "reordered",
+    "lint",
+    "explain",
     "assemble",
     "show",
     "load",
     "burn-in",
+    "help",
+    "completions",
 ];
 
 #[test]
@@ -42,7 +47,7 @@ fn help_of_each_command() {
         let ran = run(&[command, "--help"]);
         let help = ran.said(0);
         let usage = help.lines().next().expect("a usage line").strip_prefix("usage: ").expect("a usage");
-        assert!(usage.starts_with(&format!("release {command} ")), "{usage}");
+        assert!(format!("{usage} ").starts_with(&format!("release {command} ")), "{usage}");
         assert!(whole.contains(&format!("\n  {usage}  ")), "{usage}");
         assert!(help.contains("Exit status:") && help.lines().all(|line| line.len() <= 90));
         assert_eq!(run(&[command, "x", "-h", "y", "z", "w"]).said(0), help);
@@ -51,8 +56,8 @@ fn help_of_each_command() {
 
 #[test]
 fn no_command_and_unknown_commands() {
-    let commands = "the commands are check, chain, list, owner, pointers, diff, draft, shelf, reordered,\n\
-                    assemble, show, load and burn-in\n\
+    let commands = "the commands are check, chain, list, owner, pointers, diff, report, draft, shelf,\n\
+                    reordered, lint, explain, assemble, show, load, burn-in, help and completions\n\
                     `release --help` says what each does\n";
     assert_eq!(run::<&str>(&[]).complained(3), format!("release: expected a command\n{commands}"));
     let unknown = format!("release: expected a command, found chek\n{commands}");

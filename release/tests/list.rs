@@ -114,10 +114,19 @@ fn owners() {
     assert_eq!(run(&["owner", &owned, "scan"]).said(0), "scan\n");
     assert_eq!(run(&["owner", &owned, "last one"]).said(0), "live\n");
     assert_eq!(run(&["owner", &owned, "--", "--odd"]).said(0), "scan\n");
-    assert_eq!(run(&["owner", &owned, "nobody"]).said(0), "none\n");
-    assert_eq!(run(&["owner", &owned, ""]).said(0), "none\n");
+    let nobody = |name: &str| format!("release: {owned}: nobody owns {name}\n");
+    assert_eq!(run(&["owner", &owned, "nobody"]).complained(1), nobody("nobody"));
+    assert_eq!(run(&["owner", &owned, ""]).complained(1), nobody(""));
     assert_eq!(run(&["owner", "--json", &owned, "tile"]).said(0), "{\"refusal\":null,\"owner\":\"scan\"}\n");
-    assert_eq!(run(&["owner", &owned, "nobody", "--json"]).said(0), "{\"refusal\":null,\"owner\":null}\n");
+    assert_eq!(run(&["owner", &owned, "nobody", "--json"]).said(1), "{\"refusal\":null,\"owner\":null}\n");
+    // A root may be called none, or have no letters at all.
+    for root in ["none", "\"\""] {
+        let text = format!("head 1.0.0\nconstant G 1\nstruct {root} slot=info version=G\nend");
+        let record = folder.record("root.rec", &text);
+        let name = root.trim_matches('"');
+        assert_eq!(run(&["owner", &record, name]).said(0), format!("{name}\n"));
+        assert_eq!(run(&["owner", &record, "other"]).status, 1);
+    }
 }
 
 #[test]

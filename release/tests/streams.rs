@@ -14,7 +14,7 @@ use menqachu::record::Problem;
 use menqachu::text::{assemble, show};
 use menqachu::Side;
 
-const TEXT: &str = "head 1.0.0\nstruct t\nfield n scalar\nend\n";
+const TEXT: &str = "head 1.0.0\nconstant G 1\nstruct s slot=info version=G\nstruct t\nfield n scalar\nend\n";
 
 /// Every command with its options, where `FILE` is a record and `TEXT` a text; and the status it has.
 fn calls() -> Vec<(Vec<&'static str>, i32)> {
@@ -26,14 +26,24 @@ fn calls() -> Vec<(Vec<&'static str>, i32)> {
         ("list FILE", 0),
         ("list FILE --released", 0),
         ("list FILE --json", 0),
-        ("owner FILE t", 0),
-        ("owner FILE t --json", 0),
+        ("owner FILE s", 0),
+        ("owner FILE s --json", 0),
+        ("owner FILE t --json", 1),
         ("diff FILE FILE", 0),
         ("diff FILE FILE --json", 0),
+        ("report FILE FILE", 0),
+        ("lint FILE", 1),
+        ("lint FILE --json", 1),
+        ("explain", 0),
+        ("explain 35", 0),
+        ("explain 35 --json", 0),
         ("assemble TEXT", 0),
         ("show FILE", 0),
         ("--help", 0),
+        ("--version", 0),
         ("show --help", 0),
+        ("help show", 0),
+        ("completions", 0),
     ];
     lines.into_iter().map(|(line, status)| (line.split(' ').collect(), status)).collect()
 }
@@ -107,6 +117,29 @@ fn endless_input() {
     assert_eq!(ran.status.code(), Some(3));
 }
 
+/// A length above its limit is refused although the bytes that it states never come.
+#[test]
+fn a_length_without_its_bytes() {
+    let good = Folder::new("length_alone").record("good.rec", TEXT);
+    for call in [&["list", "-"][..], &["check", "-", &good], &["check", &good, "-"], &["show", "-"]] {
+        let mut child = command()
+            .args(call)
+            .stdin(Stdio::piped())
+            .stdout(Stdio::piped())
+            .stderr(Stdio::piped())
+            .spawn()
+            .expect("starts");
+        let mut pipe = child.stdin.take().expect("a pipe");
+        pipe.write_all(&0xFFFF_FFF0_u32.to_le_bytes()).and_then(|()| pipe.flush()).expect("four bytes");
+        // The pipe stays open: a command that waits for more would never end.
+        let output = child.wait_with_output().expect("ends");
+        drop(pipe);
+        let said = [output.stdout, output.stderr].concat();
+        assert_eq!(output.status.code(), Some(2), "{call:?}");
+        assert!(String::from_utf8_lossy(&said).contains("8 long: "), "{call:?}");
+    }
+}
+
 /// A file of drawn bytes, of a damaged record, or of a damaged text.
 fn drawn_input(drawn: &mut Drawn, records: &[Parts]) -> Vec<u8> {
     let whole = |drawn: &mut Drawn| records[drawn.below(records.len())].to_bytes();
@@ -149,7 +182,7 @@ fn small(records: Vec<Parts>) -> Vec<Parts> {
 /// The statuses that a command may have where its files can be read.
 fn allowed(name: &str) -> &'static [i32] {
     match name {
-        "check" | "chain" => &[0, 1, 2],
+        "check" | "chain" | "owner" | "lint" => &[0, 1, 2],
         _ => &[0, 2],
     }
 }
@@ -175,6 +208,8 @@ fn drawn_bytes_to_every_command() {
             ["check", &file, &good],
             ["chain", &good, &file],
             ["diff", &file, &good],
+            ["report", &file, &good],
+            ["report", &good, &file],
         ] {
             let ran = run_on(&call, b"");
             assert!(allowed(call[0]).contains(&ran.status), "round {round}: {call:?}: {}", ran.status);

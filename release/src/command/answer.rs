@@ -1,6 +1,8 @@
 //! An answer of the check, or a record's refusal, as a line for people and as JSON.
 
+use menqachu::explain::hint::hint;
 use menqachu::record::commands::{by_byte, Form};
+use menqachu::record::decode::commands;
 use menqachu::record::numbers::{reason, word, CONTROL, INSIDE};
 use menqachu::record::parts::STREAM_LIMIT;
 use menqachu::text::letters::shown;
@@ -75,9 +77,13 @@ impl Told {
         Told { number, message: None, refusal: Some(refusal) }
     }
 
-    /// A verdict's message, or nothing.
-    pub fn message(&self) -> &[u8] {
-        self.message.as_deref().unwrap_or_default().as_bytes()
+    pub fn number(&self) -> u32 {
+        self.number
+    }
+
+    /// The message of a verdict.
+    pub fn message(&self) -> Option<&str> {
+        self.message.as_deref()
     }
 
     pub fn accepted(&self) -> bool {
@@ -90,6 +96,13 @@ impl Told {
             1..=9 => DAMAGED,
             _ => STOPPED,
         }
+    }
+
+    /// What to do about a verdict on these records.
+    pub fn hint(&self, current: Record, released: Record) -> Option<String> {
+        let message = self.message.as_deref()?;
+        let [current, released] = [current, released].map(commands);
+        hint(self.number, message, &current.ok()?, &released.ok()?).map(|hint| hint.words)
     }
 
     pub fn line(&self) -> String {
@@ -178,6 +191,17 @@ fn reaches_past(place: usize, record: Record) -> bool {
             _ => false,
         }
     })
+}
+
+/// An object with one more key.
+pub fn with(value: Json, key: &'static str, more: Json) -> Json {
+    match value {
+        Json::Object(mut pairs) => {
+            pairs.push((key, more));
+            Json::Object(pairs)
+        }
+        other => other,
+    }
 }
 
 fn side_name(side: Side) -> &'static str {

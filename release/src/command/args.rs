@@ -80,8 +80,12 @@ fn with_value(rule: &Rule, word: &OsStr) -> Option<(&'static str, Option<OsStrin
 
 fn counted(rule: &Rule) -> String {
     let least = rule.least;
-    let operands = if least == 1 { "operand" } else { "operands" };
-    let more = if rule.most > least { " or more" } else { "" };
+    let operands = if rule.most == 1 { "operand" } else { "operands" };
+    let more = match rule.most {
+        most if most == least => String::new(),
+        usize::MAX => " or more".to_string(),
+        most => format!(" to {most}"),
+    };
     format!("{least}{more} {operands}")
 }
 

@@ -3,13 +3,14 @@
 use menqachu::record::room::list_whole;
 use menqachu::Side;
 
-use super::answer::Told;
+use super::answer::{with, Told};
 use super::args::Args;
 use super::check::told;
 use super::files::Given;
 use super::json::Json;
 use super::output::{print, print_line};
-use super::{files, notes, Done, Stop, DONE, STOPPED};
+use super::premises::Notes;
+use super::{alike, files, Done, Stop, DONE, STOPPED};
 
 pub fn run(args: &Args) -> Done {
     let given = args.operands.iter().map(|file| files::record(file)).collect::<Result<Vec<_>, _>>()?;
@@ -23,13 +24,15 @@ pub fn run(args: &Args) -> Done {
         return no_first(first, &refusal, args.json);
     }
     let links = links(first, offered);
+    let notes = notes(first, &links)?;
     if args.json {
-        print_line(&json(first, None, &links).to_string())?;
+        let value = json(first, None, &links);
+        print_line(&with(value, "premises", notes.json()).to_string())?;
     } else {
         let lines: String = links.iter().map(|link| link.line() + "\n").collect();
-        print(lines.as_bytes())?;
+        print((lines + &notes.lines()).as_bytes())?;
         for link in &links {
-            notes::tell(&[link.offered.record(), link.against.record()], b"", link.told.message());
+            alike::tell(&[link.offered.record(), link.against.record()], b"", link.told.message().unwrap_or_default().as_bytes());
         }
     }
     Ok(if links.iter().all(|link| link.told.accepted()) { DONE } else { STOPPED })
@@ -53,6 +56,15 @@ fn links<'a>(first: &'a Given, offered: &'a [Given]) -> Vec<Link<'a>> {
         links.push(link);
     }
     links
+}
+
+/// Where the first record and the accepted ones are outside the premises.
+fn notes(first: &Given, links: &[Link]) -> Result<Notes, Stop> {
+    let accepted = links.iter().filter(|link| link.told.accepted()).map(|link| link.offered);
+    let chain: Vec<(String, &Given)> =
+        std::iter::once(first).chain(accepted).map(|given| (given.shown(), given)).collect();
+    let chain: Vec<(&str, &Given)> = chain.iter().map(|(label, given)| (label.as_str(), *given)).collect();
+    Notes::of(&chain)
 }
 
 impl Link<'_> {
@@ -88,7 +100,8 @@ fn json(first: &Given, refusal: Option<Json>, links: &[Link]) -> Json {
 
 fn no_first(first: &Given, refusal: &Told, as_json: bool) -> Done {
     if as_json {
-        print_line(&json(first, Some(refusal.json()), &[]).to_string())?;
+        let value = json(first, Some(refusal.json()), &[]);
+        print_line(&with(value, "premises", Json::List(Vec::new())).to_string())?;
     }
     let line = refusal.line();
     Err(Stop::damaged(format!("{}: no chain can begin with it: {line}", first.shown())))

@@ -10,7 +10,7 @@ use super::args::Args;
 use super::files::{self, Given};
 use super::json::Json;
 use super::output::print_line;
-use super::{help, notes, problem, Done, Stop, DONE};
+use super::{alike, help, problem, Done, Stop, DONE};
 
 const KEY: &str = "changed";
 
@@ -50,7 +50,7 @@ fn remove(args: &Args, draft: &OsStr, name: &OsStr, released: &OsStr) -> Done {
     let name = name.as_encoded_bytes();
     let done = pair.edit(None, |changed, buffer| draft_remove(changed, buffer, name, pair.released.record()));
     if done.is_err() && !args.json {
-        notes::tell(&[pair.draft.record()], name, name);
+        alike::tell(&[pair.draft.record()], name, name);
     }
     done
 }

@@ -4,8 +4,9 @@ use std::ffi::{OsStr, OsString};
 use std::fs::File;
 use std::io::{self, Read, Write};
 use std::path::{Path, PathBuf};
+use std::sync::{Mutex, PoisonError};
 
-use menqachu::record::parts::Parts;
+use menqachu::record::parts::{Left, Parts};
 use menqachu::text::letters::{escaped, unseen};
 use menqachu::Record;
 
@@ -49,9 +50,9 @@ impl Given {
 /// A record from a file, or the next one from standard input.
 pub fn record(file: &OsStr) -> Result<Given, Stop> {
     let parts = if file == "-" {
-        read_parts(&mut io::stdin().lock(), file)
+        next_parts(&mut io::stdin().lock(), file)
     } else {
-        File::open(file).and_then(|mut opened| read_parts(&mut opened, file))
+        File::open(file).and_then(|mut opened| read_parts(&mut opened, file)).map(|(parts, _)| parts)
     };
     match parts {
         Ok(parts) => Ok(Given { file: file.to_os_string(), parts }),
@@ -86,8 +87,22 @@ fn write_like(path: &Path, beside: &OsStr, bytes: &[u8]) -> io::Result<()> {
     new.sync_all()
 }
 
+/// What the record before left on standard input.
+static LEFT: Mutex<Option<Left>> = Mutex::new(None);
+
+/// The next record from standard input.
+fn next_parts(from: &mut impl Read, file: &OsStr) -> io::Result<Parts> {
+    let mut left = LEFT.lock().unwrap_or_else(PoisonError::into_inner);
+    if let Some(left) = left.take() {
+        left.skip(from)?;
+    }
+    let (parts, rest) = read_parts(from, file)?;
+    *left = Some(rest);
+    Ok(parts)
+}
+
 /// Reads a record, with a note where the stream's length is four letters: its text form was meant, perhaps.
-fn read_parts(from: &mut impl Read, file: &OsStr) -> io::Result<Parts> {
+fn read_parts(from: &mut impl Read, file: &OsStr) -> io::Result<(Parts, Left)> {
     let mut length = Vec::new();
     from.take(4).read_to_end(&mut length)?;
     let letter = |byte: &u8| byte.is_ascii_graphic() || byte.is_ascii_whitespace();
@@ -95,7 +110,7 @@ fn read_parts(from: &mut impl Read, file: &OsStr) -> io::Result<Parts> {
         let file = shown_file(file);
         complain(&format!("{file} begins like a text; `release assemble` makes a record of a text"));
     }
-    Parts::read(&mut length.chain(from))
+    Parts::begin(&mut length.chain(from))
 }
 
 /// A text from a file or from standard input.

@@ -6,8 +6,8 @@ pub fn usage(help: &str) -> &str {
 }
 
 pub const COMMANDS: &str = "\
-the commands are check, chain, list, owner, pointers, diff, draft, shelf, reordered,
-assemble, show, load and burn-in
+the commands are check, chain, list, owner, pointers, diff, report, draft, shelf,
+reordered, lint, explain, assemble, show, load, burn-in, help and completions
 `release --help` says what each does";
 
 pub const WHOLE: &str = "\
@@ -21,14 +21,19 @@ Checks the record of a scan-record schema against the record of the last release
   release owner RECORD NAME [--json]         which versioned structure a name belongs to
   release pointers RECORD [--json]           whether every pointer names what it must
   release diff CURRENT RELEASED [--json]     both layouts side by side
+  release report CURRENT RELEASED > PAGE     the verdict and all changes for a browser
   release draft EDIT DRAFT .. [--json]       a type added, taken out, or changes counted
   release shelf CALL SHELF .. [--json]       drafts left under names, and taken back
   release reordered ONE OTHER [--json]       whether only the order of sections differs
+  release lint RECORD [--json]               what is proved of chains, and what not
+  release explain [NUMBER] [--json]          what a number means and what to do
   release assemble TEXT > RECORD             a record from its text form
   release show RECORD                        the text form of a record
   release load OUTCOME SEED > PAIR           a pair of records with a wanted outcome
   release burn-in --seeds A..B [--outcome N] [--json]  the pairs of many seeds, checked
-  release COMMAND --help                     more about a command
+  release help [COMMAND]                     this text, or more about a command
+  release completions                        completions for bash
+  release --version                          the version, and that of the proved library
 
 A record file holds the command stream and then the text pool, each as a length of
 four bytes (little-endian) and its bytes. - in place of a file is standard input;
@@ -37,10 +42,11 @@ where it is given more than once, the records follow each other there. Words aft
 
 Exit status:
   0  accepted, or done
-  1  a verdict (check), an offered record dropped (chain), a pointer that does not name
-     what it must (pointers), records of which it is not proved that they are accepted
-     alike (reordered), or a pair whose check gives another number than its outcome
-     (burn-in)
+  1  a verdict (check), an offered record dropped (chain), a name that nobody owns
+     (owner), a pointer that does not name what it must (pointers), records of which it
+     is not proved that they are accepted alike (reordered), a record outside the
+     premises or with a remark (lint), or a pair whose check gives another number than
+     its outcome (burn-in)
   2  a damaged record or shelf, or a text that cannot be assembled
   3  a usage error, a file that cannot be read or written, an edit that cannot be made
      (draft), or a name that cannot be set or is not held (shelf)
@@ -52,10 +58,17 @@ usage: release check CURRENT RELEASED [--json]
 Checks the record about to ship against the record of the last release and prints
 one line: `accepted`; or the verdict's number, word and message; or, for a damaged
 record, the refusal's number, word, side and place, and the command at that place.
+After a verdict a line with a hint says what to do: the lines of the text form to
+change where that is plain, and else what `release explain NUMBER` says.
+
+What is proved of a chain of accepted records has premises. Where an accepted record
+is outside one, a note follows, with the first place and how many more there are;
+`release lint` tells them of one record. The exit status does not change by it.
 
   --json  an object with the keys accepted, number, word, message (of a verdict),
           side, part, place, byte and command (of a refusal); what does not apply
-          is null
+          is null; hint (of a verdict); and premises, a list of objects with
+          premise, record, words (of document 01) and what
 
 Exit status: 0 accepted, 1 a verdict, 2 a damaged record, 3 a usage or file error.
 ";
@@ -65,11 +78,12 @@ usage: release chain FIRST OFFERED.. [--json]
 
 Checks each offered record against the last accepted one, where FIRST counts as
 accepted, and prints a line for each. A record that is not accepted is dropped, and
-the next one is checked against the same record again.
+the next one is checked against the same record again. Notes follow as those of
+check, over FIRST and all accepted records.
 
   --json  an object with the keys first, refusal (of FIRST), offered (a list of
-          objects with file, against and answer, which has the keys of check) and
-          last, the file of the last accepted record
+          objects with file, against and answer, which has the keys of check up to
+          command), last, the file of the last accepted record, and premises
 
 Exit status: 0 all are accepted, 1 one is dropped, 2 FIRST cannot be read as a
 released record, 3 a usage or file error.
@@ -99,11 +113,12 @@ usage: release owner RECORD NAME [--json]
 
 Prints the name of the versioned structure that NAME belongs to, which is the first
 of the structures in the slots metadata, runtime and info whose references lead to
-it; or `none`. The record is read as a current one.
+it. Where it belongs to nobody, nothing is printed but a line on standard error. The
+record is read as a current one.
 
-  --json  an object with the keys refusal and owner, which is null for none
+  --json  an object with the keys refusal and owner, which is null for nobody
 
-Exit status: 0 answered, 2 a damaged record, 3 a usage or file error.
+Exit status: 0 an owner, 1 nobody, 2 a damaged record, 3 a usage or file error.
 ";
 
 pub const POINTERS: &str = "\
@@ -139,6 +154,19 @@ first current field of its name, which is the one that the check compares it wit
           current; each of the last two is null or has offset, size and description
 
 Exit status: 0 shown, 2 a damaged record, 3 a usage or file error.
+";
+
+pub const REPORT: &str = "\
+usage: release report CURRENT RELEASED > PAGE
+
+Writes a page for a browser, in one file that loads nothing: the verdict in words with
+what to do about it; for every type that changed a map of its bytes, with what a
+reader built for the last release would take from the new ones; all differences, line
+by line of the text form; and where the two records are outside the premises of what
+is proved of chains.
+
+Exit status: 0 written, also for a verdict; 2 a damaged record, 3 a usage or file
+error.
 ";
 
 pub const DRAFT: &str = "\
@@ -215,6 +243,46 @@ Exit status: 0 the proof covers them, or they are equal; 1 it does not; 2 a dama
 record; 3 a usage or file error.
 ";
 
+pub const LINT: &str = "\
+usage: release lint RECORD [--json]
+
+Says where a record is outside the premises under which it is proved that no chain of
+accepted records loses or moves anything, a line for each place that begins with the
+premise:
+
+  unreleased  the head says unreleased
+  kinds       a field's kind is none of the sixteen
+  twice       a name or slot stands twice in its list or among the layouts
+  colon       a name has a colon
+  constant    a structure in one of the three slots names no constant
+  integer     the constant that it names is not there, or is a text
+  owned       a type belongs to no such structure, so no generation number covers it
+
+The last three are asked for what is proved of generation numbers alone. Lines that
+begin with `remark` are about sizes: scalar words other than u8, char, u16 and u32,
+and enums, aliases and bit fields that nothing declares. The record is read as a
+released one, which may lack some texts.
+
+  --json  an object with the keys refusal, premises (a list of objects with premise,
+          words, of document 01, and what) and remarks (a list of texts)
+
+Exit status: 0 nothing to say, 1 something is said, 2 a damaged record, 3 a usage or
+file error.
+";
+
+pub const EXPLAIN: &str = "\
+usage: release explain [NUMBER] [--json]
+
+Prints what a number means in the words of the text form, why it is a fault, what to
+do about it, and a smallest example with the answer that it gets. NUMBER may be the
+number's word too. Without it all numbers are listed with their words.
+
+  --json  an object with the keys number, word, means, why and cure; without NUMBER
+          a list of them
+
+Exit status: 0 explained, 3 a usage error, or a number that is never given.
+";
+
 pub const ASSEMBLE: &str = "\
 usage: release assemble TEXT > RECORD
 
@@ -282,4 +350,26 @@ and a bar on standard error where that is a terminal.
 
 Exit status: 0 each pair has its outcome, 1 one has not, 3 another outcome or seed,
 a usage or file error.
+";
+
+pub const HELP: &str = "\
+usage: release help [COMMAND]
+
+Prints the help of a command, as `release COMMAND --help` does, or that of the whole.
+
+Exit status: 0 printed, 3 a usage error.
+";
+
+pub const COMPLETIONS: &str = "\
+usage: release completions
+
+Prints a script that completes commands and options in bash. For one shell:
+
+  source <(release completions)
+
+For all, put it where bash looks for completions:
+
+  release completions > ~/.local/share/bash-completion/completions/release
+
+Exit status: 0 printed, 3 a usage error.
 ";

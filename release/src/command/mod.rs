@@ -1,5 +1,7 @@
 //! The subcommands and how one is chosen.
 
+mod about;
+mod alike;
 mod answer;
 mod args;
 mod assemble;
@@ -8,17 +10,20 @@ mod chain;
 mod check;
 mod diff;
 mod draft;
+mod explain;
 mod files;
 mod help;
 mod json;
+mod lint;
 mod list;
 mod load;
-mod notes;
 mod output;
 mod owner;
 mod pointers;
+mod premises;
 mod problem;
 mod reordered;
+mod report;
 mod rows;
 mod shelf;
 mod show;
@@ -30,7 +35,7 @@ use args::{Args, Asked, Rule};
 
 /// Accepted, or done.
 pub const DONE: u8 = 0;
-/// A verdict, an offered record dropped, a pointer that breaks the rule, or records that are not reordered.
+/// A verdict, an offered record dropped, a name without an owner, a pointer that breaks the rule, records that are not reordered, or a remark.
 pub const STOPPED: u8 = 1;
 /// A record that is refused, or a text that is not a record's.
 pub const DAMAGED: u8 = 2;
@@ -66,20 +71,25 @@ const JSON: &[&str] = &["--json"];
 const BURN_IN: &[&str] = &["--json", "--seeds=", "--outcome="];
 const MANY: usize = usize::MAX;
 
-static ENTRIES: [Entry; 13] = [
+static ENTRIES: [Entry; 18] = [
     Entry { rule: rule("check", help::CHECK, 2, 2, JSON), run: check::run },
     Entry { rule: rule("chain", help::CHAIN, 2, MANY, JSON), run: chain::run },
     Entry { rule: rule("list", help::LIST, 1, 1, &["--json", "--released"]), run: list::run },
     Entry { rule: rule("owner", help::OWNER, 2, 2, JSON), run: owner::run },
     Entry { rule: rule("pointers", help::POINTERS, 1, 1, JSON), run: pointers::run },
     Entry { rule: rule("diff", help::DIFF, 2, 2, JSON), run: diff::run },
+    Entry { rule: rule("report", help::REPORT, 2, 2, &[]), run: report::run },
     Entry { rule: rule("draft", help::DRAFT, 3, 4, JSON), run: draft::run },
     Entry { rule: rule("shelf", help::SHELF, 2, 5, JSON), run: shelf::run },
     Entry { rule: rule("reordered", help::REORDERED, 2, 2, JSON), run: reordered::run },
+    Entry { rule: rule("lint", help::LINT, 1, 1, JSON), run: lint::run },
+    Entry { rule: rule("explain", help::EXPLAIN, 0, 1, JSON), run: explain::run },
     Entry { rule: rule("assemble", help::ASSEMBLE, 1, 1, &[]), run: assemble::run },
     Entry { rule: rule("show", help::SHOW, 1, 1, &[]), run: show::run },
     Entry { rule: rule("load", help::LOAD, 2, 2, &[]), run: load::run },
     Entry { rule: rule("burn-in", help::BURN_IN, 0, 0, BURN_IN), run: burn_in::run },
+    Entry { rule: rule("help", help::HELP, 0, 1, &[]), run: about::help },
+    Entry { rule: rule("completions", help::COMPLETIONS, 0, 0, &[]), run: about::completions },
 ];
 
 const fn rule(
@@ -109,6 +119,9 @@ fn chosen(words: &[OsString]) -> Done {
     };
     if first == "--help" || first == "-h" {
         return output::print(help::WHOLE.as_bytes()).map(|()| DONE);
+    }
+    if first == "--version" {
+        return about::version();
     }
     let Some(entry) = ENTRIES.iter().find(|entry| first == entry.rule.name) else {
         let given = files::shown(first);

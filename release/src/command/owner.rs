@@ -6,8 +6,8 @@ use menqachu::{owner, Owner, Side};
 use super::answer::Told;
 use super::args::Args;
 use super::json::Json;
-use super::output::print_line;
-use super::{files, notes, problem, Done, DONE};
+use super::output::{complain, print_line};
+use super::{alike, files, problem, Done, DONE, STOPPED};
 
 pub fn run(args: &Args) -> Done {
     let given = files::record(&args.operands[0])?;
@@ -25,10 +25,14 @@ pub fn run(args: &Args) -> Done {
         let value = vec![("refusal", Json::Null), ("owner", Json::or_null(owner.map(Json::bytes)))];
         print_line(&Json::Object(value).to_string())?;
     } else {
-        print_line(&owner.map_or("none".to_string(), shown))?;
-        if owner.is_none() {
-            notes::tell(&[record], name, name);
+        match owner {
+            Some(owner) => print_line(&shown(owner))?,
+            // A root may have any name, so nobody is no word on standard output.
+            None => {
+                complain(&format!("{}: nobody owns {}", given.shown(), shown(name)));
+                alike::tell(&[record], name, name);
+            }
         }
     }
-    Ok(DONE)
+    Ok(if owner.is_some() { DONE } else { STOPPED })
 }

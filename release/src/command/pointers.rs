@@ -9,7 +9,7 @@ use menqachu::Side;
 use super::args::Args;
 use super::json::Json;
 use super::output::print_line;
-use super::{files, notes, problem, Done, DONE, STOPPED};
+use super::{alike, files, problem, Done, DONE, STOPPED};
 
 /// A pointer that names only the other of a structure and a family.
 const OTHER: u32 = 60;
@@ -25,7 +25,7 @@ pub fn run(args: &Args) -> Done {
     } else {
         print_line(&broken.as_ref().map_or("accepted".to_string(), line))?;
         let name = broken.as_ref().and_then(|broken| broken.name.as_deref());
-        notes::tell(&[given.record()], b"", name.unwrap_or_default());
+        alike::tell(&[given.record()], b"", name.unwrap_or_default());
     }
     Ok(if broken.is_some() { STOPPED } else { DONE })
 }

@@ -6,6 +6,7 @@ pub mod decode;
 pub mod encode;
 pub mod layout;
 pub mod numbers;
+pub mod owners;
 pub mod pair;
 pub mod parts;
 pub mod pointers;

@@ -5,6 +5,16 @@ pub fn word(number: u32) -> Option<&'static str> {
     WORDS.iter().find(|(of, _)| *of == number).map(|(_, word)| *word)
 }
 
+/// The number of a word.
+pub fn number(word: &str) -> Option<u32> {
+    WORDS.iter().find(|(_, of)| *of == word).map(|(number, _)| *number)
+}
+
+/// All numbers that have a word.
+pub fn all() -> impl Iterator<Item = u32> {
+    WORDS.iter().map(|(number, _)| *number)
+}
+
 /// What document 01 gives a refusal for, and document 02 (W-206) 4 and 7.
 pub fn reason(number: u32) -> Option<&'static str> {
     let index = usize::try_from(number).ok()?.checked_sub(1)?;

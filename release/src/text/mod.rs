@@ -12,3 +12,5 @@ mod write;
 pub use read::{assemble, Fault};
 pub use tokens::{quoted, written};
 pub use write::{constant_value, line, show, texts};
+
+impl std::error::Error for Fault {}
