@@ -144,7 +144,9 @@ pub extern "C" fn menqachu_pairs_compared(a: &[u8], b: &[u8]) -> usize
 
 // A shelf on which no name is held.
 #[no_mangle]
-pub extern "C" fn menqachu_shelf_new() -> Shelf {
+pub extern "C" fn menqachu_shelf_new() -> Shelf
+    ensures { λ r. ⌜ r ≡ newShelf ⌝ }
+{
     shelf_new()
 }
 
