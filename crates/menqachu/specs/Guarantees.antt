@@ -1,0 +1,89 @@
+-- What every exported call promises, a line each, and demand 3. The contracts of src/lib.rt are these lines, said of what the call was lent, of the
+-- buffer before and after, and of its answer; proofs/Guaranteed proves demand 3. Assumes nothing.
+use mathlib.Core.Path.{_≡_}
+use mathlib.Core.List.{List}
+use mathlib.Core.Bool.{Bool, cond}
+use Prim.Native.Nat.{ℕ}
+use lib.ListN.{length}
+use Rattle.record.specs.Base.{Str}
+use Rattle.record.specs.Scalars.{builtIn}
+use Rattle.record.specs.Reading.{Rec, rec}
+use Rattle.record.specs.declared.refusal.Side.the-variants.{Current, Released}
+use Rattle.layout.specs.Answer.{list, Answered}
+use Rattle.layout.specs.OwnerCall.{ownerFields, ownerAsked}
+use Rattle.layout.specs.declared.answer.Answer.{Answer}
+use Rattle.layout.specs.declared.owner.OwnerFields.{OwnerFields}
+use Rattle.definition.specs.Answer.{check}
+use Rattle.definition.specs.Offers.{Offer, Demand3}
+use Rattle.pointers.specs.Pointers.{pointers, Answers}
+use Rattle.load.specs.Load.{load}
+use Rattle.drafts.specs.Edits.{count, adding, removing, edit}
+use Rattle.drafts.specs.Answering.{editedAs}
+use Rattle.drafts.specs.Shelf.{setDraft, backDraft}
+use Rattle.drafts.specs.Shelving.{rowsOf, newShelf, shelvedAs}
+use Rattle.drafts.specs.declared.saying.DraftAnswer.{DraftAnswer}
+use Rattle.drafts.specs.declared.shelved.Shelf.{Shelf}
+use Rattle.drafts.specs.declared.shelved.ShelfAnswer.{ShelfAnswer}
+use Rattle.texts.specs.Back.{pairsCompared}
+
+-- a record as the calls read it: the stream and the pool that are lent, under the built-in scalar words
+abbrev pub lent : Str → Str → Rec
+lent stream pool = rec stream pool builtIn
+
+-- one record or two -----------------------------------------------------------------------------------------------------------------------
+
+-- a current record against a released one: 01's answer, and its text in the buffer
+abbrev pub CheckPromise : Rec → Rec → Str → Str → Answer → Type 0
+CheckPromise cur rel out after r = Answered out after (check (length out) cur rel) r
+
+-- the list of a record's layouts, read as released or as current: 01's answer, and the list in the buffer
+abbrev pub ListPromise : Bool → Rec → Str → Str → Answer → Type 0
+ListPromise released cur out after r = Answered out after (list (length out) (cond released Released Current) cur) r
+
+-- the owner of a name in a current record: the five numbers of 01's answer
+abbrev pub OwnerPromise : Rec → Str → OwnerFields → Type 0
+OwnerPromise cur name r = r ≡ ownerFields (ownerAsked cur name)
+
+-- the pointers of a current record: 02's answer, without a text
+abbrev pub PointersPromise : Rec → Answer → Type 0
+PointersPromise cur r = Answers (pointers cur) r
+
+-- a pair for an outcome and a seed: 02's answer, and the pair in the buffer
+abbrev pub LoadPromise : ℕ → ℕ → Str → Str → Answer → Type 0
+LoadPromise outcome seed out after r = Answered out after (load (length out) outcome seed) r
+
+-- two names: how many pairs of bytes their comparison looks at
+abbrev pub PairsComparedPromise : Str → Str → ℕ → Type 0
+PairsComparedPromise a b r = r ≡ pairsCompared a b
+
+-- drafts ----------------------------------------------------------------------------------------------------------------------------------
+
+-- the layouts in which a draft and a released copy differ: 02's answer and count
+abbrev pub DraftCountPromise : Rec → Str → DraftAnswer → Type 0
+DraftCountPromise copy draft r = editedAs r draft ≡ count builtIn copy draft
+
+-- a type added to a draft: 02's answer, count and buffer
+abbrev pub DraftAddPromise : Rec → ℕ → Rec → Str → Str → DraftAnswer → Type 0
+DraftAddPromise copy changed more draft after r = editedAs r after ≡ edit builtIn copy changed draft (adding more)
+
+-- a type taken out of a draft by its name: likewise
+abbrev pub DraftRemovePromise : Rec → ℕ → Str → Str → Str → DraftAnswer → Type 0
+DraftRemovePromise copy changed name draft after r = editedAs r after ≡ edit builtIn copy changed draft (removing name)
+
+-- a new shelf: no name is held
+abbrev pub ShelfNewPromise : Shelf → Type 0
+ShelfNewPromise r = r ≡ newShelf
+
+-- a draft held under a name: 02's answer, shelf and buffer of held drafts
+abbrev pub ShelfSetPromise : Shelf → Str → Str → Str → Str → ShelfAnswer → Type 0
+ShelfSetPromise shelf name draft held after r = shelvedAs r after ≡ setDraft builtIn (rowsOf shelf) name draft held
+
+-- the draft of a name brought back: 02's answer, shelf and buffer of the draft
+abbrev pub ShelfBackPromise : Rec → Shelf → Str → Str → Str → Str → ShelfAnswer → Type 0
+ShelfBackPromise copy shelf name held draft after r = shelvedAs r after ≡ backDraft builtIn copy (rowsOf shelf) name draft held
+
+-- what follows of the answers -------------------------------------------------------------------------------------------------------------
+
+-- demand 3: every first record, and every list of records offered to the check after it
+abbrev pub ChainPromise : Type 0
+ChainPromise = (first : Rec) (os : List Offer) → Demand3 first os
