@@ -1,18 +1,25 @@
 -- What every exported call promises, a line each, and demand 3. The contracts of src/lib.rt are these lines, said of what the call was lent, of the
--- buffer before and after, and of its answer; proofs/Guaranteed proves demand 3. Assumes nothing.
+-- buffer before and after, and of its answer; proofs/Guaranteed proves demand 3, proofs/Owners that the owner call goes by the schema. Assumes
+-- nothing.
 use mathlib.Core.Path.{_≡_}
 use mathlib.Core.List.{List}
+use mathlib.Core.Option.{Option, none, some}
 use mathlib.Core.Bool.{Bool, cond}
 use Prim.Native.Nat.{ℕ}
-use lib.ListN.{length}
+use lib.Dec.{eqb}
+use lib.ListN.{length, take, drop}
 use Rattle.record.specs.Base.{Str}
+use Rattle.record.specs.Schema.{Schema}
 use Rattle.record.specs.Scalars.{builtIn}
-use Rattle.record.specs.Reading.{Rec, rec}
+use Rattle.record.specs.Reading.{Rec, rec, read, refuse, reading}
+use Rattle.record.specs.Owner.{typesIn, ownerOf}
+use Rattle.record.specs.declared.refusal.Refusal.{Refusal}
 use Rattle.record.specs.declared.refusal.Side.the-variants.{Current, Released}
 use Rattle.layout.specs.Answer.{list, Answered}
 use Rattle.layout.specs.OwnerCall.{ownerFields, ownerAsked}
 use Rattle.layout.specs.declared.answer.Answer.{Answer}
 use Rattle.layout.specs.declared.owner.OwnerFields.{OwnerFields}
+use Rattle.layout.specs.declared.owner.OwnerAnswer.the-variants.{Unreadable}
 use Rattle.definition.specs.Answer.{check}
 use Rattle.definition.specs.Offers.{Offer, Demand3}
 use Rattle.pointers.specs.Pointers.{pointers, Answers}
@@ -83,6 +90,19 @@ abbrev pub ShelfBackPromise : Rec → Shelf → Str → Str → Str → Str → 
 ShelfBackPromise copy shelf name held draft after r = shelvedAs r after ≡ backDraft builtIn copy (rowsOf shelf) name draft held
 
 -- what follows of the answers -------------------------------------------------------------------------------------------------------------
+
+-- the name that the five numbers of an owner give: the bytes of their stretch, or none
+abbrev pub ownerName : Str → OwnerFields → Option Str
+ownerName pool r = cond (eqb (r .owned) 0) none (some (take (r .len) (drop (r .start) pool)))
+
+-- the owner call goes by the schema that the reading gives, and by its refusal
+pub record OwnerBySchema (cur : Rec) (name : Str) (r : OwnerFields) : Type 0 where
+  pub number : (s : Schema) → reading Current cur ≡ read s → r .number ≡ 0
+  pub owner : (s : Schema) → reading Current cur ≡ read s → ownerName (cur .pool) r ≡ ownerOf (typesIn s) name
+  pub refused : (x : Refusal) (place : ℕ) → reading Current cur ≡ refuse x place → r ≡ ownerFields (Unreadable x place)
+
+abbrev pub OwnersBySchema : Type 0
+OwnersBySchema = (cur : Rec) (name : Str) (r : OwnerFields) → OwnerPromise cur name r → OwnerBySchema cur name r
 
 -- demand 3: every first record, and every list of records offered to the check after it
 abbrev pub ChainPromise : Type 0
