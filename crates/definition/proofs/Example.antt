@@ -16,7 +16,7 @@ use Rattle.definition.specs.Answer.{check}
 use Rattle.definition.specs.Chain.{HasValue, HasMember, HasField, Holds, Laid, Kinds, slotsOf, Names, Governed}
 use Rattle.definition.specs.Offers.{Offer, chain, lastOf, lastAccepted, Sound, All, KeptIn, SameIn}
 use Rattle.definition.specs.Pass.{allOf}
-use Rattle.definition.proofs.Bytes.{nothing-lost, nothing-moved}
+use Rattle.definition.proofs.Bytes.{demand-3}
 use Rattle.definition.proofs.ByteEdges.{variant, begun, gap, new, entry, whole, written, says}
 use Rattle.definition.proofs.Premises.{kinded, kinded-is, named, named-is, held, held-is, governed, governed-is, laid-field, sound, all-sound}
 
@@ -168,7 +168,7 @@ raised-laid = record { found = record { name = type; fields = raised-fields }; i
 -- the first sentence -------------------------------------------------------------------------------------------------------------------------
 
 pub kept : KeptIn (lastAccepted first offers) (schemaOf first)
-kept = nothing-lost first offers first-kinds accepted-kinds (schemaOf first) first-read
+kept = demand-3 first offers .nothing-lost first-kinds accepted-kinds (schemaOf first) first-read
 
 -- the first record holds a value, a member and a field
 first-value : HasValue (schemaOf first .enums) (bytes "e") (bytes "a") (2 ^ 64 - 3)
@@ -215,11 +215,15 @@ last-field = kept .kept .fields first-field
 
 -- of the whole chain, where the last number is another one
 pub same : SameIn (lastAccepted first offers) constant type 3 first-fields
-same = nothing-moved first offers accepted-names root constant type accepted-under (schemaOf first) first-read 3 first-holds first-fields first-laid
+same =
+    demand-3 first offers .nothing-moved accepted-names root constant type accepted-under (schemaOf first) first-read 3 first-holds first-fields
+    first-laid
 
 -- of the chain from its raised record on, where the last number is the same
 pub same-since : SameIn (lastAccepted raised rest) constant type 4 raised-fields
-same-since = nothing-moved raised rest rest-names root constant type rest-under (schemaOf raised) raised-read 4 raised-holds raised-fields raised-laid
+same-since =
+    demand-3 raised rest .nothing-moved rest-names root constant type rest-under (schemaOf raised) raised-read 4 raised-holds raised-fields
+    raised-laid
 
 pub last-holds : Holds (same-since .schema .constants) constant 4
 last-holds =
