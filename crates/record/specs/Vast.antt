@@ -1,5 +1,5 @@
--- The types of a record in the order of the stream, as the code steps along them, and the first that is vast: the code's way to number 9 of 01, which is
--- defined in Reading. Assumes nothing.
+-- The types of a record in the order of the stream, as the code steps along them, and the first that is vast: the code's way to number 9 of 01,
+-- which is defined in Reading. Assumes nothing.
 use mathlib.Core.Path.{_≡_}
 use mathlib.Core.List.{List, [], _∷_, _++_}
 use mathlib.Core.Option.{Option, none, some}

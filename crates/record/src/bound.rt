@@ -22,7 +22,7 @@ ghost use Rattle.record.specs.Lists.{numberOf};
 ghost use Rattle.record.specs.Operands.{optNumberAt};
 ghost use Rattle.record.specs.Commands.{widthOf, fieldAt};
 ghost use Rattle.record.specs.Shapes.{limit, capped};
-ghost use Rattle.record.specs.Reading.{rec};
+ghost use Rattle.record.specs.Reading.{Rec, rec};
 ghost use Rattle.record.specs.Vast.{firstVast};
 ghost use Rattle.record.specs.Bound.{sumSizes, unitAt, numbersOf, extraAt, boundOf};
 
@@ -94,7 +94,8 @@ fn add_extra(total: u64, v: u64, stream: &[u8], at: usize) -> u64
     total
 }
 
-// Whether the bound is within the limit, where no scalar is larger than v. One walk makes both sums, since the one that is multiplied is so at its end.
+// Whether the bound is within the limit, where no scalar is larger than v. One walk makes both sums, since the one that is multiplied is so at
+// its end.
 fn within(v: u64, stream: &[u8]) -> bool
     ensures { λ r. ⌜ r ≡ leb (boundOf v (now (stream .entry))) limit ⌝ }
 {
@@ -115,7 +116,9 @@ fn within(v: u64, stream: &[u8]) -> bool
 
 // The place of the first type that is vast, sought only where the bound does not show that there is none.
 pub fn vast_type(rows: &[u8], stream: &[u8], pool: &[u8]) -> Vast
-    ensures { λ r. ⌜ r ≡ firstVast (rec (now (stream .entry)) (now (pool .entry)) (scalarsOf (now (rows .entry)))) 0 ⌝ }
+    ensures { λ r.
+        let cur : Rec = rec (now (stream .entry)) (now (pool .entry)) (scalarsOf (now (rows .entry))) in
+        ⌜ r ≡ firstVast cur 0 ⌝ }
 {
     if within(scalar_bound(rows), stream) {
         return Vast::NoneVast;

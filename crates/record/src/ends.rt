@@ -6,6 +6,7 @@ use crate::seek::after_at;
 ghost use mathlib.Core.Path.{_≡_};
 ghost use Prim.Native.Nat.{_≤_};
 ghost use lib.ListN.{length};
+ghost use Rattle.record.specs.Base.{Str};
 ghost use Rattle.record.specs.Index.{IndexRoom};
 ghost use Rattle.record.specs.Ends.{noted, noEnds, IndexedTo};
 
@@ -86,7 +87,9 @@ fn fill_both(stream: &[u8], pool: &[u8], index: &mut [u16]) -> Ends
 
 // Fills the index of a record, and finds where its lists end in the same walk: a check needs both.
 pub fn index_with_ends(stream: &[u8], pool: &[u8], index: &mut [u16]) -> Ends
-    ensures { λ r. ⌜ (length (now (stream .entry)) ≤ 32768 → IndexRoom (now (stream .entry)) (now (index .entry)) → IndexedTo (now (stream .entry)) (now (pool .entry)) (now (index .exit)) r) ⌝ }
+    ensures { λ r.
+        let s : Str = now (stream .entry) in
+        ⌜ (length s ≤ 32768 → IndexRoom s (now (index .entry)) → IndexedTo s (now (pool .entry)) (now (index .exit)) r) ⌝ }
 {
     if 32768 < stream.len() {
         return no_ends();

@@ -16,16 +16,17 @@ use crate::sizes::size_unindexed;
 use crate::sizes::sum;
 use crate::sizes::wide;
 ghost use mathlib.Core.Path.{_≡_};
-ghost use mathlib.Core.List.{[], _++_};
+ghost use mathlib.Core.List.{List, [], _++_};
 ghost use mathlib.Core.Bool.{_||_};
 ghost use lib.Dec.{eqb};
 ghost use Prim.Native.Nat.{_≤_};
 ghost use Rattle.record.specs.Base.{any};
 ghost use Rattle.record.specs.Scalars.{scalarsOf};
+ghost use Rattle.record.specs.Schema.{Field};
 ghost use Rattle.record.specs.Lists.{familyOf};
 ghost use Rattle.record.specs.Steps.{fieldsAt};
 ghost use Rattle.record.specs.Shapes.{places, prefix, limit, capped};
-ghost use Rattle.record.specs.Reading.{rec, schemaOf, large};
+ghost use Rattle.record.specs.Reading.{Rec, rec, schemaOf, large};
 ghost use Rattle.record.specs.Vast.{OpenedFrom, frontEnd, firstVast};
 
 // A type as the stream opens it: the place of its command, a family's front, and the cursor at its fields.
@@ -68,7 +69,9 @@ pub(crate) fn next_type(stream: &[u8], from: Cursor) -> TypeStep
 
 // Where the front of a family ends: its discriminant and its length field.
 pub(crate) fn front_end(rows: &[u8], stream: &[u8], pool: &[u8], f: Family) -> u64
-    ensures { λ r. ⌜ r ≡ capped (frontEnd (schemaOf (rec (now (stream .entry)) (now (pool .entry)) (scalarsOf (now (rows .entry))))) (familyOf (now (pool .entry)) f [] [])) ⌝ }
+    ensures { λ r.
+        let cur : Rec = rec (now (stream .entry)) (now (pool .entry)) (scalarsOf (now (rows .entry))) in
+        ⌜ r ≡ capped (frontEnd (schemaOf cur) (familyOf (cur .pool) f [] [])) ⌝ }
 {
     let discriminant = f.discriminant_type;
     let length = f.param_len_type;
@@ -80,7 +83,9 @@ pub(crate) fn front_end(rows: &[u8], stream: &[u8], pool: &[u8], f: Family) -> u
 // Whether one of the fields at a cursor, the first of them at this offset, ends past the limit.
 fn ends_past(rows: &[u8], stream: &[u8], pool: &[u8], from: Cursor, start: u64) -> bool
     requires { ⌜ start ≤ limit ⌝ }
-    ensures { λ r. ⌜ r ≡ any large (places (schemaOf (rec (now (stream .entry)) (now (pool .entry)) (scalarsOf (now (rows .entry))))) start (fieldsAt (now (stream .entry)) (now (pool .entry)) (from .at))) ⌝ }
+    ensures { λ r.
+        let cur : Rec = rec (now (stream .entry)) (now (pool .entry)) (scalarsOf (now (rows .entry))) in
+        ⌜ r ≡ any large (places (schemaOf cur) start (fieldsAt (cur .stream) (cur .pool) (from .at))) ⌝ }
 {
     let mut at = from.at;
     let mut offset = start;
@@ -105,7 +110,9 @@ pub enum Vast {
 
 // The place of the first type that is vast.
 pub fn first_vast(rows: &[u8], stream: &[u8], pool: &[u8]) -> Vast
-    ensures { λ r. ⌜ r ≡ firstVast (rec (now (stream .entry)) (now (pool .entry)) (scalarsOf (now (rows .entry)))) 0 ⌝ }
+    ensures { λ r.
+        let cur : Rec = rec (now (stream .entry)) (now (pool .entry)) (scalarsOf (now (rows .entry))) in
+        ⌜ r ≡ firstVast cur 0 ⌝ }
 {
     let mut cursor = Cursor::new();
     loop {
@@ -129,9 +136,12 @@ pub fn first_vast(rows: &[u8], stream: &[u8], pool: &[u8]) -> Vast
     }
 }
 
-// The same of a family's front and its common fields.
+// Whether a field of a family's front or one of its common fields ends past the limit.
 fn family_ends_past(rows: &[u8], stream: &[u8], pool: &[u8], f: Family, from: Cursor) -> bool
-    ensures { λ r. ⌜ r ≡ any large (places (schemaOf (rec (now (stream .entry)) (now (pool .entry)) (scalarsOf (now (rows .entry))))) 0 (prefix (familyOf (now (pool .entry)) f [] []) ++ fieldsAt (now (stream .entry)) (now (pool .entry)) (from .at))) ⌝ }
+    ensures { λ r.
+        let cur : Rec = rec (now (stream .entry)) (now (pool .entry)) (scalarsOf (now (rows .entry))) in
+        let front : List Field = prefix (familyOf (cur .pool) f [] []) in
+        ⌜ r ≡ any large (places (schemaOf cur) 0 (front ++ fieldsAt (cur .stream) (cur .pool) (from .at))) ⌝ }
 {
     let start = front_end(rows, stream, pool, f);
     if LIMIT < start {
