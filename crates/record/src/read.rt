@@ -1,5 +1,4 @@
 // The whole reading of a record: 8, then 7, then the commands from the front, then 9.
-use crate::bound::vast_type;
 use crate::command::Cursor;
 use crate::judge::Judged;
 use crate::letters::Letters;
@@ -7,6 +6,7 @@ use crate::letters::odd_letter;
 use crate::refusal::Refusal;
 use crate::refusal::Side;
 use crate::vast::Vast;
+use crate::vast::vast_type;
 ghost use mathlib.Core.Path.{_≡_};
 ghost use lib.ListN.{length};
 ghost use Rattle.record.specs.Scalars.{scalarsOf};

@@ -15,7 +15,7 @@ use crate::seek::Sought;
 use crate::text::bytes_of;
 ghost use mathlib.Core.Path.{_≡_};
 ghost use mathlib.Core.Option.{none};
-ghost use Prim.Native.Nat.{ℕ, _*_, _+_};
+ghost use Prim.Native.Nat.{_*_, _+_};
 ghost use Rattle.record.specs.Base.{Str, bytes, orElse};
 ghost use Rattle.record.specs.Scalars.{scalarsOf, primSize};
 ghost use Rattle.record.specs.Operands.{optTextAt, optNumberAt};
@@ -183,7 +183,7 @@ fn scalar_at(rows: &[u8], pool: &[u8], s: &[u8], at: usize) -> u64
 }
 
 // The number at a place of a command, 0 where it is left out.
-fn number_at(s: &[u8], at: usize) -> u64
+pub(crate) fn number_at(s: &[u8], at: usize) -> u64
     ensures { λ r. ⌜ r ≡ orElse (numberOf (optNumberAt (now (s .entry)) at)) 0 ⌝ }
 {
     wide(or_else(opt_number_at(s, at), 0))
@@ -227,12 +227,13 @@ pub(crate) fn size_unindexed(rows: &[u8], stream: &[u8], pool: &[u8], s: &[u8]) 
     field_size(rows, stream, pool, &[], s)
 }
 
+// The bytes that an array of two dimensions takes.
 fn array2d_size(rows: &[u8], pool: &[u8], s: &[u8]) -> u64
     ensures { λ r.
-        let word : Str = orElse (optOf (now (pool .entry)) (optTextAt (now (s .entry)) 10)) (bytes "u8") in
-        let lines : ℕ = orElse (numberOf (optNumberAt (now (s .entry)) 18)) 0 in
-        let columns : ℕ = orElse (numberOf (optNumberAt (now (s .entry)) 23)) 0 in
-        ⌜ r ≡ capped (primSize (scalarsOf (now (rows .entry))) word * lines * columns) ⌝ }
+        let x : Str = now (s .entry) in
+        let word : Str = orElse (optOf (now (pool .entry)) (optTextAt x 10)) (bytes "u8") in
+        ⌜ r ≡ capped (primSize (scalarsOf (now (rows .entry))) word
+        * orElse (numberOf (optNumberAt x 18)) 0 * orElse (numberOf (optNumberAt x 23)) 0) ⌝ }
 {
     let line = product(scalar_at(rows, pool, s, 10), number_at(s, 18));
     product(line, number_at(s, 23))
