@@ -150,7 +150,7 @@ fn joined_before(f: &[u8], k: usize, b: &[u8], g: &[u8], l: usize, d: &[u8]) -> 
     false
 }
 
-// The same, by words where the fronts are of one length: if they differ they decide, else what follows.
+// Whether one name in parts goes before another, by words where the fronts are of one length: if they differ they decide, else what follows.
 fn parts_before(f: &[u8], k: usize, b: &[u8], g: &[u8], l: usize, d: &[u8]) -> bool
     requires { ⌜ Parts (now f) k (now b) × Parts (now g) l (now d) ⌝ }
     ensures { λ r. ⌜ r ≡ before (joined (now (f .entry)) k (now (b .entry))) (joined (now (g .entry)) l (now (d .entry))) ⌝ }

@@ -4,9 +4,10 @@ use crate::table::few_types;
 use crate::table::type_table;
 ghost use Prim.Native.Nat.{_/_, _≤_};
 ghost use lib.ListN.{length, take};
+ghost use Rattle.record.specs.Base.{Str};
 ghost use Rattle.record.specs.Scalars.{scalarsOf};
 ghost use Rattle.record.specs.Index.{Indexed, Findable};
-ghost use Rattle.record.specs.Reading.{rec};
+ghost use Rattle.record.specs.Reading.{Rec, rec};
 ghost use Rattle.record.specs.Read.{Exact};
 ghost use Rattle.layout.specs.Room.{Room, SizesRoom};
 ghost use Rattle.layout.specs.Tables.{Tables};
@@ -21,14 +22,18 @@ fn fill_both(
     scratch: &mut [u32],
     sizes: &mut [u64],
 ) -> usize
-    requires { ⌜ (length (now stream) ≤ 32768) × Room (now stream) (now types) × Room (now stream) (now scratch) × SizesRoom (now stream) (now sizes) ⌝ }
-    ensures { λ r. ⌜ (Findable (now (stream .entry)) (now (pool .entry)) (now (index .entry)) → Exact (rec (now (stream .entry)) (now (pool .entry)) (scalarsOf (now (rows .entry)))) → Tables (rec (now (stream .entry)) (now (pool .entry)) (scalarsOf (now (rows .entry)))) (take r (now (types .exit))) (now (sizes .exit))) × (r ≤ length (now (stream .entry)) / 4) ⌝ }
+    requires { let s : Str = now stream in
+        ⌜ (length s ≤ 32768) × Room s (now types) × Room s (now scratch) × SizesRoom s (now sizes) ⌝ }
+    ensures { λ r.
+        let cur : Rec = rec (now (stream .entry)) (now (pool .entry)) (scalarsOf (now (rows .entry))) in
+        ⌜ (Findable (cur .stream) (cur .pool) (now (index .entry)) → Exact cur
+        → Tables cur (take r (now (types .exit))) (now (sizes .exit))) × (r ≤ length (cur .stream) / 4) ⌝ }
 {
     fill_sizes(rows, stream, pool, index, sizes);
     type_table(stream, pool, types, scratch)
 }
 
-// The same for a short record, without an index and without room for the fronts of names.
+// Fills the tables of a short record, without an index and without room for the fronts of names.
 pub(crate) fn fill_few(
     rows: &[u8],
     stream: &[u8],
@@ -37,8 +42,11 @@ pub(crate) fn fill_few(
     scratch: &mut [u32],
     sizes: &mut [u64],
 ) -> usize
-    requires { ⌜ (length (now stream) ≤ 32768) × Room (now stream) (now types) × Room (now stream) (now scratch) × SizesRoom (now stream) (now sizes) ⌝ }
-    ensures { λ r. ⌜ (Exact (rec (now (stream .entry)) (now (pool .entry)) (scalarsOf (now (rows .entry)))) → Tables (rec (now (stream .entry)) (now (pool .entry)) (scalarsOf (now (rows .entry)))) (take r (now (types .exit))) (now (sizes .exit))) × (r ≤ length (now (stream .entry)) / 4) ⌝ }
+    requires { let s : Str = now stream in
+        ⌜ (length s ≤ 32768) × Room s (now types) × Room s (now scratch) × SizesRoom s (now sizes) ⌝ }
+    ensures { λ r.
+        let cur : Rec = rec (now (stream .entry)) (now (pool .entry)) (scalarsOf (now (rows .entry))) in
+        ⌜ (Exact cur → Tables cur (take r (now (types .exit))) (now (sizes .exit))) × (r ≤ length (cur .stream) / 4) ⌝ }
 {
     fill_sizes(rows, stream, pool, &[], sizes);
     few_types(stream, pool, types, scratch)
@@ -54,7 +62,11 @@ pub fn fill_tables(
     scratch: &mut [u32],
     sizes: &mut [u64],
 ) -> usize
-    ensures { λ r. ⌜ (Indexed (now (stream .entry)) (now (pool .entry)) (now (index .entry)) → length (now (stream .entry)) ≤ 32768 → Room (now (stream .entry)) (now (types .entry)) → Room (now (stream .entry)) (now (scratch .entry)) → SizesRoom (now (stream .entry)) (now (sizes .entry)) → Exact (rec (now (stream .entry)) (now (pool .entry)) (scalarsOf (now (rows .entry)))) → Tables (rec (now (stream .entry)) (now (pool .entry)) (scalarsOf (now (rows .entry)))) (take r (now (types .exit))) (now (sizes .exit))) × (r ≤ length (now (types .entry))) ⌝ }
+    ensures { λ r.
+        let cur : Rec = rec (now (stream .entry)) (now (pool .entry)) (scalarsOf (now (rows .entry))) in
+        ⌜ (Indexed (cur .stream) (cur .pool) (now (index .entry)) → length (cur .stream) ≤ 32768
+        → Room (cur .stream) (now (types .entry)) → Room (cur .stream) (now (scratch .entry)) → SizesRoom (cur .stream) (now (sizes .entry))
+        → Exact cur → Tables cur (take r (now (types .exit))) (now (sizes .exit))) × (r ≤ length (now (types .entry))) ⌝ }
 {
     if 32768 < stream.len() {
         return 0;
