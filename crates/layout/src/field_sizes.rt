@@ -37,10 +37,10 @@ pub fn size_before(sizes: &[u64], after: usize) -> u64
 
 // The sizes of all fields.
 pub fn fill_sizes(rows: &[u8], stream: &[u8], pool: &[u8], index: &[u16], sizes: &mut [u64])
+    requires { ⌜ Findable (now stream) (now pool) (now index) × SizesRoom (now stream) (now sizes) ⌝ }
     ensures { λ r.
         let cur : Rec = rec (now (stream .entry)) (now (pool .entry)) (scalarsOf (now (rows .entry))) in
-        ⌜ (Findable (cur .stream) (cur .pool) (now (index .entry)) → SizesRoom (cur .stream) (now (sizes .entry))
-        → SizesTable cur (now (sizes .exit))) ⌝ }
+        ⌜ SizesTable cur (now (sizes .exit)) ⌝ }
 {
     let mut at = 0;
     loop {
