@@ -223,7 +223,7 @@ module _ (s p : Str) (w : List Scalar) (t : List ℕ) (k : Cursor) (offset : ℕ
       passed-sound : Sound (rec s p w) t (cursorAt (Body j) e)
       passed-sound = still-sound (rec s p w) t (Body k) (Body j) offset whole more z e sized-so i table-kept d
 
--- the same by the place of its command
+-- a field by the place of its command
 module _ (s p : Str) (w : List Scalar) (t : List ℕ) (k : Cursor) (offset : ℕ) (r : Sought) (i : SoughtFrom s Keys 11 (k .at) r) where
   pub no-spot : r ≡ Nowhere → SpotsFrom (rec s p w) t (cursorAt (Body k) offset) NoSpot
   no-spot m = spot-none s p w t k offset NoField (fields-none s (k .at) r i m) refl

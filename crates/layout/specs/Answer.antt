@@ -1,4 +1,5 @@
--- The answers of 01, What a check returns: number, side, place, length of the text, and the text; and what a call's answer says of one. Assumes nothing.
+-- The answers of 01, What a check returns: number, side, place, length of the text, and the text; and what a call's answer says of one.
+-- Assumes nothing.
 use mathlib.Core.Path.{_≡_}
 use mathlib.Core.List.{[]}
 use mathlib.Core.Bool.{cond}

@@ -1,4 +1,5 @@
--- A type by a number: the types of a record in flattening order as the places of their commands. The code's way to the layouts of Layout. Assumes nothing.
+-- A type by a number: the types of a record in flattening order as the places of their commands. The code's way to the layouts of Layout.
+-- Assumes nothing.
 use mathlib.Core.List.{List, [], _∷_, _++_}
 use mathlib.Core.Bool.{cond}
 use Prim.Native.Nat.{ℕ, _+_, _-_, _*_, _/_, _%_}

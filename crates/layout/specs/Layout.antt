@@ -1,4 +1,5 @@
--- Flattening: add_type, variant_name, of_schema and of_released of layout.rs, and 01, Flattening. Both sides are flattened by one function. Assumes nothing.
+-- Flattening: add_type, variant_name, of_schema and of_released of layout.rs, and 01, Flattening. Both sides are flattened by one function.
+-- Assumes nothing.
 use mathlib.Core.List.{List, [], _∷_, _++_, map}
 use mathlib.Core.Option.{Option}
 use Rattle.record.specs.Base.{Str, eqs, find}

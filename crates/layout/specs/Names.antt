@@ -1,5 +1,5 @@
--- The name of a type in parts, as the code compares and puts it: a front, up to two colons and a back. The name itself is variant_name of layout.rs, defined
--- in Layout. Assumes nothing.
+-- The name of a type in parts, as the code compares and puts it: a front, up to two colons and a back. The name itself is variant_name of
+-- layout.rs, defined in Layout. Assumes nothing.
 use mathlib.Core.List.{[], _∷_, _++_}
 use mathlib.Core.Option.{Option, none, some}
 use mathlib.Core.Bool.{Bool, cond, _&&_}

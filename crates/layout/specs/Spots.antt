@@ -1,5 +1,5 @@
--- The fields of a type one after the other: what the code's cursor has ahead, and what a step along it answers. The fields are add_type and fam_prefix of
--- layout.rs, defined in Shapes of record. Assumes nothing.
+-- The fields of a type one after the other: what the code's cursor has ahead, and what a step along it answers. The fields are add_type and
+-- fam_prefix of layout.rs, defined in Shapes of record. Assumes nothing.
 use mathlib.Core.Path.{_≡_}
 use mathlib.Core.List.{List, [], _∷_, _++_, List·Memᴰ}
 use mathlib.Core.Option.{none}
@@ -108,6 +108,7 @@ pub record TypeSpots (s : Str) (h : ℕ) (c : SpotCursor) : Type 0 where
 
 -- the first field of a name from a cursor on is the first from another on, which is not further from the end
 pub record OthersPassed (s p : Str) (t : List ℕ) (n : Str) (c d : SpotCursor) : Type 0 where
-  pub same : (w : List Scalar) → Sound (rec s p w) t c → find (λ (f : Place). eqs (f .name) n) (placesFrom (rec s p w) c) ≡ find (λ (f : Place). eqs (f .name) n) (placesFrom (rec s p w) d)
+  pub same : (w : List Scalar) → Sound (rec s p w) t c
+      → find (λ (f : Place). eqs (f .name) n) (placesFrom (rec s p w) c) ≡ find (λ (f : Place). eqs (f .name) n) (placesFrom (rec s p w) d)
   pub sound : (w : List Scalar) → Sound (rec s p w) t c → Sound (rec s p w) t d
   pub left : spotsLeft s d ≤ spotsLeft s c

@@ -10,10 +10,10 @@ use record::words::skip;
 use record::words::text_before;
 use record::writer::put_text;
 use record::writer::put_worded;
-ghost use Prim.Native.Nat.{_+_, _≤_};
+ghost use Prim.Native.Nat.{ℕ, _+_, _≤_};
 ghost use mathlib.Core.Path.{_≡_};
 ghost use lib.ListN.{length, getD};
-ghost use Rattle.record.specs.Base.{before};
+ghost use Rattle.record.specs.Base.{Str, before};
 ghost use Rattle.record.specs.Write.{Puts};
 ghost use Rattle.layout.specs.Handles.{nameAt, familyPart, placePart, typeName};
 ghost use Rattle.layout.specs.Names.{joined, frontOf, colonsOf, backOf, hasParts, Parts, nameOf, nameTextAt, stretchesOf};
@@ -150,7 +150,7 @@ fn joined_before(f: &[u8], k: usize, b: &[u8], g: &[u8], l: usize, d: &[u8]) -> 
     false
 }
 
-// The same, by words where the fronts are of one length: if they differ they decide, else what follows.
+// Whether one name in parts goes before another, by words where the fronts are of one length: if they differ they decide, else what follows.
 fn parts_before(f: &[u8], k: usize, b: &[u8], g: &[u8], l: usize, d: &[u8]) -> bool
     requires { ⌜ Parts (now f) k (now b) × Parts (now g) l (now d) ⌝ }
     ensures { λ r. ⌜ r ≡ before (joined (now (f .entry)) k (now (b .entry))) (joined (now (g .entry)) l (now (d .entry))) ⌝ }
@@ -223,7 +223,9 @@ pub(crate) fn type_has(
 
 // Whether one type's name goes before another's; in one family, and of two that are no variants, the own names decide.
 pub fn type_before(stream: &[u8], pool: &[u8], g: u32, h: u32) -> bool
-    ensures { λ r. ⌜ r ≡ before (typeName (now (stream .entry)) (now (pool .entry)) g) (typeName (now (stream .entry)) (now (pool .entry)) h) ⌝ }
+    ensures { λ r.
+        let key : ℕ → Str = typeName (now (stream .entry)) (now (pool .entry)) in
+        ⌜ r ≡ before (key g) (key h) ⌝ }
 {
     if family_part(g) == family_part(h) {
         let a = name_at(stream, pool, place_part(g));

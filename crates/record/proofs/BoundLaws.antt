@@ -21,8 +21,7 @@ use Rattle.record.specs.Steps.{enumIn, aliasIn, bitfieldIn}
 use Rattle.record.specs.Kind.{kindOf}
 use Rattle.record.specs.Shapes.{enumSize, aliasSize, bitfieldSize, sized, scalarSize, sizeAs, shapeSize, placeOf, places, prefix, limit, capped}
 use Rattle.record.specs.Reading.{rec, schemaFrom, schemaOf, openedAt, opened, large, vast}
-use Rattle.record.specs.Vast.{openedFrom, discSize, lenSize, frontEnd, vastAt, firstVast}
-use Rattle.record.specs.Bound.{sumSizes, unitAt, numbersOf, extraAt, totalOf, unitOf, boundOf}
+use Rattle.record.specs.Vast.{openedFrom, discSize, lenSize, frontEnd, vastAt, firstVast, sumSizes, unitAt, numbersOf, extraAt, totalOf, unitOf, boundOf}
 use Rattle.record.specs.declared.kind.Kind.{Kind}
 use Rattle.record.specs.declared.kind.Kind.the-variants as K
 use Rattle.record.specs.declared.command as D

@@ -16,7 +16,9 @@ use Rattle.record.specs.Commands.{constantAt, aliasAt, enumAt, bitfieldA
 use Rattle.record.specs.Commands as Commands
 use Rattle.record.specs.Schema.{Const, Key, Alias, Enum, BitField, Struct, Family}
 use Rattle.record.specs.Lists.{constantOf, keyOf, aliasOf, enumOf, bitfieldOf, structOf, familyOf}
-use Rattle.record.specs.Steps.{valuesAt, membersAt, fieldsAt, variantsAt, constantsAt, aliasesAt, enumsAt, bitfieldsAt, structsAt, familiesAt, unstoredAt, constantIn, aliasIn, enumIn, bitfieldIn, structIn, familyIn}
+use Rattle.record.specs.Steps.{valuesAt, membersAt, fieldsAt, variantsAt}
+use Rattle.record.specs.Steps.{constantsAt, aliasesAt, enumsAt, bitfieldsAt, structsAt, familiesAt, unstoredAt}
+use Rattle.record.specs.Steps.{constantIn, aliasIn, enumIn, bitfieldIn, structIn, familyIn}
 use Rattle.record.specs.Seek.{afterAt}
 use Rattle.record.specs.declared.seek.Sought.{Sought}
 use Rattle.record.specs.declared.seek.Sought.the-variants.{Nowhere, At}
@@ -39,7 +41,10 @@ declaredName s p at = textOf p (textAt (drop at s) 1)
 
 -- whether a command declares a name that look-ups ask for: a constant, an alias, an enum, a bit field, a structure, a family or an unstored key
 unfoldable pub declares : ℕ → Bool
-declares b = cond (eqb b 8) true (cond (eqb b 9) true (cond (eqb b 3) true (cond (eqb b 4) true (cond (eqb b 2) true (cond (eqb b 13) true (eqb b 6))))))
+declares b =
+    cond (eqb b 8) true
+    (cond (eqb b 9) true
+    (cond (eqb b 3) true (cond (eqb b 4) true (cond (eqb b 2) true (cond (eqb b 13) true (eqb b 6))))))
 
 -- whether the command at a place has this number and name
 unfoldable pub isNamed : Str → Str → ℕ → Str → ℕ → Bool
@@ -126,7 +131,7 @@ firstPlace s p b n = hitIn (isNamed s p b n) (declaredPlaces s) 0
 pub record FirstNamed (s p : Str) (x : List ℕ) (b : ℕ) (n : Str) (r : ℕ) : Type 0 where
   pub first : Indexed s p x → r ≡ firstPlace s p b n
 
--- the same of the last one that has a flag, which stands first among the places
+-- the last command of a number and a name that has a flag, which stands first among the places, where the index is the record's
 pub record LastNamed (s p : Str) (x : List ℕ) (b f : ℕ) (n : Str) (r : ℕ) : Type 0 where
   pub last : Indexed s p x → r ≡ firstIn (counts s p b f n) (declaredPlaces s)
 
@@ -173,7 +178,7 @@ pub record PlaceNamed (s p n : Str) (b : ℕ) (r : Sought) : Type 0 where
   pub struct : b ≡ 8 → structIn n (structsAt s p 0) ≡ structPlaced s p r
   pub family : b ≡ 9 → familyIn n (familiesAt s p 0) ≡ familyPlaced s p r
 
--- the same where the index is the record's
+-- the answer is such a place, where the index is the record's
 pub record Declared (s p : Str) (x : List ℕ) (b : ℕ) (n : Str) (r : Sought) : Type 0 where
   pub named : Indexed s p x → PlaceNamed s p n b r
 
@@ -194,7 +199,7 @@ pub record PlaceLast (s p n : Str) (b f : ℕ) (r : Sought) : Type 0 where
   pub api-enum : b ≡ 4 → f ≡ 8 → findLast (λ (e : Enum). e .api && eqs (e .name) n) (enumsAt s p 0) ≡ enumPlaced s p r
   pub standalone : b ≡ 9 → f ≡ 16 → findLast (λ (m : Family). m .standalone && eqs (m .name) n) (familiesAt s p 0) ≡ familyPlaced s p r
 
--- the same where the index is the record's
+-- the answer is such a place, where the index is the record's
 pub record LastDeclared (s p : Str) (x : List ℕ) (b f : ℕ) (n : Str) (r : Sought) : Type 0 where
   pub named : Indexed s p x → PlaceLast s p n b f r
 

@@ -6,7 +6,9 @@ use lib.ListN.{length}
 use lib.Dec.{eqb}
 use Rattle.record.specs.Base.{Str, bytes, eqs}
 use Rattle.record.specs.declared.kind.Kind.{Kind}
-use Rattle.record.specs.declared.kind.Kind.the-variants.{Scalar, Enum, TypeAlias, Bitfield, InlineArray, InlineArray2d, CstrPtr, StructPtr, StructArrayPtr, StructPtrArrayPtr, TaggedFamPtr, SimpleFamPtr, OpaquePtr, FnPtr, Padding, Text, Other}
+use Rattle.record.specs.declared.kind.Kind.the-variants.{Scalar, Enum, TypeAlias, Bitfield, InlineArray, InlineArray2d, CstrPtr, StructPtr}
+use Rattle.record.specs.declared.kind.Kind.the-variants.{StructArrayPtr, StructPtrArrayPtr, TaggedFamPtr, SimpleFamPtr, OpaquePtr, FnPtr}
+use Rattle.record.specs.declared.kind.Kind.the-variants.{Padding, Text, Other}
 
 pub record Word : Type 0 where
   pub spelt : Str

@@ -1,5 +1,5 @@
--- The reading of a record: a stream of commands and a pool of texts to a schema, or a refusal with its place, in the order of 01, What a check returns.
--- Assumes nothing.
+-- The reading of a record: a stream of commands and a pool of texts to a schema, or a refusal with its place, in the order of 01, What a check
+-- returns. Assumes nothing.
 use mathlib.Core.List.{List, [], _∷_, _++_}
 use mathlib.Core.Option.{Option, none, some}
 use mathlib.Core.Bool.{Bool, true, false, _&&_, _||_, cond}

@@ -1,15 +1,15 @@
 use Prim.Native.Nat.{_-_}
 use lib.ListN.{length}
-use Rattle.record.specs.Bound.{unitAt, extraAt}
+use Rattle.record.specs.Vast.{unitAt, extraAt}
 use Rattle.record.proofs.SeekLaws.{after-nearer, after-whole}
 use Rattle.record.proofs.BoundLaws.{Totalling, totalling, total-more, within-is}
 use borrow.Author.Needs.{needs}
-use Rattle.record.proofs.bound.within.Statement.{statement}
-use Rattle.record.proofs.bound.within.Tie as tie
-use Rattle.record.proofs.bound.within.Reads as reads
-use Rattle.record.proofs.bound.within.Lts as lts
-use Rattle.record.proofs.bound.add_extra.Reads as add-extra-reads
-use Rattle.record.proofs.bound.add_unit.Reads as add-unit-reads
+use Rattle.record.proofs.vast.within.Statement.{statement}
+use Rattle.record.proofs.vast.within.Tie as tie
+use Rattle.record.proofs.vast.within.Reads as reads
+use Rattle.record.proofs.vast.within.Lts as lts
+use Rattle.record.proofs.vast.add_extra.Reads as add-extra-reads
+use Rattle.record.proofs.vast.add_unit.Reads as add-unit-reads
 use Rattle.record.proofs.seek.after_at.Reads as after-at-reads
 use Rattle.record.proofs.sizes.product.Reads as product-reads
 use Rattle.record.proofs.sizes.sum.Reads as sum-reads

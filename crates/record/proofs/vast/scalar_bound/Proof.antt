@@ -2,10 +2,10 @@ use Prim.Native.Nat.{_-_}
 use lib.ListN.{length}
 use Rattle.record.proofs.BoundLaws.{Summing, summing, words-done, words-more, words-over}
 use borrow.Author.Needs.{needs}
-use Rattle.record.proofs.bound.scalar_bound.Statement.{statement}
-use Rattle.record.proofs.bound.scalar_bound.Tie as tie
-use Rattle.record.proofs.bound.scalar_bound.Reads as reads
-use Rattle.record.proofs.bound.scalar_bound.Lts as lts
+use Rattle.record.proofs.vast.scalar_bound.Statement.{statement}
+use Rattle.record.proofs.vast.scalar_bound.Tie as tie
+use Rattle.record.proofs.vast.scalar_bound.Reads as reads
+use Rattle.record.proofs.vast.scalar_bound.Lts as lts
 use Rattle.record.proofs.sizes.sum.Reads as sum-reads
 
 abbrev Inv-loop : tie.InvT-loop

@@ -1,10 +1,10 @@
 use Rattle.record.proofs.BoundLaws.{field-there, extra-laws}
 use borrow.Author.Needs.{needs}
-use Rattle.record.proofs.bound.add_extra.Statement.{statement}
-use Rattle.record.proofs.bound.add_extra.Tie as tie
-use Rattle.record.proofs.bound.add_extra.Reads as reads
-use Rattle.record.proofs.bound.add_extra.Lts as lts
-use Rattle.record.proofs.bound.add_numbers.Reads as add-numbers-reads
+use Rattle.record.proofs.vast.add_extra.Statement.{statement}
+use Rattle.record.proofs.vast.add_extra.Tie as tie
+use Rattle.record.proofs.vast.add_extra.Reads as reads
+use Rattle.record.proofs.vast.add_extra.Lts as lts
+use Rattle.record.proofs.vast.add_numbers.Reads as add-numbers-reads
 use Rattle.record.proofs.cut.from.Reads as from-reads
 use Rattle.record.proofs.le.byte_at.Reads as byte-at-reads
 

@@ -1,11 +1,11 @@
 use Rattle.record.proofs.BoundLaws.{small-none}
 use borrow.Author.Needs.{needs}
-use Rattle.record.proofs.bound.vast_type.Statement.{statement}
-use Rattle.record.proofs.bound.vast_type.Tie as tie
-use Rattle.record.proofs.bound.vast_type.Reads as reads
-use Rattle.record.proofs.bound.vast_type.Lts as lts
-use Rattle.record.proofs.bound.scalar_bound.Reads as scalar-bound-reads
-use Rattle.record.proofs.bound.within.Reads as within-reads
+use Rattle.record.proofs.vast.vast_type.Statement.{statement}
+use Rattle.record.proofs.vast.vast_type.Tie as tie
+use Rattle.record.proofs.vast.vast_type.Reads as reads
+use Rattle.record.proofs.vast.vast_type.Lts as lts
+use Rattle.record.proofs.vast.scalar_bound.Reads as scalar-bound-reads
+use Rattle.record.proofs.vast.within.Reads as within-reads
 use Rattle.record.proofs.vast.first_vast.Reads as first-vast-reads
 
 scalar-bound-requires : tie.Need-scalar-bound-requires

@@ -1,33 +1,33 @@
 use Rattle.record.proofs.BoundLaws.{numbers-are}
 use borrow.Author.Needs.{needs}
-use Rattle.record.proofs.bound.numbers.Statement.{statement}
-use Rattle.record.proofs.bound.numbers.Tie as tie
-use Rattle.record.proofs.bound.numbers.Reads as reads
-use Rattle.record.proofs.bound.numbers.Lts as lts
-use Rattle.record.proofs.bound.number.Reads as number-reads
+use Rattle.record.proofs.vast.numbers.Statement.{statement}
+use Rattle.record.proofs.vast.numbers.Tie as tie
+use Rattle.record.proofs.vast.numbers.Reads as reads
+use Rattle.record.proofs.vast.numbers.Lts as lts
+use Rattle.record.proofs.sizes.number_at.Reads as number-at-reads
 use Rattle.record.proofs.sizes.product.Reads as product-reads
 use Rattle.record.proofs.sizes.sum.Reads as sum-reads
 
-number-requires : tie.Need-number-requires
-number-requires c κs = search needs
+number-at-requires : tie.Need-number-at-requires
+number-at-requires c κs = search needs
 
 product-requires : tie.Need-product-requires
 product-requires c κs = search needs
 
-number-requires-2 : tie.Need-number-requires-2
-number-requires-2 c κs = search needs
+number-at-requires-2 : tie.Need-number-at-requires-2
+number-at-requires-2 c κs = search needs
 
 product-requires-2 : tie.Need-product-requires-2
 product-requires-2 c κs = search needs
 
-number-requires-3 : tie.Need-number-requires-3
-number-requires-3 c κs = search needs
+number-at-requires-3 : tie.Need-number-at-requires-3
+number-at-requires-3 c κs = search needs
 
 product-requires-3 : tie.Need-product-requires-3
 product-requires-3 c κs = search needs
 
-number-requires-4 : tie.Need-number-requires-4
-number-requires-4 c κs = search needs
+number-at-requires-4 : tie.Need-number-at-requires-4
+number-at-requires-4 c κs = search needs
 
 sum-requires : tie.Need-sum-requires
 sum-requires c κs = search needs
@@ -42,13 +42,13 @@ pub numbers-spec : {M : Type 1} → statement M
 numbers-spec =
     tie.close
     (tie.spec
-    number-requires
+    number-at-requires
     product-requires
-    number-requires-2
+    number-at-requires-2
     product-requires-2
-    number-requires-3
+    number-at-requires-3
     product-requires-3
-    number-requires-4
+    number-at-requires-4
     sum-requires
     sum-requires-2
     returns)

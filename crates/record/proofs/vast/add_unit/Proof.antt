@@ -1,9 +1,9 @@
 use Rattle.record.proofs.BoundLaws.{unit-laws}
 use borrow.Author.Needs.{needs}
-use Rattle.record.proofs.bound.add_unit.Statement.{statement}
-use Rattle.record.proofs.bound.add_unit.Tie as tie
-use Rattle.record.proofs.bound.add_unit.Reads as reads
-use Rattle.record.proofs.bound.add_unit.Lts as lts
+use Rattle.record.proofs.vast.add_unit.Statement.{statement}
+use Rattle.record.proofs.vast.add_unit.Tie as tie
+use Rattle.record.proofs.vast.add_unit.Reads as reads
+use Rattle.record.proofs.vast.add_unit.Lts as lts
 use Rattle.record.proofs.cut.from.Reads as from-reads
 use Rattle.record.proofs.le.byte_at.Reads as byte-at-reads
 use Rattle.record.proofs.le.u32_at.Reads as u32-at-reads

@@ -1,10 +1,10 @@
 use Rattle.record.proofs.BoundLaws.{numbers-laws}
 use borrow.Author.Needs.{needs}
-use Rattle.record.proofs.bound.add_numbers.Statement.{statement}
-use Rattle.record.proofs.bound.add_numbers.Tie as tie
-use Rattle.record.proofs.bound.add_numbers.Reads as reads
-use Rattle.record.proofs.bound.add_numbers.Lts as lts
-use Rattle.record.proofs.bound.numbers.Reads as numbers-reads
+use Rattle.record.proofs.vast.add_numbers.Statement.{statement}
+use Rattle.record.proofs.vast.add_numbers.Tie as tie
+use Rattle.record.proofs.vast.add_numbers.Reads as reads
+use Rattle.record.proofs.vast.add_numbers.Lts as lts
+use Rattle.record.proofs.vast.numbers.Reads as numbers-reads
 use Rattle.record.proofs.sizes.sum.Reads as sum-reads
 
 shared-slice-read-if1 : tie.Need-shared-slice-read-if1
