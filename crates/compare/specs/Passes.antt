@@ -1,0 +1,84 @@
+-- The passes of a comparison by their numbers, and what the code has at hand when it runs them. Assumes nothing.
+use mathlib.Core.Path.{_≡_}
+use mathlib.Core.List.{List}
+use Prim.Native.Nat.{ℕ, _+_, _-_, _≤_, _<_}
+use lib.ListN.{length, getD, take, drop}
+use Rattle.record.specs.Base.{Str}
+use Rattle.record.specs.Stretch.{textOf}
+use Rattle.record.specs.Lists.{optOf}
+use Rattle.record.specs.Ends.{IndexedTo}
+use Rattle.record.specs.Reading.{Rec, schemaOf}
+use Rattle.record.specs.Read.{Exact}
+use Rattle.record.specs.declared.text.Text.{Text}
+use Rattle.record.specs.declared.operands.OptText.{OptText}
+use Rattle.layout.specs.Room.{Room, SizesRoom}
+use Rattle.layout.specs.Tables.{Tables}
+use Rattle.definition.specs.Verdicts as D
+use Rattle.definition.specs.Pass.{required}
+use Rattle.definition.specs.Compare.{passList, firstOf}
+use Rattle.verdicts.specs.Meaning.{meaning}
+use Rattle.verdicts.specs.declared.verdict.Verdict.{Verdict}
+use Rattle.verdicts.specs.declared.verdict.Verdict.the-variants.{Passed}
+use Rattle.compare.specs.CoverTable.{Changes}
+use Rattle.compare.specs.declared.compare.Facts.{Facts}
+use Rattle.compare.specs.declared.compare.Counts.{Counts}
+
+-- the passes -------------------------------------------------------------------------------------------------------------
+
+-- the pass of a number, as passList of definition has them: 0 is the release order, 8 are the generations
+unfoldable pub passAt : ℕ → Rec → Rec → D.Verdict
+passAt k cur rel = getD (passList (schemaOf cur) (schemaOf rel)) k D.pass
+
+-- the first violation among the passes from one number on, up to another
+unfoldable pub passes : ℕ → ℕ → Rec → Rec → D.Verdict
+passes a b cur rel = firstOf (take (b - a) (drop a (passList (schemaOf cur) (schemaOf rel))))
+
+-- premises that travel together ------------------------------------------------------------------------------------------
+
+-- a record that can be read, as the reader says it
+pub record Legible (r : Rec) : Type 0 where
+  pub short : length (r .stream) ≤ 32768
+  pub exact : Exact r
+
+-- the releases of both records, as stretches
+pub record Releases (cur rel : Rec) (current : Text) (copy : OptText) : Type 0 where
+  pub current-is : textOf (cur .pool) current ≡ required (schemaOf cur .release)
+  pub copy-is : optOf (rel .pool) copy ≡ schemaOf rel .release
+
+-- both records are indexed, and the facts are theirs
+pub record Prepared (cur rel : Rec) (index old-index : List ℕ) (f : Facts) : Type 0 where
+  pub releases : Releases cur rel (f .current) (f .copy)
+  pub is : IndexedTo (cur .stream) (cur .pool) index (f .is)
+  pub was : IndexedTo (rel .stream) (rel .pool) old-index (f .was)
+
+-- both records' tables are filled
+pub record Laid (cur rel : Rec) (types sizes shipped widths : List ℕ) : Type 0 where
+  pub is : Tables cur types sizes
+  pub was : Tables rel shipped widths
+
+-- the tables' fronts are both records' types, and the table that the passes over them fill is long enough
+pub record LaidOut (cur rel : Rec) (types sizes shipped widths scratch : List ℕ) (n : Counts) : Type 0 where
+  pub laid : Laid cur rel (take (n .types) types) sizes (take (n .shipped) shipped) widths
+  pub types-inside : n .types ≤ length types
+  pub shipped-inside : n .shipped ≤ length shipped
+  pub cover-room : length (take (n .types) types) ≤ length scratch
+
+-- before the pass of a number: from that over the fields to the last, the table says which types changed
+pub record Noted (k : ℕ) (cur rel : Rec) (types cover : List ℕ) : Type 0 where
+  pub changes : 6 < k → k < 9 → Changes cur rel types cover
+
+-- a pass over the layouts was run: its verdict, and the table before and after
+pub record Ran (k : ℕ) (cur rel : Rec) (types before after : List ℕ) (r : Verdict) : Type 0 where
+  pub verdict : meaning (cur .pool) (rel .pool) r ≡ passAt k cur rel
+  pub noted : r ≡ Passed → Noted k cur rel types before → Noted (k + 1) cur rel types after
+
+-- the lent tables are long enough for both streams
+pub record Desk (s b : Str) (types shipped sizes widths marks scratch : List ℕ) : Type 0 where
+  pub types-room : Room s types
+  pub constants-room : Room b types
+  pub shipped-room : Room b shipped
+  pub sizes-room : SizesRoom s sizes
+  pub widths-room : SizesRoom b widths
+  pub marks-room : length s ≤ length marks
+  pub scratch-room : Room s scratch
+  pub old-scratch-room : Room b scratch
