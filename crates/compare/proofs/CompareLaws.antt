@@ -20,7 +20,7 @@ use Rattle.record.specs.Steps.{constantsAt, enumsAt, bitfieldsAt, structsAt, fa
 use Rattle.record.specs.Keys.{pluginKeys}
 use Rattle.record.specs.Index.{IndexRoom, Indexed}
 use Rattle.record.specs.References.{typesAt}
-use Rattle.record.specs.Ends.{EndsOf, IndexedTo}
+use Rattle.record.specs.Ends.{IndexedTo}
 use Rattle.record.specs.Reading.{Rec, rec, schemaOf}
 use Rattle.record.specs.declared.ends.Ends.{Ends}
 use Rattle.record.specs.declared.text.Text.{Text}
@@ -225,17 +225,8 @@ module _ (s p b q : Str) (w : List Scalar) (current : Text) (copy : OptText) (g 
         → meaning p q v ≡ passAt k (rec s p w) (rec b q w)
     generations e h = at 8 e _ (ap (λ (l : List D.Verdict). getD l 8 D.pass) passes-are) h
 
--- the same from a prepared pair, each stream cut off where its list ends
+-- from a prepared pair, each stream cut off where its list ends
 module _ (s p b q : Str) (w : List Scalar) (x y : List ℕ) (f : Facts) (g : Prepared (rec s p w) (rec b q w) x y f) where
-  pub ends-now : EndsOf s (f .is)
-  ends-now = g .is .ends
-
-  pub indexed-now : Indexed s p x
-  indexed-now = g .is .index
-
-  pub indexed-then : Indexed b q y
-  indexed-then = g .was .index
-
   module _ (v : Verdict) (k : ℕ) where
     pub first-releases-at : k ≡ 1
         → meaning p q v
