@@ -2,21 +2,19 @@
 use mathlib.Core.Path.{_≡_, refl, sym, ap, ap₂, _∙_}
 use mathlib.Core.List.{List, [], _∷_}
 use mathlib.Core.Option.{Option}
-use mathlib.Core.Bool.{Bool, true, false}
-use Prim.Native.Nat.{ℕ, suc, _+_, _-_, _≤_, _<_}
-use native.Mathlib.Numerals.{add-one}
+use mathlib.Core.Bool.{Bool, true, false, cond}
+use Prim.Native.Nat.{ℕ, _+_, _≤_, _<_}
 use native.Mathlib.Omega.{arith}
 use native.Mathlib.Nat.{min-le-left, min-comm}
 use lib.Dec.{leb}
 use borrow.Author.Tests.{leb-true}
-use lib.ListN.{length, getD, take, drop, length-take}
-use lib.Seq.{drop-cons}
+use lib.ListN.{length, getD, take, length-take}
 use Rattle.record.specs.Base.{Str}
 use Rattle.record.specs.Stretch.{textOf}
 use Rattle.record.specs.Scalars.{Scalar}
 use Rattle.record.specs.Lists.{optOf}
 use Rattle.record.specs.Schema.{Schema}
-use Rattle.record.specs.Steps.{constantsAt, enumsAt, bitfieldsAt, structsAt, familiesAt, unstoredAt, versionsAt}
+use Rattle.record.specs.Steps.{constantsAt, aliasesAt, enumsAt, bitfieldsAt, structsAt, familiesAt, unstoredAt, versionsAt}
 use Rattle.record.specs.Keys.{pluginKeys}
 use Rattle.record.specs.Index.{IndexRoom, Indexed}
 use Rattle.record.specs.References.{typesAt}
@@ -41,7 +39,9 @@ use Rattle.definition.specs.BitfieldReleases.{checkBitfieldReleases}
 use Rattle.definition.specs.Fields.{checkFields}
 use Rattle.definition.specs.Standalone.{checkStandalone}
 use Rattle.definition.specs.Generations.{checkGenerations}
-use Rattle.definition.specs.Compare.{passList, firstOf, compare}
+use Rattle.definition.specs.Unreleased.{checkUnreleased}
+use Rattle.definition.specs.Compare.{passList, allPasses, passAt, passes, firstOf, compare}
+use Rattle.definition.proofs.Compare.{passes-step, no-passes}
 use Rattle.verdicts.specs.Meaning.{meaning}
 use Rattle.verdicts.specs.declared.verdict.Verdict.{Verdict}
 use Rattle.verdicts.specs.declared.verdict.Verdict.the-variants.{Passed}
@@ -52,7 +52,7 @@ use Rattle.compare.specs.CoverTable.{changedTypes, Changes}
 use Rattle.compare.specs.Required.{RequiredText}
 use Rattle.compare.specs.Heads.{HeadRelease, HeadUnreleased}
 use Rattle.compare.specs.Sought.{UnreleasedFrom}
-use Rattle.compare.specs.Passes.{passAt, passes, Legible, Releases, Prepared, Laid, LaidOut, Noted, Ran}
+use Rattle.compare.specs.Passes.{Legible, Releases, Prepared, Laid, LaidOut, Noted, Ran}
 use Rattle.compare.specs.declared.compare.Facts.{Facts}
 use Rattle.compare.specs.declared.compare.Counts.{Counts}
 
@@ -97,68 +97,46 @@ unfolding _then_
 then-none D.pass = refl
 then-none (D.stop w m) = refl
 
-module _ (cur rel : Rec) where
-  abbrev L : List D.Verdict
-  L = passList (schemaOf cur) (schemaOf rel)
-
-  nine : length L ≡ 9
-  unfolding passList
-  nine = refl
-
-  pub passes-first : passes 0 9 cur rel ≡ (passAt 0 cur rel then passes 1 9 cur rel)
-  unfolding passes passAt passList firstOf
+module _ (c r : Schema) where
+  passes-first : passes 1 10 c r ≡ (passAt 1 c r then passes 2 10 c r)
+  unfolding passes passAt allPasses passList firstOf
   passes-first = refl
 
-  pub passes-both : passes 1 9 cur rel ≡ (passes 1 6 cur rel then passes 6 9 cur rel)
-  unfolding passes passList firstOf
+  passes-both : passes 2 10 c r ≡ (passes 2 7 c r then passes 7 10 c r)
+  unfolding passes allPasses passList firstOf
   passes-both = simp (then-assoc, then-none)
 
-  -- a pass, and those after it
-  passes-step : (k e : ℕ) → k < e → e ≤ 9 → passes k e cur rel ≡ (passAt k cur rel then passes (k + 1) e cur rel)
-  unfolding passes passAt firstOf
-  passes-step k e h l =
-      let n : e - k ≡ suc (e - (k + 1)) = omega arith in
-      let i : k < length L = omega (arith, nine) in
-      ap firstOf (ap₂ {C = List D.Verdict} take n (drop-cons L k D.pass i))
-      ∙ ap (λ (j : ℕ). getD L k D.pass then firstOf (take (e - (k + 1)) (drop j L))) (sym (add-one k))
-
-  no-passes : (k e : ℕ) → e ≤ k → passes k e cur rel ≡ D.pass
-  unfolding passes firstOf
-  no-passes k e h = let n : e - k ≡ 0 = omega arith in ap (λ (j : ℕ). firstOf (take j (drop k L))) n
-
-module _ (s p b q : Str) (w : List Scalar) (a e k : ℕ) (h : passes a e (rec s p w) (rec b q w) ≡ passes k e (rec s p w) (rec b q w)) where
-  pub passes-end : e ≤ k → meaning p q Passed ≡ passes a e (rec s p w) (rec b q w)
+module _ (p q : Str) (c r : Schema) (a e k : ℕ) (h : passes a e c r ≡ passes k e c r) where
+  pub passes-end : e ≤ k → meaning p q Passed ≡ passes a e c r
   unfolding meaning
-  passes-end l = sym (h ∙ no-passes (rec s p w) (rec b q w) k e l)
+  passes-end l = sym (h ∙ no-passes c r k e l)
 
-  module _ (v : Verdict) (i : meaning p q v ≡ passAt k (rec s p w) (rec b q w)) (l : k < e) (m : leb e 9 ≡ true) where
-    pub passes-on : v ≡ Passed → passes a e (rec s p w) (rec b q w) ≡ passes (k + 1) e (rec s p w) (rec b q w)
+  module _ (v : Verdict) (i : meaning p q v ≡ passAt k c r) (l : k < e) (m : leb e 10 ≡ true) where
+    pub passes-on : v ≡ Passed → passes a e c r ≡ passes (k + 1) e c r
     unfolding _then_ meaning
     passes-on f =
         h
-        ∙ passes-step (rec s p w) (rec b q w) k e l (leb-true e 9 m)
-        ∙ ap (λ (x : D.Verdict). x then passes (k + 1) e (rec s p w) (rec b q w)) (sym i ∙ ap (meaning p q) f)
+        ∙ passes-step c r k e l (leb-true e 10 m)
+        ∙ ap (λ (x : D.Verdict). x then passes (k + 1) e c r) (sym i ∙ ap (meaning p q) f)
 
-    pub passes-stop : violated v → meaning p q v ≡ passes a e (rec s p w) (rec b q w)
-    passes-stop f =
-        then-stop p q (passAt k (rec s p w) (rec b q w)) (passes (k + 1) e (rec s p w) (rec b q w)) v i f
-        ∙ sym (h ∙ passes-step (rec s p w) (rec b q w) k e l (leb-true e 9 m))
+    pub passes-stop : violated v → meaning p q v ≡ passes a e c r
+    passes-stop f = then-stop p q (passAt k c r) (passes (k + 1) e c r) v i f ∙ sym (h ∙ passes-step c r k e l (leb-true e 10 m))
 
 -- the order, then all others; what is declared, then the types
-module _ (s p b q : Str) (w : List Scalar) (v : Verdict) where
-  module _ (i : meaning p q v ≡ passAt 0 (rec s p w) (rec b q w)) where
-    pub order-stop : violated v → meaning p q v ≡ passes 0 9 (rec s p w) (rec b q w)
-    order-stop f = then-stop p q _ _ v i f ∙ sym (passes-first (rec s p w) (rec b q w))
+module _ (p q : Str) (c r : Schema) (v : Verdict) where
+  module _ (i : meaning p q v ≡ passAt 1 c r) where
+    pub order-stop : violated v → meaning p q v ≡ passes 1 10 c r
+    order-stop f = then-stop p q _ _ v i f ∙ sym (passes-first c r)
 
-    pub order-on : (u : Verdict) → v ≡ Passed → meaning p q u ≡ passes 1 9 (rec s p w) (rec b q w) → meaning p q u ≡ passes 0 9 (rec s p w) (rec b q w)
-    order-on u f k = then-on p q _ _ v i u f k ∙ sym (passes-first (rec s p w) (rec b q w))
+    pub order-on : (u : Verdict) → v ≡ Passed → meaning p q u ≡ passes 2 10 c r → meaning p q u ≡ passes 1 10 c r
+    order-on u f k = then-on p q _ _ v i u f k ∙ sym (passes-first c r)
 
-  module _ (i : meaning p q v ≡ passes 1 6 (rec s p w) (rec b q w)) where
-    pub declared-stop : violated v → meaning p q v ≡ passes 1 9 (rec s p w) (rec b q w)
-    declared-stop f = then-stop p q _ _ v i f ∙ sym (passes-both (rec s p w) (rec b q w))
+  module _ (i : meaning p q v ≡ passes 2 7 c r) where
+    pub declared-stop : violated v → meaning p q v ≡ passes 2 10 c r
+    declared-stop f = then-stop p q _ _ v i f ∙ sym (passes-both c r)
 
-    pub declared-on : (u : Verdict) → v ≡ Passed → meaning p q u ≡ passes 6 9 (rec s p w) (rec b q w) → meaning p q u ≡ passes 1 9 (rec s p w) (rec b q w)
-    declared-on u f k = then-on p q _ _ v i u f k ∙ sym (passes-both (rec s p w) (rec b q w))
+    pub declared-on : (u : Verdict) → v ≡ Passed → meaning p q u ≡ passes 7 10 c r → meaning p q u ≡ passes 2 10 c r
+    declared-on u f k = then-on p q _ _ v i u f k ∙ sym (passes-both c r)
 
 -- each pass by its number ------------------------------------------------------------------------------------------------
 
@@ -169,8 +147,9 @@ module _ (s p b q : Str) (w : List Scalar) (current : Text) (copy : OptText) (g 
   abbrev C : Option Str
   C = optOf q copy
 
-  passes-are : passList (schemaOf (rec s p w)) (schemaOf (rec b q w))
-      ≡ checkReleaseOrder N C
+  passes-are : allPasses (schemaOf (rec s p w)) (schemaOf (rec b q w))
+      ≡ cond (schemaOf (rec b q w) .unreleased) (checkUnreleased (structsAt b q 0) (constantsAt b q 0) (enumsAt b q 0) (bitfieldsAt b q 0) (aliasesAt b q 0) (familiesAt b q 0)) D.pass
+      ∷ checkReleaseOrder N C
       ∷ checkFirstReleases N C (constantsAt s p 0) (constantsAt b q 0) (enumsAt s p 0) (enumsAt b q 0) (pluginKeys (structsAt s p 0) (unstoredAt s p 0)) (pluginKeys (structsAt b q 0) (unstoredAt b q 0))
       ∷ checkConstants (structsAt s p 0) (constantsAt s p 0) (constantsAt b q 0)
       ∷ checkEnums (enumsAt s p 0) (enumsAt b q 0)
@@ -180,104 +159,104 @@ module _ (s p b q : Str) (w : List Scalar) (current : Text) (copy : OptText) (g 
       ∷ checkStandalone (familiesAt s p 0) (familiesAt b q 0) (typesOf (rec s p w)) (typesOf (rec b q w))
       ∷ checkGenerations N C (versionsAt s p 0) (typesAt s p) (constantsAt s p 0) (constantsAt b q 0) (changedTypes (rec s p w) (rec b q w))
       ∷ []
-  unfolding passList
+  unfolding allPasses passList
   passes-are =
-      rw (sym (g .current-is), sym (g .copy-is), schema-constants (rec s p w), schema-constants (rec b q w), schema-enums (rec s p w), schema-enums (rec b q w), schema-structs (rec s p w), schema-structs (rec b q w), schema-unstored (rec s p w), schema-unstored (rec b q w), schema-bitfields (rec s p w), schema-bitfields (rec b q w), schema-families (rec s p w), schema-families (rec b q w), schema-versions (rec s p w))
+      rw (sym (g .current-is), sym (g .copy-is), schema-constants (rec s p w), schema-constants (rec b q w), schema-enums (rec s p w), schema-enums (rec b q w), schema-structs (rec s p w), schema-structs (rec b q w), schema-unstored (rec s p w), schema-unstored (rec b q w), schema-bitfields (rec s p w), schema-bitfields (rec b q w), schema-families (rec s p w), schema-families (rec b q w), schema-versions (rec s p w), schema-aliases (rec b q w))
 
   -- the entry of a number
-  entry : (k : ℕ) → getD (passList (schemaOf (rec s p w)) (schemaOf (rec b q w))) k D.pass ≡ passAt k (rec s p w) (rec b q w)
+  entry : (k : ℕ) → getD (allPasses (schemaOf (rec s p w)) (schemaOf (rec b q w))) k D.pass ≡ passAt k (schemaOf (rec s p w)) (schemaOf (rec b q w))
   unfolding passAt
   entry k = refl
 
-  is-at : (v : Verdict) (k i : ℕ) → k ≡ i → meaning p q v ≡ getD (passList (schemaOf (rec s p w)) (schemaOf (rec b q w))) i D.pass → meaning p q v ≡ passAt k (rec s p w) (rec b q w)
-  is-at v k i e h = h ∙ entry i ∙ ap (λ (j : ℕ). passAt j (rec s p w) (rec b q w)) (sym e)
+  is-at : (v : Verdict) (k i : ℕ) → k ≡ i → meaning p q v ≡ getD (allPasses (schemaOf (rec s p w)) (schemaOf (rec b q w))) i D.pass → meaning p q v ≡ passAt k (schemaOf (rec s p w)) (schemaOf (rec b q w))
+  is-at v k i e h = h ∙ entry i ∙ ap (λ (j : ℕ). passAt j (schemaOf (rec s p w)) (schemaOf (rec b q w))) (sym e)
 
-  pub order-at : (v : Verdict) → meaning p q v ≡ checkReleaseOrder N C → meaning p q v ≡ passAt 0 (rec s p w) (rec b q w)
-  order-at v h = is-at v 0 0 refl (h ∙ sym (ap (λ (l : List D.Verdict). getD l 0 D.pass) passes-are))
+  pub order-at : (v : Verdict) → meaning p q v ≡ checkReleaseOrder N C → meaning p q v ≡ passAt 1 (schemaOf (rec s p w)) (schemaOf (rec b q w))
+  order-at v h = is-at v 1 1 refl (h ∙ sym (ap (λ (l : List D.Verdict). getD l 1 D.pass) passes-are))
 
   module _ (v : Verdict) (k : ℕ) where
-    at : (i : ℕ) → k ≡ i → (x : D.Verdict) → getD (passList (schemaOf (rec s p w)) (schemaOf (rec b q w))) i D.pass ≡ x → meaning p q v ≡ x → meaning p q v ≡ passAt k (rec s p w) (rec b q w)
+    at : (i : ℕ) → k ≡ i → (x : D.Verdict) → getD (allPasses (schemaOf (rec s p w)) (schemaOf (rec b q w))) i D.pass ≡ x → meaning p q v ≡ x → meaning p q v ≡ passAt k (schemaOf (rec s p w)) (schemaOf (rec b q w))
     at i e x f h = is-at v k i e (h ∙ sym f)
 
-    first-releases : k ≡ 1 → meaning p q v ≡ checkFirstReleases N C (constantsAt s p 0) (constantsAt b q 0) (enumsAt s p 0) (enumsAt b q 0) (pluginKeys (structsAt s p 0) (unstoredAt s p 0)) (pluginKeys (structsAt b q 0) (unstoredAt b q 0))
-        → meaning p q v ≡ passAt k (rec s p w) (rec b q w)
-    first-releases e h = at 1 e _ (ap (λ (l : List D.Verdict). getD l 1 D.pass) passes-are) h
+    first-releases : k ≡ 2 → meaning p q v ≡ checkFirstReleases N C (constantsAt s p 0) (constantsAt b q 0) (enumsAt s p 0) (enumsAt b q 0) (pluginKeys (structsAt s p 0) (unstoredAt s p 0)) (pluginKeys (structsAt b q 0) (unstoredAt b q 0))
+        → meaning p q v ≡ passAt k (schemaOf (rec s p w)) (schemaOf (rec b q w))
+    first-releases e h = at 2 e _ (ap (λ (l : List D.Verdict). getD l 2 D.pass) passes-are) h
 
-    constants : k ≡ 2 → meaning p q v ≡ checkConstants (structsAt s p 0) (constantsAt s p 0) (constantsAt b q 0) → meaning p q v ≡ passAt k (rec s p w) (rec b q w)
-    constants e h = at 2 e _ (ap (λ (l : List D.Verdict). getD l 2 D.pass) passes-are) h
+    constants : k ≡ 3 → meaning p q v ≡ checkConstants (structsAt s p 0) (constantsAt s p 0) (constantsAt b q 0) → meaning p q v ≡ passAt k (schemaOf (rec s p w)) (schemaOf (rec b q w))
+    constants e h = at 3 e _ (ap (λ (l : List D.Verdict). getD l 3 D.pass) passes-are) h
 
-    enums : k ≡ 3 → meaning p q v ≡ checkEnums (enumsAt s p 0) (enumsAt b q 0) → meaning p q v ≡ passAt k (rec s p w) (rec b q w)
-    enums e h = at 3 e _ (ap (λ (l : List D.Verdict). getD l 3 D.pass) passes-are) h
+    enums : k ≡ 4 → meaning p q v ≡ checkEnums (enumsAt s p 0) (enumsAt b q 0) → meaning p q v ≡ passAt k (schemaOf (rec s p w)) (schemaOf (rec b q w))
+    enums e h = at 4 e _ (ap (λ (l : List D.Verdict). getD l 4 D.pass) passes-are) h
 
-    bitfields : k ≡ 4 → meaning p q v ≡ checkBitfields (bitfieldsAt s p 0) (bitfieldsAt b q 0) → meaning p q v ≡ passAt k (rec s p w) (rec b q w)
-    bitfields e h = at 4 e _ (ap (λ (l : List D.Verdict). getD l 4 D.pass) passes-are) h
+    bitfields : k ≡ 5 → meaning p q v ≡ checkBitfields (bitfieldsAt s p 0) (bitfieldsAt b q 0) → meaning p q v ≡ passAt k (schemaOf (rec s p w)) (schemaOf (rec b q w))
+    bitfields e h = at 5 e _ (ap (λ (l : List D.Verdict). getD l 5 D.pass) passes-are) h
 
-    bitfield-releases : k ≡ 5 → meaning p q v ≡ checkBitfieldReleases N (bitfieldsAt s p 0) (bitfieldsAt b q 0) → meaning p q v ≡ passAt k (rec s p w) (rec b q w)
-    bitfield-releases e h = at 5 e _ (ap (λ (l : List D.Verdict). getD l 5 D.pass) passes-are) h
+    bitfield-releases : k ≡ 6 → meaning p q v ≡ checkBitfieldReleases N (bitfieldsAt s p 0) (bitfieldsAt b q 0) → meaning p q v ≡ passAt k (schemaOf (rec s p w)) (schemaOf (rec b q w))
+    bitfield-releases e h = at 6 e _ (ap (λ (l : List D.Verdict). getD l 6 D.pass) passes-are) h
 
-    fields : k ≡ 6 → meaning p q v ≡ checkFields (typesOf (rec s p w)) (typesOf (rec b q w)) → meaning p q v ≡ passAt k (rec s p w) (rec b q w)
-    fields e h = at 6 e _ (ap (λ (l : List D.Verdict). getD l 6 D.pass) passes-are) h
+    fields : k ≡ 7 → meaning p q v ≡ checkFields (typesOf (rec s p w)) (typesOf (rec b q w)) → meaning p q v ≡ passAt k (schemaOf (rec s p w)) (schemaOf (rec b q w))
+    fields e h = at 7 e _ (ap (λ (l : List D.Verdict). getD l 7 D.pass) passes-are) h
 
-    standalone : k ≡ 7 → meaning p q v ≡ checkStandalone (familiesAt s p 0) (familiesAt b q 0) (typesOf (rec s p w)) (typesOf (rec b q w)) → meaning p q v ≡ passAt k (rec s p w) (rec b q w)
-    standalone e h = at 7 e _ (ap (λ (l : List D.Verdict). getD l 7 D.pass) passes-are) h
+    standalone : k ≡ 8 → meaning p q v ≡ checkStandalone (familiesAt s p 0) (familiesAt b q 0) (typesOf (rec s p w)) (typesOf (rec b q w)) → meaning p q v ≡ passAt k (schemaOf (rec s p w)) (schemaOf (rec b q w))
+    standalone e h = at 8 e _ (ap (λ (l : List D.Verdict). getD l 8 D.pass) passes-are) h
 
-    generations : k ≡ 8 → meaning p q v ≡ checkGenerations N C (versionsAt s p 0) (typesAt s p) (constantsAt s p 0) (constantsAt b q 0) (changedTypes (rec s p w) (rec b q w))
-        → meaning p q v ≡ passAt k (rec s p w) (rec b q w)
-    generations e h = at 8 e _ (ap (λ (l : List D.Verdict). getD l 8 D.pass) passes-are) h
+    generations : k ≡ 9 → meaning p q v ≡ checkGenerations N C (versionsAt s p 0) (typesAt s p) (constantsAt s p 0) (constantsAt b q 0) (changedTypes (rec s p w) (rec b q w))
+        → meaning p q v ≡ passAt k (schemaOf (rec s p w)) (schemaOf (rec b q w))
+    generations e h = at 9 e _ (ap (λ (l : List D.Verdict). getD l 9 D.pass) passes-are) h
 
 -- from a prepared pair, each stream cut off where its list ends
 module _ (s p b q : Str) (w : List Scalar) (x y : List ℕ) (f : Facts) (g : Prepared (rec s p w) (rec b q w) x y f) where
   module _ (v : Verdict) (k : ℕ) where
-    pub first-releases-at : k ≡ 1
+    pub first-releases-at : k ≡ 2
         → meaning p q v
         ≡ checkFirstReleases (textOf p (f .current)) (optOf q (f .copy)) (constantsAt s p 0) (constantsAt b q 0) (enumsAt s p 0) (enumsAt b q 0) (pluginKeys (structsAt s p 0) (unstoredAt s p 0)) (pluginKeys (structsAt b q 0) (unstoredAt b q 0))
-        → meaning p q v ≡ passAt k (rec s p w) (rec b q w)
+        → meaning p q v ≡ passAt k (schemaOf (rec s p w)) (schemaOf (rec b q w))
     first-releases-at e h = first-releases s p b q w _ _ (g .releases) v k e h
 
-    pub constants-at : (u : Str) → u ≡ take (f .was .constants) b → k ≡ 2 → meaning p q v ≡ checkConstants (structsAt s p 0) (constantsAt s p 0) (constantsAt u q 0)
-        → meaning p q v ≡ passAt k (rec s p w) (rec b q w)
+    pub constants-at : (u : Str) → u ≡ take (f .was .constants) b → k ≡ 3 → meaning p q v ≡ checkConstants (structsAt s p 0) (constantsAt s p 0) (constantsAt u q 0)
+        → meaning p q v ≡ passAt k (schemaOf (rec s p w)) (schemaOf (rec b q w))
     constants-at u c e h = constants s p b q w _ _ (g .releases) v k e (h ∙ ap (checkConstants (structsAt s p 0) (constantsAt s p 0)) (constants-front b q u (f .was) (g .was .ends) c))
 
-    pub enums-at : (u : Str) → u ≡ take (f .was .enums) b → k ≡ 3 → meaning p q v ≡ checkEnums (enumsAt s p 0) (enumsAt u q 0) → meaning p q v ≡ passAt k (rec s p w) (rec b q w)
+    pub enums-at : (u : Str) → u ≡ take (f .was .enums) b → k ≡ 4 → meaning p q v ≡ checkEnums (enumsAt s p 0) (enumsAt u q 0) → meaning p q v ≡ passAt k (schemaOf (rec s p w)) (schemaOf (rec b q w))
     enums-at u c e h = enums s p b q w _ _ (g .releases) v k e (h ∙ ap (checkEnums (enumsAt s p 0)) (enums-front b q u (f .was) (g .was .ends) c))
 
     module _ (t u : Str) (c : t ≡ take (f .is .bitfields) s) (d : u ≡ take (f .was .bitfields) b) where
-      pub bitfields-at : k ≡ 4 → meaning p q v ≡ checkBitfields (bitfieldsAt t p 0) (bitfieldsAt u q 0) → meaning p q v ≡ passAt k (rec s p w) (rec b q w)
+      pub bitfields-at : k ≡ 5 → meaning p q v ≡ checkBitfields (bitfieldsAt t p 0) (bitfieldsAt u q 0) → meaning p q v ≡ passAt k (schemaOf (rec s p w)) (schemaOf (rec b q w))
       bitfields-at e h = bitfields s p b q w _ _ (g .releases) v k e (h ∙ ap₂ checkBitfields (bitfields-front s p t (f .is) (g .is .ends) c) (bitfields-front b q u (f .was) (g .was .ends) d))
 
-      pub bitfield-releases-at : k ≡ 5 → meaning p q v ≡ checkBitfieldReleases (textOf p (f .current)) (bitfieldsAt t p 0) (bitfieldsAt u q 0) → meaning p q v ≡ passAt k (rec s p w) (rec b q w)
+      pub bitfield-releases-at : k ≡ 6 → meaning p q v ≡ checkBitfieldReleases (textOf p (f .current)) (bitfieldsAt t p 0) (bitfieldsAt u q 0) → meaning p q v ≡ passAt k (schemaOf (rec s p w)) (schemaOf (rec b q w))
       bitfield-releases-at e h =
           bitfield-releases s p b q w _ _ (g .releases) v k e
           (h ∙ ap₂ (checkBitfieldReleases (textOf p (f .current))) (bitfields-front s p t (f .is) (g .is .ends) c) (bitfields-front b q u (f .was) (g .was .ends) d))
 
     -- over the types
     module _ (l m n : List ℕ) where
-      pub fields-ran : k ≡ 6 → meaning p q v ≡ checkFields (typesOf (rec s p w)) (typesOf (rec b q w)) → (v ≡ Passed → Changes (rec s p w) (rec b q w) l n) → Ran k (rec s p w) (rec b q w) l m n v
+      pub fields-ran : k ≡ 7 → meaning p q v ≡ checkFields (typesOf (rec s p w)) (typesOf (rec b q w)) → (v ≡ Passed → Changes (rec s p w) (rec b q w) l n) → Ran k (rec s p w) (rec b q w) l m n v
       fields-ran e h c = record { verdict = fields s p b q w _ _ (g .releases) v k e h; noted = λ z o. record { changes = λ i j. c z } }
 
-      pub standalone-ran : k ≡ 7 → meaning p q v ≡ checkStandalone (familiesAt s p 0) (familiesAt b q 0) (typesOf (rec s p w)) (typesOf (rec b q w)) → Ran k (rec s p w) (rec b q w) l m m v
+      pub standalone-ran : k ≡ 8 → meaning p q v ≡ checkStandalone (familiesAt s p 0) (familiesAt b q 0) (typesOf (rec s p w)) (typesOf (rec b q w)) → Ran k (rec s p w) (rec b q w) l m m v
       standalone-ran e h = record { verdict = standalone s p b q w _ _ (g .releases) v k e h; noted = λ z o. record { changes = λ i j. o .changes (omega (arith, e)) (omega (arith, e)) } }
 
-      pub generations-ran : k ≡ 8 → (k ≡ 8 → Changes (rec s p w) (rec b q w) l m)
+      pub generations-ran : k ≡ 9 → (k ≡ 9 → Changes (rec s p w) (rec b q w) l m)
           → ((w₀ : List Scalar) → Changes (rec s p w₀) (rec b q w₀) l m
           → meaning p q v ≡ checkGenerations (textOf p (f .current)) (optOf q (f .copy)) (versionsAt s p 0) (typesAt s p) (constantsAt s p 0) (constantsAt b q 0) (changedTypes (rec s p w₀) (rec b q w₀)))
           → Ran k (rec s p w) (rec b q w) l m n v
       generations-ran e c h = record { verdict = generations s p b q w _ _ (g .releases) v k e (h w (c e)); noted = λ z o. record { changes = λ i j. absurd (omega (arith, e)) } }
 
 -- the last number where it is none of the others
-pub last-declared : (k : ℕ) → 1 ≤ k → k < 6 → (k ≡ 1 → ⊥) → (k ≡ 2 → ⊥) → (k ≡ 3 → ⊥) → (k ≡ 4 → ⊥) → k ≡ 5
+pub last-declared : (k : ℕ) → 2 ≤ k → k < 7 → (k ≡ 2 → ⊥) → (k ≡ 3 → ⊥) → (k ≡ 4 → ⊥) → (k ≡ 5 → ⊥) → k ≡ 6
 last-declared k a z b c d e = omega arith
 
-pub last-laid : (k : ℕ) → 6 ≤ k → k < 9 → (k ≡ 6 → ⊥) → (k ≡ 7 → ⊥) → k ≡ 8
+pub last-laid : (k : ℕ) → 7 ≤ k → k < 10 → (k ≡ 7 → ⊥) → (k ≡ 8 → ⊥) → k ≡ 9
 last-laid k a z b c = omega arith
 
 -- the table that the pass over the fields fills, from pass to pass
 module _ (s p b q : Str) (w : List Scalar) (l m : List ℕ) where
-  pub noted-start : Noted 6 (rec s p w) (rec b q w) l m
+  pub noted-start : Noted 7 (rec s p w) (rec b q w) l m
   noted-start = record { changes = λ i j. absurd (omega arith) }
 
   module _ (k : ℕ) (o : Noted k (rec s p w) (rec b q w) l m) where
-    pub noted-ready : k ≡ 8 → Changes (rec s p w) (rec b q w) l m
+    pub noted-ready : k ≡ 9 → Changes (rec s p w) (rec b q w) l m
     noted-ready e = o .changes (omega (arith, e)) (omega (arith, e))
 
     pub noted-on : (n : List ℕ) (v : Verdict) → Ran k (rec s p w) (rec b q w) l m n v → v ≡ Passed → Noted (k + 1) (rec s p w) (rec b q w) l n
@@ -308,6 +287,6 @@ module _ (cur rel : Rec) where
         h .this p (rel .pool)
         ∙ sym (rw (flag-is ∙ e, schema-structs rel, schema-constants rel, schema-enums rel, schema-bitfields rel, schema-aliases rel, schema-families rel))
 
-    pub compared : (v : Verdict) → b ≡ false → meaning (cur .pool) (rel .pool) v ≡ passes 0 9 cur rel → meaning (cur .pool) (rel .pool) v ≡ compare S T
-    unfolding compare passes passList
+    pub compared : (v : Verdict) → b ≡ false → meaning (cur .pool) (rel .pool) v ≡ passes 1 10 S T → meaning (cur .pool) (rel .pool) v ≡ compare S T
+    unfolding compare passes allPasses passList
     compared v e h = h ∙ sym (rw (flag-is ∙ e))

@@ -1,8 +1,8 @@
--- The passes of a comparison by their numbers, and what the code has at hand when it runs them. Assumes nothing.
+-- What the code has at hand when it runs the passes of a comparison. Assumes nothing.
 use mathlib.Core.Path.{_≡_}
 use mathlib.Core.List.{List}
-use Prim.Native.Nat.{ℕ, _+_, _-_, _≤_, _<_}
-use lib.ListN.{length, getD, take, drop}
+use Prim.Native.Nat.{ℕ, _+_, _≤_, _<_}
+use lib.ListN.{length, take}
 use Rattle.record.specs.Base.{Str}
 use Rattle.record.specs.Stretch.{textOf}
 use Rattle.record.specs.Lists.{optOf}
@@ -13,25 +13,14 @@ use Rattle.record.specs.declared.text.Text.{Text}
 use Rattle.record.specs.declared.operands.OptText.{OptText}
 use Rattle.layout.specs.Room.{Room, SizesRoom}
 use Rattle.layout.specs.Tables.{Tables}
-use Rattle.definition.specs.Verdicts as D
 use Rattle.definition.specs.Pass.{required}
-use Rattle.definition.specs.Compare.{passList, firstOf}
+use Rattle.definition.specs.Compare.{passAt}
 use Rattle.verdicts.specs.Meaning.{meaning}
 use Rattle.verdicts.specs.declared.verdict.Verdict.{Verdict}
 use Rattle.verdicts.specs.declared.verdict.Verdict.the-variants.{Passed}
 use Rattle.compare.specs.CoverTable.{Changes}
 use Rattle.compare.specs.declared.compare.Facts.{Facts}
 use Rattle.compare.specs.declared.compare.Counts.{Counts}
-
--- the passes -------------------------------------------------------------------------------------------------------------
-
--- the pass of a number, as passList of definition has them: 0 is the release order, 8 are the generations
-unfoldable pub passAt : ℕ → Rec → Rec → D.Verdict
-passAt k cur rel = getD (passList (schemaOf cur) (schemaOf rel)) k D.pass
-
--- the first violation among the passes from one number on, up to another
-unfoldable pub passes : ℕ → ℕ → Rec → Rec → D.Verdict
-passes a b cur rel = firstOf (take (b - a) (drop a (passList (schemaOf cur) (schemaOf rel))))
 
 -- premises that travel together ------------------------------------------------------------------------------------------
 
@@ -65,11 +54,11 @@ pub record LaidOut (cur rel : Rec) (types sizes shipped widths scratch : List �
 
 -- before the pass of a number: from that over the fields to the last, the table says which types changed
 pub record Noted (k : ℕ) (cur rel : Rec) (types cover : List ℕ) : Type 0 where
-  pub changes : 6 < k → k < 9 → Changes cur rel types cover
+  pub changes : 7 < k → k < 10 → Changes cur rel types cover
 
 -- a pass over the layouts was run: its verdict, and the table before and after
 pub record Ran (k : ℕ) (cur rel : Rec) (types before after : List ℕ) (r : Verdict) : Type 0 where
-  pub verdict : meaning (cur .pool) (rel .pool) r ≡ passAt k cur rel
+  pub verdict : meaning (cur .pool) (rel .pool) r ≡ passAt k (schemaOf cur) (schemaOf rel)
   pub noted : r ≡ Passed → Noted k cur rel types before → Noted (k + 1) cur rel types after
 
 -- the lent tables are long enough for both streams

@@ -1,5 +1,6 @@
 // The comparison: the passes in their order, of which the first violation is the verdict. A pass has the number that it has in
-// passList of definition: 0 is the release order, 1 to 5 are over what a record declares outside its types, 6 to 8 over its types.
+// allPasses of definition: 0 is on the unreleased copy, 1 the release order, 2 to 6 are over what a record declares outside its types,
+// 7 to 9 over its types.
 use crate::bitfield_releases::check_bitfield_releases;
 use crate::bitfields::check_bitfields;
 use crate::constants::check_constants;
@@ -28,10 +29,10 @@ ghost use Rattle.record.specs.Reading.{Rec, rec, schemaOf};
 ghost use Rattle.record.specs.Index.{IndexRoom, Indexed};
 ghost use Rattle.layout.specs.Room.{Room, SizesRoom};
 ghost use Rattle.layout.specs.Tables.{Tables};
-ghost use Rattle.definition.specs.Compare.{compare};
+ghost use Rattle.definition.specs.Compare.{compare, passAt, passes};
 ghost use Rattle.verdicts.specs.Meaning.{meaning};
 ghost use Rattle.compare.specs.CoverTable.{Changes};
-ghost use Rattle.compare.specs.Passes.{passAt, passes, Legible, Releases, Prepared, Laid, LaidOut, Ran, Desk};
+ghost use Rattle.compare.specs.Passes.{Legible, Releases, Prepared, Laid, LaidOut, Ran, Desk};
 
 // What the passes ask of both records beside their bytes: the release about to ship, the one the copy gives, and where the lists of
 // each stream end.
@@ -154,32 +155,32 @@ fn run_declared(
     table: &mut [u32],
     scratch: &mut [u32],
 ) -> Verdict
-    requires { ⌜ (1 ≤ pass) × (pass < 6) × (length (now past) ≤ 32768) × Room (now past) (now table) × Room (now past) (now scratch) ⌝ }
+    requires { ⌜ (2 ≤ pass) × (pass < 7) × (length (now past) ≤ 32768) × Room (now past) (now table) × Room (now past) (now scratch) ⌝ }
     requires { let cur : Rec = rec (now stream) (now pool) (scalarsOf (now rows)) in
         let rel : Rec = rec (now past) (now old) (scalarsOf (now rows)) in
         ⌜ Prepared cur rel (now index) (now «old_index») facts ⌝ }
     ensures { λ r.
         let cur : Rec = rec (now (stream .entry)) (now (pool .entry)) (scalarsOf (now (rows .entry))) in
         let rel : Rec = rec (now (past .entry)) (now (old .entry)) (scalarsOf (now (rows .entry))) in
-        ⌜ meaning (cur .pool) (rel .pool) r ≡ passAt pass cur rel ⌝ }
+        ⌜ meaning (cur .pool) (rel .pool) r ≡ passAt pass (schemaOf cur) (schemaOf rel) ⌝ }
 {
     let is = facts.is;
     let was = facts.was;
     let current = facts.current;
     let copy = facts.copy;
-    if pass == 1 {
+    if pass == 2 {
         return check_first_releases(stream, pool, is, past, old, old_index, current, copy);
     }
-    if pass == 2 {
+    if pass == 3 {
         let constants = upto(past, was.constants);
         return check_constants(stream, pool, index, constants, old, table, scratch);
     }
-    if pass == 3 {
+    if pass == 4 {
         return check_enums(stream, pool, index, upto(past, was.enums), old);
     }
     let now_bits = upto(stream, is.bitfields);
     let old_bits = upto(past, was.bitfields);
-    if pass == 4 {
+    if pass == 5 {
         return check_bitfields(now_bits, pool, old_bits, old);
     }
     check_bitfield_releases(now_bits, pool, old_bits, old, current)
@@ -205,10 +206,10 @@ fn check_declared(
     ensures { λ r.
         let cur : Rec = rec (now (stream .entry)) (now (pool .entry)) (scalarsOf (now (rows .entry))) in
         let rel : Rec = rec (now (past .entry)) (now (old .entry)) (scalarsOf (now (rows .entry))) in
-        ⌜ meaning (cur .pool) (rel .pool) r ≡ passes 1 6 cur rel ⌝ }
+        ⌜ meaning (cur .pool) (rel .pool) r ≡ passes 2 7 (schemaOf cur) (schemaOf rel) ⌝ }
 {
-    let mut pass = 1;
-    while pass < 6 {
+    let mut pass = 2;
+    while pass < 7 {
         let verdict = run_declared(
             pass,
             rows,
@@ -249,18 +250,18 @@ fn run_laid(
     marks: &mut [u8],
     cover: &mut [u32],
 ) -> Verdict
-    requires { ⌜ (6 ≤ pass) × (pass < 9) × (length (now stream) ≤ length (now marks)) × (length (now types) ≤ length (now cover)) ⌝ }
+    requires { ⌜ (7 ≤ pass) × (pass < 10) × (length (now stream) ≤ length (now marks)) × (length (now types) ≤ length (now cover)) ⌝ }
     requires { let cur : Rec = rec (now stream) (now pool) (scalarsOf (now rows)) in
         let rel : Rec = rec (now past) (now old) (scalarsOf (now rows)) in
         ⌜ Prepared cur rel (now index) (now «old_index») facts
         × Laid cur rel (now types) (now sizes) (now shipped) (now widths)
-        × (pass ≡ 8 → Changes cur rel (now types) (now cover)) ⌝ }
+        × (pass ≡ 9 → Changes cur rel (now types) (now cover)) ⌝ }
     ensures { λ r.
         let cur : Rec = rec (now (stream .entry)) (now (pool .entry)) (scalarsOf (now (rows .entry))) in
         let rel : Rec = rec (now (past .entry)) (now (old .entry)) (scalarsOf (now (rows .entry))) in
         ⌜ Ran pass cur rel (now (types .entry)) (now (cover .entry)) (now (cover .exit)) r ⌝ }
 {
-    if pass == 6 {
+    if pass == 7 {
         return check_fields(
             rows,
             stream,
@@ -274,7 +275,7 @@ fn run_laid(
             cover,
         );
     }
-    if pass == 7 {
+    if pass == 8 {
         return check_standalone(rows, stream, pool, types, sizes, past, old, shipped, widths);
     }
     let current = facts.current;
@@ -319,10 +320,10 @@ fn check_laid(
     ensures { λ r.
         let cur : Rec = rec (now (stream .entry)) (now (pool .entry)) (scalarsOf (now (rows .entry))) in
         let rel : Rec = rec (now (past .entry)) (now (old .entry)) (scalarsOf (now (rows .entry))) in
-        ⌜ meaning (cur .pool) (rel .pool) r ≡ passes 6 9 cur rel ⌝ }
+        ⌜ meaning (cur .pool) (rel .pool) r ≡ passes 7 10 (schemaOf cur) (schemaOf rel) ⌝ }
 {
-    let mut pass = 6;
-    while pass < 9 {
+    let mut pass = 7;
+    while pass < 10 {
         let verdict = run_laid(
             pass,
             rows,
@@ -373,7 +374,7 @@ fn check_types(
     ensures { λ r.
         let cur : Rec = rec (now (stream .entry)) (now (pool .entry)) (scalarsOf (now (rows .entry))) in
         let rel : Rec = rec (now (past .entry)) (now (old .entry)) (scalarsOf (now (rows .entry))) in
-        ⌜ meaning (cur .pool) (rel .pool) r ≡ passes 6 9 cur rel ⌝ }
+        ⌜ meaning (cur .pool) (rel .pool) r ≡ passes 7 10 (schemaOf cur) (schemaOf rel) ⌝ }
 {
     let counts = lay(
         rows,
@@ -434,7 +435,7 @@ fn check_prepared(
     ensures { λ r.
         let cur : Rec = rec (now (stream .entry)) (now (pool .entry)) (scalarsOf (now (rows .entry))) in
         let rel : Rec = rec (now (past .entry)) (now (old .entry)) (scalarsOf (now (rows .entry))) in
-        ⌜ meaning (cur .pool) (rel .pool) r ≡ passes 1 9 cur rel ⌝ }
+        ⌜ meaning (cur .pool) (rel .pool) r ≡ passes 2 10 (schemaOf cur) (schemaOf rel) ⌝ }
 {
     let declared = check_declared(
         rows,
@@ -496,7 +497,7 @@ fn check_lent(
     ensures { λ r.
         let cur : Rec = rec (now (stream .entry)) (now (pool .entry)) (scalarsOf (now (rows .entry))) in
         let rel : Rec = rec (now (past .entry)) (now (old .entry)) (scalarsOf (now (rows .entry))) in
-        ⌜ meaning (cur .pool) (rel .pool) r ≡ passes 1 9 cur rel ⌝ }
+        ⌜ meaning (cur .pool) (rel .pool) r ≡ passes 2 10 (schemaOf cur) (schemaOf rel) ⌝ }
 {
     let facts = prepare(
         rows,
@@ -543,7 +544,7 @@ fn check_long(
     ensures { λ r.
         let cur : Rec = rec (now (stream .entry)) (now (pool .entry)) (scalarsOf (now (rows .entry))) in
         let rel : Rec = rec (now (past .entry)) (now (old .entry)) (scalarsOf (now (rows .entry))) in
-        ⌜ meaning (cur .pool) (rel .pool) r ≡ passes 1 9 cur rel ⌝ }
+        ⌜ meaning (cur .pool) (rel .pool) r ≡ passes 2 10 (schemaOf cur) (schemaOf rel) ⌝ }
 {
     let mut index = [0u16; 4938];
     let mut old_index = [0u16; 4938];
@@ -589,7 +590,7 @@ fn check_short(
     ensures { λ r.
         let cur : Rec = rec (now (stream .entry)) (now (pool .entry)) (scalarsOf (now (rows .entry))) in
         let rel : Rec = rec (now (past .entry)) (now (old .entry)) (scalarsOf (now (rows .entry))) in
-        ⌜ meaning (cur .pool) (rel .pool) r ≡ passes 1 9 cur rel ⌝ }
+        ⌜ meaning (cur .pool) (rel .pool) r ≡ passes 2 10 (schemaOf cur) (schemaOf rel) ⌝ }
 {
     let mut index = [0u16; 549];
     let mut old_index = [0u16; 549];
@@ -634,7 +635,7 @@ fn check_passes(
     ensures { λ r.
         let cur : Rec = rec (now (stream .entry)) (now (pool .entry)) (scalarsOf (now (rows .entry))) in
         let rel : Rec = rec (now (past .entry)) (now (old .entry)) (scalarsOf (now (rows .entry))) in
-        ⌜ meaning (cur .pool) (rel .pool) r ≡ passes 0 9 cur rel ⌝ }
+        ⌜ meaning (cur .pool) (rel .pool) r ≡ passes 1 10 (schemaOf cur) (schemaOf rel) ⌝ }
 {
     let order = check_release_order(pool, old, current, copy);
     let Verdict::Passed = order else {

@@ -2,8 +2,8 @@ use mathlib.Core.Path.{_≡_}
 use Prim.Native.Nat.{_-_, _≤_}
 use lib.ListN.{length}
 use Rattle.record.specs.Scalars.{scalarsOf}
-use Rattle.record.specs.Reading.{rec}
-use Rattle.compare.specs.Passes.{passes}
+use Rattle.record.specs.Reading.{rec, schemaOf}
+use Rattle.definition.specs.Compare.{passes}
 use Rattle.compare.proofs.CompareLaws.{passes-on, passes-stop, passes-end}
 use borrow.Author.Needs.{needs}
 use Rattle.compare.proofs.compare.check_declared.Statement.{statement}
@@ -14,11 +14,11 @@ use Rattle.compare.proofs.compare.run_declared.Reads as run-declared-re
 
 abbrev Inv-loop : tie.InvT-loop
 Inv-loop rows stream pool index past old old-index facts table₀ scratch₀ pass₀ table scratch pass =
-    (passes 1 6 (rec stream pool (scalarsOf rows)) (rec past old (scalarsOf rows)) ≡ passes pass 6 (rec stream pool (scalarsOf rows)) (rec past old (scalarsOf rows)))
-    × (1 ≤ pass) × (pass ≤ 6) × (length table ≡ length table₀) × (length scratch ≡ length scratch₀)
+    (passes 2 7 (schemaOf (rec stream pool (scalarsOf rows))) (schemaOf (rec past old (scalarsOf rows))) ≡ passes pass 7 (schemaOf (rec stream pool (scalarsOf rows))) (schemaOf (rec past old (scalarsOf rows))))
+    × (2 ≤ pass) × (pass ≤ 7) × (length table ≡ length table₀) × (length scratch ≡ length scratch₀)
 
 abbrev μ-loop : tie.MeasureT-loop
-μ-loop rows stream pool index past old old-index facts table₀ scratch₀ pass₀ table scratch pass = 6 - pass
+μ-loop rows stream pool index past old old-index facts table₀ scratch₀ pass₀ table scratch pass = 7 - pass
 
 loop-holds : tie.Need-loop-holds Inv-loop μ-loop
 loop-holds c = (search needs, search needs, search needs, search needs, search needs)
