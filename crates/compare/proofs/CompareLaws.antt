@@ -52,7 +52,7 @@ use Rattle.compare.specs.CoverTable.{changedTypes, Changes}
 use Rattle.compare.specs.Required.{RequiredText}
 use Rattle.compare.specs.Heads.{HeadRelease, HeadUnreleased}
 use Rattle.compare.specs.Sought.{UnreleasedFrom}
-use Rattle.compare.specs.Passes.{Legible, Releases, Prepared, Laid, LaidOut, Noted, Ran}
+use Rattle.compare.specs.Passes.{Legible, Releases, Prepared, TypesLaid, LaidOut, ChangesNoted, Ran}
 use Rattle.compare.specs.declared.compare.Facts.{Facts}
 use Rattle.compare.specs.declared.compare.Counts.{Counts}
 
@@ -252,14 +252,14 @@ last-laid k a z b c = omega arith
 
 -- the table that the pass over the fields fills, from pass to pass
 module _ (s p b q : Str) (w : List Scalar) (l m : List ℕ) where
-  pub noted-start : Noted 7 (rec s p w) (rec b q w) l m
+  pub noted-start : ChangesNoted 7 (rec s p w) (rec b q w) l m
   noted-start = record { changes = λ i j. absurd (omega arith) }
 
-  module _ (k : ℕ) (o : Noted k (rec s p w) (rec b q w) l m) where
+  module _ (k : ℕ) (o : ChangesNoted k (rec s p w) (rec b q w) l m) where
     pub noted-ready : k ≡ 9 → Changes (rec s p w) (rec b q w) l m
     noted-ready e = o .changes (omega (arith, e)) (omega (arith, e))
 
-    pub noted-on : (n : List ℕ) (v : Verdict) → Ran k (rec s p w) (rec b q w) l m n v → v ≡ Passed → Noted (k + 1) (rec s p w) (rec b q w) l n
+    pub noted-on : (n : List ℕ) (v : Verdict) → Ran k (rec s p w) (rec b q w) l m n v → v ≡ Passed → ChangesNoted (k + 1) (rec s p w) (rec b q w) l n
     noted-on n v r e = r .noted e o
 
 -- the whole --------------------------------------------------------------------------------------------------------------

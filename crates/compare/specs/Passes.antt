@@ -41,33 +41,33 @@ pub record Prepared (cur rel : Rec) (index old-index : List ℕ) (f : Facts) : T
   pub was : IndexedTo (rel .stream) (rel .pool) old-index (f .was)
 
 -- both records' tables are filled
-pub record Laid (cur rel : Rec) (types sizes shipped widths : List ℕ) : Type 0 where
+pub record TypesLaid (cur rel : Rec) (types sizes old-types old-sizes : List ℕ) : Type 0 where
   pub is : Tables cur types sizes
-  pub was : Tables rel shipped widths
+  pub was : Tables rel old-types old-sizes
 
 -- the tables' fronts are both records' types, and the table that the passes over them fill is long enough
-pub record LaidOut (cur rel : Rec) (types sizes shipped widths scratch : List ℕ) (n : Counts) : Type 0 where
-  pub laid : Laid cur rel (take (n .types) types) sizes (take (n .shipped) shipped) widths
+pub record LaidOut (cur rel : Rec) (types sizes old-types old-sizes scratch : List ℕ) (n : Counts) : Type 0 where
+  pub laid : TypesLaid cur rel (take (n .types) types) sizes (take (n .shipped) old-types) old-sizes
   pub types-inside : n .types ≤ length types
-  pub shipped-inside : n .shipped ≤ length shipped
+  pub shipped-inside : n .shipped ≤ length old-types
   pub cover-room : length (take (n .types) types) ≤ length scratch
 
 -- before the pass of a number: from that over the fields to the last, the table says which types changed
-pub record Noted (k : ℕ) (cur rel : Rec) (types cover : List ℕ) : Type 0 where
+pub record ChangesNoted (k : ℕ) (cur rel : Rec) (types cover : List ℕ) : Type 0 where
   pub changes : 7 < k → k < 10 → Changes cur rel types cover
 
 -- a pass over the layouts was run: its verdict, and the table before and after
 pub record Ran (k : ℕ) (cur rel : Rec) (types before after : List ℕ) (r : Verdict) : Type 0 where
   pub verdict : meaning (cur .pool) (rel .pool) r ≡ passAt k (schemaOf cur) (schemaOf rel)
-  pub noted : r ≡ Passed → Noted k cur rel types before → Noted (k + 1) cur rel types after
+  pub noted : r ≡ Passed → ChangesNoted k cur rel types before → ChangesNoted (k + 1) cur rel types after
 
 -- the lent tables are long enough for both streams
-pub record Desk (s b : Str) (types shipped sizes widths marks scratch : List ℕ) : Type 0 where
+pub record TableRooms (s b : Str) (types old-types sizes old-sizes marks scratch : List ℕ) : Type 0 where
   pub types-room : Room s types
   pub constants-room : Room b types
-  pub shipped-room : Room b shipped
+  pub shipped-room : Room b old-types
   pub sizes-room : SizesRoom s sizes
-  pub widths-room : SizesRoom b widths
+  pub widths-room : SizesRoom b old-sizes
   pub marks-room : length s ≤ length marks
   pub scratch-room : Room s scratch
   pub old-scratch-room : Room b scratch

@@ -32,7 +32,7 @@ ghost use Rattle.layout.specs.Tables.{Tables};
 ghost use Rattle.definition.specs.Compare.{compare, passAt, passes};
 ghost use Rattle.verdicts.specs.Meaning.{meaning};
 ghost use Rattle.compare.specs.CoverTable.{Changes};
-ghost use Rattle.compare.specs.Passes.{Legible, Releases, Prepared, Laid, LaidOut, Ran, Desk};
+ghost use Rattle.compare.specs.Passes.{Legible, Releases, Prepared, TypesLaid, LaidOut, Ran, TableRooms};
 
 // What the passes ask of both records beside their bytes: the release about to ship, the one the copy gives, and where the lists of
 // each stream end.
@@ -55,24 +55,24 @@ fn prepare(
     stream: &[u8],
     pool: &[u8],
     index: &mut [u16],
-    past: &[u8],
-    old: &[u8],
+    old_stream: &[u8],
+    old_pool: &[u8],
     old_index: &mut [u16],
     current: Text,
     copy: OptText,
 ) -> Facts
     requires { let cur : Rec = rec (now stream) (now pool) (scalarsOf (now rows)) in
-        let rel : Rec = rec (now past) (now old) (scalarsOf (now rows)) in
+        let rel : Rec = rec (now «old_stream») (now «old_pool») (scalarsOf (now rows)) in
         ⌜ Legible cur × Legible rel × Releases cur rel current copy
         × IndexRoom (now stream) (now index)
-        × IndexRoom (now past) (now «old_index») ⌝ }
+        × IndexRoom (now «old_stream») (now «old_index») ⌝ }
     ensures { λ r.
         let cur : Rec = rec (now (stream .entry)) (now (pool .entry)) (scalarsOf (now (rows .entry))) in
-        let rel : Rec = rec (now (past .entry)) (now (old .entry)) (scalarsOf (now (rows .entry))) in
+        let rel : Rec = rec (now («old_stream» .entry)) (now («old_pool» .entry)) (scalarsOf (now (rows .entry))) in
         ⌜ Prepared cur rel (now (index .exit)) (now («old_index» .exit)) r ⌝ }
 {
     let is = index_with_ends(stream, pool, index);
-    let was = index_with_ends(past, old, old_index);
+    let was = index_with_ends(old_stream, old_pool, old_index);
     Facts {
         current,
         copy,
@@ -111,57 +111,67 @@ fn lay(
     index: &[u16],
     types: &mut [u32],
     sizes: &mut [u64],
-    past: &[u8],
-    old: &[u8],
+    old_stream: &[u8],
+    old_pool: &[u8],
     old_index: &[u16],
-    shipped: &mut [u32],
-    widths: &mut [u64],
+    old_types: &mut [u32],
+    old_sizes: &mut [u64],
     scratch: &mut [u32],
 ) -> Counts
     requires { ⌜ Room (now stream) (now types)
         × Room (now stream) (now scratch)
         × SizesRoom (now stream) (now sizes)
-        × Room (now past) (now shipped)
-        × Room (now past) (now scratch)
-        × SizesRoom (now past) (now widths) ⌝ }
+        × Room (now «old_stream») (now «old_types»)
+        × Room (now «old_stream») (now scratch)
+        × SizesRoom (now «old_stream») (now «old_sizes») ⌝ }
     requires { ⌜ Legible (rec (now stream) (now pool) (scalarsOf (now rows)))
         × Indexed (now stream) (now pool) (now index)
-        × Legible (rec (now past) (now old) (scalarsOf (now rows)))
-        × Indexed (now past) (now old) (now «old_index») ⌝ }
+        × Legible (rec (now «old_stream») (now «old_pool») (scalarsOf (now rows)))
+        × Indexed (now «old_stream») (now «old_pool») (now «old_index») ⌝ }
     ensures { λ r.
         let cur : Rec = rec (now (stream .entry)) (now (pool .entry)) (scalarsOf (now (rows .entry))) in
-        let rel : Rec = rec (now (past .entry)) (now (old .entry)) (scalarsOf (now (rows .entry))) in
-        ⌜ LaidOut cur rel (now (types .exit)) (now (sizes .exit)) (now (shipped .exit)) (now (widths .exit)) (now (scratch .exit)) r ⌝ }
+        let rel : Rec = rec (now («old_stream» .entry)) (now («old_pool» .entry)) (scalarsOf (now (rows .entry))) in
+        ⌜ LaidOut cur rel (now (types .exit)) (now (sizes .exit)) (now («old_types» .exit)) (now («old_sizes» .exit)) (now (scratch .exit)) r ⌝ }
 {
     let n = lay_one(rows, stream, pool, index, types, scratch, sizes);
-    let m = lay_one(rows, past, old, old_index, shipped, scratch, widths);
+    let m = lay_one(
+        rows,
+        old_stream,
+        old_pool,
+        old_index,
+        old_types,
+        scratch,
+        old_sizes,
+    );
     Counts {
         types: n,
         shipped: m,
     }
 }
 
-// A pass over what is declared outside types, by its number; a stream is passed only as far as the pass needs it.
+// Runs the pass of a number over what is declared outside types; a stream is passed only as far as the pass needs it.
 fn run_declared(
     pass: usize,
     rows: &[u8],
     stream: &[u8],
     pool: &[u8],
     index: &[u16],
-    past: &[u8],
-    old: &[u8],
+    old_stream: &[u8],
+    old_pool: &[u8],
     old_index: &[u16],
     facts: Facts,
     table: &mut [u32],
     scratch: &mut [u32],
 ) -> Verdict
-    requires { ⌜ (2 ≤ pass) × (pass < 7) × (length (now past) ≤ 32768) × Room (now past) (now table) × Room (now past) (now scratch) ⌝ }
+    requires { ⌜ (2 ≤ pass) × (pass < 7) × (length (now «old_stream») ≤ 32768)
+        × Room (now «old_stream») (now table)
+        × Room (now «old_stream») (now scratch) ⌝ }
     requires { let cur : Rec = rec (now stream) (now pool) (scalarsOf (now rows)) in
-        let rel : Rec = rec (now past) (now old) (scalarsOf (now rows)) in
+        let rel : Rec = rec (now «old_stream») (now «old_pool») (scalarsOf (now rows)) in
         ⌜ Prepared cur rel (now index) (now «old_index») facts ⌝ }
     ensures { λ r.
         let cur : Rec = rec (now (stream .entry)) (now (pool .entry)) (scalarsOf (now (rows .entry))) in
-        let rel : Rec = rec (now (past .entry)) (now (old .entry)) (scalarsOf (now (rows .entry))) in
+        let rel : Rec = rec (now («old_stream» .entry)) (now («old_pool» .entry)) (scalarsOf (now (rows .entry))) in
         ⌜ meaning (cur .pool) (rel .pool) r ≡ passAt pass (schemaOf cur) (schemaOf rel) ⌝ }
 {
     let is = facts.is;
@@ -169,43 +179,52 @@ fn run_declared(
     let current = facts.current;
     let copy = facts.copy;
     if pass == 2 {
-        return check_first_releases(stream, pool, is, past, old, old_index, current, copy);
+        return check_first_releases(
+            stream,
+            pool,
+            is,
+            old_stream,
+            old_pool,
+            old_index,
+            current,
+            copy,
+        );
     }
     if pass == 3 {
-        let constants = upto(past, was.constants);
-        return check_constants(stream, pool, index, constants, old, table, scratch);
+        let constants = upto(old_stream, was.constants);
+        return check_constants(stream, pool, index, constants, old_pool, table, scratch);
     }
     if pass == 4 {
-        return check_enums(stream, pool, index, upto(past, was.enums), old);
+        return check_enums(stream, pool, index, upto(old_stream, was.enums), old_pool);
     }
     let now_bits = upto(stream, is.bitfields);
-    let old_bits = upto(past, was.bitfields);
+    let old_bits = upto(old_stream, was.bitfields);
     if pass == 5 {
-        return check_bitfields(now_bits, pool, old_bits, old);
+        return check_bitfields(now_bits, pool, old_bits, old_pool);
     }
-    check_bitfield_releases(now_bits, pool, old_bits, old, current)
+    check_bitfield_releases(now_bits, pool, old_bits, old_pool, current)
 }
 
-// All of these passes.
+// Runs the passes over what is declared outside types, in their order.
 fn check_declared(
     rows: &[u8],
     stream: &[u8],
     pool: &[u8],
     index: &[u16],
-    past: &[u8],
-    old: &[u8],
+    old_stream: &[u8],
+    old_pool: &[u8],
     old_index: &[u16],
     facts: Facts,
     table: &mut [u32],
     scratch: &mut [u32],
 ) -> Verdict
-    requires { ⌜ (length (now past) ≤ 32768) × Room (now past) (now table) × Room (now past) (now scratch) ⌝ }
+    requires { ⌜ (length (now «old_stream») ≤ 32768) × Room (now «old_stream») (now table) × Room (now «old_stream») (now scratch) ⌝ }
     requires { let cur : Rec = rec (now stream) (now pool) (scalarsOf (now rows)) in
-        let rel : Rec = rec (now past) (now old) (scalarsOf (now rows)) in
+        let rel : Rec = rec (now «old_stream») (now «old_pool») (scalarsOf (now rows)) in
         ⌜ Prepared cur rel (now index) (now «old_index») facts ⌝ }
     ensures { λ r.
         let cur : Rec = rec (now (stream .entry)) (now (pool .entry)) (scalarsOf (now (rows .entry))) in
-        let rel : Rec = rec (now (past .entry)) (now (old .entry)) (scalarsOf (now (rows .entry))) in
+        let rel : Rec = rec (now («old_stream» .entry)) (now («old_pool» .entry)) (scalarsOf (now (rows .entry))) in
         ⌜ meaning (cur .pool) (rel .pool) r ≡ passes 2 7 (schemaOf cur) (schemaOf rel) ⌝ }
 {
     let mut pass = 2;
@@ -216,8 +235,8 @@ fn check_declared(
             stream,
             pool,
             index,
-            past,
-            old,
+            old_stream,
+            old_pool,
             old_index,
             facts,
             table,
@@ -232,7 +251,7 @@ fn check_declared(
     Verdict::Passed
 }
 
-// A pass over the types, by its number; that over the generations asks which types changed, which that over the fields notes.
+// Runs the pass of a number over the types; that over the generations asks which types changed, which that over the fields notes.
 fn run_laid(
     pass: usize,
     rows: &[u8],
@@ -241,24 +260,24 @@ fn run_laid(
     index: &[u16],
     types: &[u32],
     sizes: &[u64],
-    past: &[u8],
-    old: &[u8],
+    old_stream: &[u8],
+    old_pool: &[u8],
     old_index: &[u16],
-    shipped: &[u32],
-    widths: &[u64],
+    old_types: &[u32],
+    old_sizes: &[u64],
     facts: Facts,
     marks: &mut [u8],
     cover: &mut [u32],
 ) -> Verdict
     requires { ⌜ (7 ≤ pass) × (pass < 10) × (length (now stream) ≤ length (now marks)) × (length (now types) ≤ length (now cover)) ⌝ }
     requires { let cur : Rec = rec (now stream) (now pool) (scalarsOf (now rows)) in
-        let rel : Rec = rec (now past) (now old) (scalarsOf (now rows)) in
+        let rel : Rec = rec (now «old_stream») (now «old_pool») (scalarsOf (now rows)) in
         ⌜ Prepared cur rel (now index) (now «old_index») facts
-        × Laid cur rel (now types) (now sizes) (now shipped) (now widths)
+        × TypesLaid cur rel (now types) (now sizes) (now «old_types») (now «old_sizes»)
         × (pass ≡ 9 → Changes cur rel (now types) (now cover)) ⌝ }
     ensures { λ r.
         let cur : Rec = rec (now (stream .entry)) (now (pool .entry)) (scalarsOf (now (rows .entry))) in
-        let rel : Rec = rec (now (past .entry)) (now (old .entry)) (scalarsOf (now (rows .entry))) in
+        let rel : Rec = rec (now («old_stream» .entry)) (now («old_pool» .entry)) (scalarsOf (now (rows .entry))) in
         ⌜ Ran pass cur rel (now (types .entry)) (now (cover .entry)) (now (cover .exit)) r ⌝ }
 {
     if pass == 7 {
@@ -268,15 +287,25 @@ fn run_laid(
             pool,
             types,
             sizes,
-            past,
-            old,
-            shipped,
-            widths,
+            old_stream,
+            old_pool,
+            old_types,
+            old_sizes,
             cover,
         );
     }
     if pass == 8 {
-        return check_standalone(rows, stream, pool, types, sizes, past, old, shipped, widths);
+        return check_standalone(
+            rows,
+            stream,
+            pool,
+            types,
+            sizes,
+            old_stream,
+            old_pool,
+            old_types,
+            old_sizes,
+        );
     }
     let current = facts.current;
     let copy = facts.copy;
@@ -285,8 +314,8 @@ fn run_laid(
         pool,
         index,
         types,
-        past,
-        old,
+        old_stream,
+        old_pool,
         old_index,
         marks,
         cover,
@@ -295,7 +324,7 @@ fn run_laid(
     )
 }
 
-// All of these passes.
+// Runs the passes over the types, in their order.
 fn check_laid(
     rows: &[u8],
     stream: &[u8],
@@ -303,23 +332,23 @@ fn check_laid(
     index: &[u16],
     types: &[u32],
     sizes: &[u64],
-    past: &[u8],
-    old: &[u8],
+    old_stream: &[u8],
+    old_pool: &[u8],
     old_index: &[u16],
-    shipped: &[u32],
-    widths: &[u64],
+    old_types: &[u32],
+    old_sizes: &[u64],
     facts: Facts,
     marks: &mut [u8],
     cover: &mut [u32],
 ) -> Verdict
     requires { ⌜ (length (now stream) ≤ length (now marks)) × (length (now types) ≤ length (now cover)) ⌝ }
     requires { let cur : Rec = rec (now stream) (now pool) (scalarsOf (now rows)) in
-        let rel : Rec = rec (now past) (now old) (scalarsOf (now rows)) in
+        let rel : Rec = rec (now «old_stream») (now «old_pool») (scalarsOf (now rows)) in
         ⌜ Prepared cur rel (now index) (now «old_index») facts
-        × Laid cur rel (now types) (now sizes) (now shipped) (now widths) ⌝ }
+        × TypesLaid cur rel (now types) (now sizes) (now «old_types») (now «old_sizes») ⌝ }
     ensures { λ r.
         let cur : Rec = rec (now (stream .entry)) (now (pool .entry)) (scalarsOf (now (rows .entry))) in
-        let rel : Rec = rec (now (past .entry)) (now (old .entry)) (scalarsOf (now (rows .entry))) in
+        let rel : Rec = rec (now («old_stream» .entry)) (now («old_pool» .entry)) (scalarsOf (now (rows .entry))) in
         ⌜ meaning (cur .pool) (rel .pool) r ≡ passes 7 10 (schemaOf cur) (schemaOf rel) ⌝ }
 {
     let mut pass = 7;
@@ -332,11 +361,11 @@ fn check_laid(
             index,
             types,
             sizes,
-            past,
-            old,
+            old_stream,
+            old_pool,
             old_index,
-            shipped,
-            widths,
+            old_types,
+            old_sizes,
             facts,
             marks,
             cover,
@@ -350,7 +379,7 @@ fn check_laid(
     Verdict::Passed
 }
 
-// The passes over the types, once their tables are filled.
+// Fills the tables of types, then runs the passes over the types.
 fn check_types(
     rows: &[u8],
     stream: &[u8],
@@ -358,22 +387,22 @@ fn check_types(
     index: &[u16],
     types: &mut [u32],
     sizes: &mut [u64],
-    past: &[u8],
-    old: &[u8],
+    old_stream: &[u8],
+    old_pool: &[u8],
     old_index: &[u16],
-    shipped: &mut [u32],
-    widths: &mut [u64],
+    old_types: &mut [u32],
+    old_sizes: &mut [u64],
     facts: Facts,
     marks: &mut [u8],
     scratch: &mut [u32],
 ) -> Verdict
-    requires { ⌜ Desk (now stream) (now past) (now types) (now shipped) (now sizes) (now widths) (now marks) (now scratch) ⌝ }
+    requires { ⌜ TableRooms (now stream) (now «old_stream») (now types) (now «old_types») (now sizes) (now «old_sizes») (now marks) (now scratch) ⌝ }
     requires { let cur : Rec = rec (now stream) (now pool) (scalarsOf (now rows)) in
-        let rel : Rec = rec (now past) (now old) (scalarsOf (now rows)) in
+        let rel : Rec = rec (now «old_stream») (now «old_pool») (scalarsOf (now rows)) in
         ⌜ Legible cur × Legible rel × Prepared cur rel (now index) (now «old_index») facts ⌝ }
     ensures { λ r.
         let cur : Rec = rec (now (stream .entry)) (now (pool .entry)) (scalarsOf (now (rows .entry))) in
-        let rel : Rec = rec (now (past .entry)) (now (old .entry)) (scalarsOf (now (rows .entry))) in
+        let rel : Rec = rec (now («old_stream» .entry)) (now («old_pool» .entry)) (scalarsOf (now (rows .entry))) in
         ⌜ meaning (cur .pool) (rel .pool) r ≡ passes 7 10 (schemaOf cur) (schemaOf rel) ⌝ }
 {
     let counts = lay(
@@ -383,11 +412,11 @@ fn check_types(
         index,
         types,
         sizes,
-        past,
-        old,
+        old_stream,
+        old_pool,
         old_index,
-        shipped,
-        widths,
+        old_types,
+        old_sizes,
         scratch,
     );
     let n = counts.types;
@@ -399,19 +428,19 @@ fn check_types(
         index,
         &types[..n],
         sizes,
-        past,
-        old,
+        old_stream,
+        old_pool,
         old_index,
-        &shipped[..m],
-        widths,
+        &old_types[..m],
+        old_sizes,
         facts,
         marks,
         scratch,
     )
 }
 
-// The passes after that over the release order. The table of types holds the released constants first; the tables of types are
-// filled only for a record whose declarations pass.
+// Runs the passes from the first releases on over indexed records. The table of types holds the released constants first; the tables
+// of types are filled only for a record whose declarations pass.
 fn check_prepared(
     rows: &[u8],
     stream: &[u8],
@@ -419,22 +448,22 @@ fn check_prepared(
     index: &[u16],
     types: &mut [u32],
     sizes: &mut [u64],
-    past: &[u8],
-    old: &[u8],
+    old_stream: &[u8],
+    old_pool: &[u8],
     old_index: &[u16],
-    shipped: &mut [u32],
-    widths: &mut [u64],
+    old_types: &mut [u32],
+    old_sizes: &mut [u64],
     facts: Facts,
     marks: &mut [u8],
     scratch: &mut [u32],
 ) -> Verdict
-    requires { ⌜ Desk (now stream) (now past) (now types) (now shipped) (now sizes) (now widths) (now marks) (now scratch) ⌝ }
+    requires { ⌜ TableRooms (now stream) (now «old_stream») (now types) (now «old_types») (now sizes) (now «old_sizes») (now marks) (now scratch) ⌝ }
     requires { let cur : Rec = rec (now stream) (now pool) (scalarsOf (now rows)) in
-        let rel : Rec = rec (now past) (now old) (scalarsOf (now rows)) in
+        let rel : Rec = rec (now «old_stream») (now «old_pool») (scalarsOf (now rows)) in
         ⌜ Legible cur × Legible rel × Prepared cur rel (now index) (now «old_index») facts ⌝ }
     ensures { λ r.
         let cur : Rec = rec (now (stream .entry)) (now (pool .entry)) (scalarsOf (now (rows .entry))) in
-        let rel : Rec = rec (now (past .entry)) (now (old .entry)) (scalarsOf (now (rows .entry))) in
+        let rel : Rec = rec (now («old_stream» .entry)) (now («old_pool» .entry)) (scalarsOf (now (rows .entry))) in
         ⌜ meaning (cur .pool) (rel .pool) r ≡ passes 2 10 (schemaOf cur) (schemaOf rel) ⌝ }
 {
     let declared = check_declared(
@@ -442,8 +471,8 @@ fn check_prepared(
         stream,
         pool,
         index,
-        past,
-        old,
+        old_stream,
+        old_pool,
         old_index,
         facts,
         types,
@@ -459,18 +488,18 @@ fn check_prepared(
         index,
         types,
         sizes,
-        past,
-        old,
+        old_stream,
+        old_pool,
         old_index,
-        shipped,
-        widths,
+        old_types,
+        old_sizes,
         facts,
         marks,
         scratch,
     )
 }
 
-// The same over lent tables, none of them filled.
+// Runs the passes from the first releases on over lent tables, none of them filled.
 fn check_lent(
     rows: &[u8],
     stream: &[u8],
@@ -478,25 +507,25 @@ fn check_lent(
     index: &mut [u16],
     types: &mut [u32],
     sizes: &mut [u64],
-    past: &[u8],
-    old: &[u8],
+    old_stream: &[u8],
+    old_pool: &[u8],
     old_index: &mut [u16],
-    shipped: &mut [u32],
-    widths: &mut [u64],
+    old_types: &mut [u32],
+    old_sizes: &mut [u64],
     current: Text,
     copy: OptText,
     marks: &mut [u8],
     scratch: &mut [u32],
 ) -> Verdict
     requires { ⌜ IndexRoom (now stream) (now index)
-        × IndexRoom (now past) (now «old_index»)
-        × Desk (now stream) (now past) (now types) (now shipped) (now sizes) (now widths) (now marks) (now scratch) ⌝ }
+        × IndexRoom (now «old_stream») (now «old_index»)
+        × TableRooms (now stream) (now «old_stream») (now types) (now «old_types») (now sizes) (now «old_sizes») (now marks) (now scratch) ⌝ }
     requires { let cur : Rec = rec (now stream) (now pool) (scalarsOf (now rows)) in
-        let rel : Rec = rec (now past) (now old) (scalarsOf (now rows)) in
+        let rel : Rec = rec (now «old_stream») (now «old_pool») (scalarsOf (now rows)) in
         ⌜ Legible cur × Legible rel × Releases cur rel current copy ⌝ }
     ensures { λ r.
         let cur : Rec = rec (now (stream .entry)) (now (pool .entry)) (scalarsOf (now (rows .entry))) in
-        let rel : Rec = rec (now (past .entry)) (now (old .entry)) (scalarsOf (now (rows .entry))) in
+        let rel : Rec = rec (now («old_stream» .entry)) (now («old_pool» .entry)) (scalarsOf (now (rows .entry))) in
         ⌜ meaning (cur .pool) (rel .pool) r ≡ passes 2 10 (schemaOf cur) (schemaOf rel) ⌝ }
 {
     let facts = prepare(
@@ -504,8 +533,8 @@ fn check_lent(
         stream,
         pool,
         index,
-        past,
-        old,
+        old_stream,
+        old_pool,
         old_index,
         current,
         copy,
@@ -517,41 +546,41 @@ fn check_lent(
         index,
         types,
         sizes,
-        past,
-        old,
+        old_stream,
+        old_pool,
         old_index,
-        shipped,
-        widths,
+        old_types,
+        old_sizes,
         facts,
         marks,
         scratch,
     )
 }
 
-// The same with tables for the longest streams that number 8 lets pass.
+// Lends tables for the longest streams that number 8 lets pass.
 fn check_long(
     rows: &[u8],
     stream: &[u8],
     pool: &[u8],
-    past: &[u8],
-    old: &[u8],
+    old_stream: &[u8],
+    old_pool: &[u8],
     current: Text,
     copy: OptText,
 ) -> Verdict
     requires { let cur : Rec = rec (now stream) (now pool) (scalarsOf (now rows)) in
-        let rel : Rec = rec (now past) (now old) (scalarsOf (now rows)) in
+        let rel : Rec = rec (now «old_stream») (now «old_pool») (scalarsOf (now rows)) in
         ⌜ Legible cur × Legible rel × Releases cur rel current copy ⌝ }
     ensures { λ r.
         let cur : Rec = rec (now (stream .entry)) (now (pool .entry)) (scalarsOf (now (rows .entry))) in
-        let rel : Rec = rec (now (past .entry)) (now (old .entry)) (scalarsOf (now (rows .entry))) in
+        let rel : Rec = rec (now («old_stream» .entry)) (now («old_pool» .entry)) (scalarsOf (now (rows .entry))) in
         ⌜ meaning (cur .pool) (rel .pool) r ≡ passes 2 10 (schemaOf cur) (schemaOf rel) ⌝ }
 {
     let mut index = [0u16; 4938];
     let mut old_index = [0u16; 4938];
     let mut types = [0u32; 8192];
     let mut sizes = [0u64; 993];
-    let mut shipped = [0u32; 8192];
-    let mut widths = [0u64; 993];
+    let mut old_types = [0u32; 8192];
+    let mut old_sizes = [0u64; 993];
     let mut marks = [0u8; 32768];
     let mut scratch = [0u32; 8192];
     check_lent(
@@ -561,11 +590,11 @@ fn check_long(
         &mut index,
         &mut types,
         &mut sizes,
-        past,
-        old,
+        old_stream,
+        old_pool,
         &mut old_index,
-        &mut shipped,
-        &mut widths,
+        &mut old_types,
+        &mut old_sizes,
         current,
         copy,
         &mut marks,
@@ -573,31 +602,31 @@ fn check_long(
     )
 }
 
-// The same for short streams, since clearing the tables for long ones takes longer than their check.
+// Lends short tables for short streams, since clearing those for long ones takes longer than their check.
 fn check_short(
     rows: &[u8],
     stream: &[u8],
     pool: &[u8],
-    past: &[u8],
-    old: &[u8],
+    old_stream: &[u8],
+    old_pool: &[u8],
     current: Text,
     copy: OptText,
 ) -> Verdict
-    requires { ⌜ (length (now stream) ≤ 2048) × (length (now past) ≤ 2048) ⌝ }
+    requires { ⌜ (length (now stream) ≤ 2048) × (length (now «old_stream») ≤ 2048) ⌝ }
     requires { let cur : Rec = rec (now stream) (now pool) (scalarsOf (now rows)) in
-        let rel : Rec = rec (now past) (now old) (scalarsOf (now rows)) in
+        let rel : Rec = rec (now «old_stream») (now «old_pool») (scalarsOf (now rows)) in
         ⌜ Legible cur × Legible rel × Releases cur rel current copy ⌝ }
     ensures { λ r.
         let cur : Rec = rec (now (stream .entry)) (now (pool .entry)) (scalarsOf (now (rows .entry))) in
-        let rel : Rec = rec (now (past .entry)) (now (old .entry)) (scalarsOf (now (rows .entry))) in
+        let rel : Rec = rec (now («old_stream» .entry)) (now («old_pool» .entry)) (scalarsOf (now (rows .entry))) in
         ⌜ meaning (cur .pool) (rel .pool) r ≡ passes 2 10 (schemaOf cur) (schemaOf rel) ⌝ }
 {
     let mut index = [0u16; 549];
     let mut old_index = [0u16; 549];
     let mut types = [0u32; 512];
     let mut sizes = [0u64; 63];
-    let mut shipped = [0u32; 512];
-    let mut widths = [0u64; 63];
+    let mut old_types = [0u32; 512];
+    let mut old_sizes = [0u64; 63];
     let mut marks = [0u8; 2048];
     let mut scratch = [0u32; 512];
     check_lent(
@@ -607,11 +636,11 @@ fn check_short(
         &mut index,
         &mut types,
         &mut sizes,
-        past,
-        old,
+        old_stream,
+        old_pool,
         &mut old_index,
-        &mut shipped,
-        &mut widths,
+        &mut old_types,
+        &mut old_sizes,
         current,
         copy,
         &mut marks,
@@ -619,49 +648,55 @@ fn check_short(
     )
 }
 
-// All passes after that on the unreleased copy; the release order needs no table.
+// Runs all passes after that on the unreleased copy; the release order needs no table.
 fn check_passes(
     rows: &[u8],
     stream: &[u8],
     pool: &[u8],
-    past: &[u8],
-    old: &[u8],
+    old_stream: &[u8],
+    old_pool: &[u8],
     current: Text,
     copy: OptText,
 ) -> Verdict
     requires { let cur : Rec = rec (now stream) (now pool) (scalarsOf (now rows)) in
-        let rel : Rec = rec (now past) (now old) (scalarsOf (now rows)) in
+        let rel : Rec = rec (now «old_stream») (now «old_pool») (scalarsOf (now rows)) in
         ⌜ Legible cur × Legible rel × Releases cur rel current copy ⌝ }
     ensures { λ r.
         let cur : Rec = rec (now (stream .entry)) (now (pool .entry)) (scalarsOf (now (rows .entry))) in
-        let rel : Rec = rec (now (past .entry)) (now (old .entry)) (scalarsOf (now (rows .entry))) in
+        let rel : Rec = rec (now («old_stream» .entry)) (now («old_pool» .entry)) (scalarsOf (now (rows .entry))) in
         ⌜ meaning (cur .pool) (rel .pool) r ≡ passes 1 10 (schemaOf cur) (schemaOf rel) ⌝ }
 {
-    let order = check_release_order(pool, old, current, copy);
+    let order = check_release_order(pool, old_pool, current, copy);
     let Verdict::Passed = order else {
         return order;
     };
     if stream.len() <= 2048 {
-        if past.len() <= 2048 {
-            return check_short(rows, stream, pool, past, old, current, copy);
+        if old_stream.len() <= 2048 {
+            return check_short(rows, stream, pool, old_stream, old_pool, current, copy);
         }
     }
-    check_long(rows, stream, pool, past, old, current, copy)
+    check_long(rows, stream, pool, old_stream, old_pool, current, copy)
 }
 
 // The whole comparison of two records that can be read.
-pub(crate) fn compare(rows: &[u8], stream: &[u8], pool: &[u8], past: &[u8], old: &[u8]) -> Verdict
+pub(crate) fn compare(
+    rows: &[u8],
+    stream: &[u8],
+    pool: &[u8],
+    old_stream: &[u8],
+    old_pool: &[u8],
+) -> Verdict
     requires { ⌜ Legible (rec (now stream) (now pool) (scalarsOf (now rows)))
-        × Legible (rec (now past) (now old) (scalarsOf (now rows))) ⌝ }
+        × Legible (rec (now «old_stream») (now «old_pool») (scalarsOf (now rows))) ⌝ }
     ensures { λ r.
         let cur : Rec = rec (now (stream .entry)) (now (pool .entry)) (scalarsOf (now (rows .entry))) in
-        let rel : Rec = rec (now (past .entry)) (now (old .entry)) (scalarsOf (now (rows .entry))) in
+        let rel : Rec = rec (now («old_stream» .entry)) (now («old_pool» .entry)) (scalarsOf (now (rows .entry))) in
         ⌜ meaning (cur .pool) (rel .pool) r ≡ compare (schemaOf cur) (schemaOf rel) ⌝ }
 {
-    if head_unreleased(past) {
-        return check_unreleased(past);
+    if head_unreleased(old_stream) {
+        return check_unreleased(old_stream);
     }
     let current = required_text(head_release(stream));
-    let copy = head_release(past);
-    check_passes(rows, stream, pool, past, old, current, copy)
+    let copy = head_release(old_stream);
+    check_passes(rows, stream, pool, old_stream, old_pool, current, copy)
 }

@@ -4,7 +4,7 @@ use lib.ListN.{length}
 use Rattle.record.specs.Scalars.{scalarsOf}
 use Rattle.record.specs.Reading.{rec, schemaOf}
 use Rattle.definition.specs.Compare.{passes}
-use Rattle.compare.specs.Passes.{Noted}
+use Rattle.compare.specs.Passes.{ChangesNoted}
 use Rattle.compare.proofs.CompareLaws.{passes-on, passes-stop, passes-end, noted-start, noted-ready, noted-on}
 use borrow.Author.Needs.{needs}
 use Rattle.compare.proofs.compare.check_laid.Statement.{statement}
@@ -16,7 +16,7 @@ use Rattle.compare.proofs.compare.run_laid.Reads as run-laid-reads
 abbrev Inv-loop : tie.InvT-loop
 Inv-loop rows stream pool index types sizes past old old-index shipped widths facts marks₀ cover₀ pass₀ marks cover pass =
     (passes 7 10 (schemaOf (rec stream pool (scalarsOf rows))) (schemaOf (rec past old (scalarsOf rows))) ≡ passes pass 10 (schemaOf (rec stream pool (scalarsOf rows))) (schemaOf (rec past old (scalarsOf rows))))
-    × Noted pass (rec stream pool (scalarsOf rows)) (rec past old (scalarsOf rows)) types cover
+    × ChangesNoted pass (rec stream pool (scalarsOf rows)) (rec past old (scalarsOf rows)) types cover
     × (7 ≤ pass) × (pass ≤ 10) × (length marks ≡ length marks₀) × (length cover ≡ length cover₀)
 
 abbrev μ-loop : tie.MeasureT-loop
