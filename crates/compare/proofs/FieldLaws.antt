@@ -239,7 +239,7 @@ pub record Visited (r r₀ : Rec) (t t₀ m : List ℕ) (k : ℕ) : Type 0 where
   state : (j : ℕ) → j < length t → (eqb (getD m j 0) 0 ≡ sameOf r r₀ t j)
       ⊎ ((getD m j 0 ≡ 1) × ((i : ℕ) → i < k → typeName (r₀ .stream) (r₀ .pool) (getD t₀ i 0) ≡ typeName (r .stream) (r .pool) (getD t j 0) → ⊥))
 
-same-either : (a b : List Place) → eqPlaces a b ≡ eqPlaces b a
+pub same-either : (a b : List Place) → eqPlaces a b ≡ eqPlaces b a
 same-either a b = go (eqPlaces a b) (eqPlaces b a) refl refl
   where
     turned : (x y : List Place) → eqPlaces x y ≡ true → eqPlaces y x ≡ true
@@ -253,7 +253,7 @@ same-either a b = go (eqPlaces a b) (eqPlaces b a) refl refl
     go false true e f = sym e ∙ turned b a f
     go false false e f = refl
 
-entry-zero : (v : Bool) → eqb (entryOf v) 0 ≡ v
+pub entry-zero : (v : Bool) → eqb (entryOf v) 0 ≡ v
 entry-zero true = refl
 entry-zero false = refl
 

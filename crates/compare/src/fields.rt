@@ -249,7 +249,7 @@ fn check_any(
 }
 
 // Puts the entry of a type: 0 where the fields from two cursors on are the same, else 1.
-fn note_rest(
+pub(crate) fn note_rest(
     rows: &[u8],
     stream: &[u8],
     pool: &[u8],

@@ -1,5 +1,5 @@
 use Rattle.record.specs.Reading.{rec}
-use Rattle.compare.proofs.CompareLaws.{compared-unreleased, compared}
+use Rattle.compare.proofs.CompareLaws.{compared-unreleased, compared, releases}
 use borrow.Author.Needs.{needs}
 use Rattle.compare.proofs.compare.compare.Statement.{statement}
 use Rattle.compare.proofs.compare.compare.Tie as tie
@@ -23,11 +23,10 @@ head-release-requires-2 : tie.Need-head-release-requires-2
 head-release-requires-2 c κs = search needs
 
 check-passes-requires : tie.Need-check-passes-requires
-check-passes-requires c κs = search needs
+check-passes-requires c κs = (search needs, search needs, releases (rec _ _ _) (rec _ _ _) _ _ _ (c .before .before .head-release .ensures) (c .before .required-text .ensures) (c .head-release2 .ensures))
 
 returns-2 : tie.Need-returns-2
-returns-2 c =
-    compared (rec _ _ _) (rec _ _ _) _ (c .before .before .before .before .before .head-unreleased .ensures) _ _ _ (c .before .before .before .head-release .ensures) (c .before .before .required-text .ensures) (c .before .head-release2 .ensures) _ (c .before .before .before .before .if1 .left) (c .check-passes .ensures)
+returns-2 c = compared (rec _ _ _) (rec _ _ _) _ (c .before .before .before .before .before .head-unreleased .ensures) _ (c .before .before .before .before .if1 .left) (c .check-passes .ensures)
 
 pub compare-spec : {M : Type 1} → statement M
 compare-spec =
