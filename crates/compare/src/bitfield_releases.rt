@@ -19,14 +19,19 @@ use record::text::same;
 use verdicts::arguments::Item;
 use verdicts::verdict::Verdict;
 ghost use mathlib.Core.Path.{_≡_};
+ghost use mathlib.Core.List.{[]};
 ghost use Rattle.record.specs.Stretch.{textOf};
 ghost use Rattle.record.specs.Lists.{optOf, bitfieldOf, memberOf};
-ghost use Rattle.record.specs.Steps.{bitfieldsAt, membersAt, bitfieldFound};
+ghost use Rattle.record.specs.Steps.{membersAt, bitfieldFound};
+ghost use Rattle.record.specs.Reading.{Rec, rec};
+ghost use Rattle.record.specs.Base.{Str};
 ghost use Rattle.definition.specs.Pass.{required};
 ghost use Rattle.verdicts.specs.Arguments.{itemOf};
-ghost use Rattle.definition.specs.BitfieldReleases.{memberRelease, checkArrived, checkMemberArrived, checkMembersArrived, checkBitfieldArrived, checkBitfieldReleases};
+ghost use Rattle.definition.specs.BitfieldReleases.{memberRelease, checkArrived, checkMemberArrived, checkMembersArrived};
+ghost use Rattle.definition.specs.BitfieldReleases.{checkBitfieldArrived, checkBitfieldReleases};
 ghost use Rattle.compare.specs.Shipped.{shippedOf};
 ghost use Rattle.compare.specs.Sought.{BitfieldShipped};
+ghost use Rattle.compare.specs.Records.{bitfieldList};
 ghost use Rattle.verdicts.specs.Meaning.{meaning};
 
 // What the copy says of a bit field.
@@ -64,7 +69,10 @@ fn check_arrived(
     release: Text,
     shipped: Shipped,
 ) -> Verdict
-    ensures { λ r. ⌜ meaning (now (pool .entry)) (now (old .entry)) r ≡ checkArrived (textOf (now (pool .entry)) current) (itemOf (now (pool .entry)) what) (textOf (now (pool .entry)) release) (shippedOf (now (old .entry)) shipped) ⌝ }
+    ensures { λ r.
+        let p : Str = now (pool .entry) in
+        let q : Str = now (old .entry) in
+        ⌜ meaning p q r ≡ checkArrived (textOf p current) (itemOf p what) (textOf p release) (shippedOf q shipped) ⌝ }
 {
     match shipped {
         Shipped::Absent => {
@@ -98,7 +106,12 @@ fn check_member_arrived(
     was: BitfieldStep,
     m: Member,
 ) -> Verdict
-    ensures { λ r. ⌜ meaning (now (pool .entry)) (now (old .entry)) r ≡ checkMemberArrived (textOf (now (pool .entry)) current) (textOf (now (pool .entry)) owner) (required (optOf (now (pool .entry)) since)) (bitfieldFound (now (past .entry)) (now (old .entry)) was) (memberOf (now (pool .entry)) m) ⌝ }
+    ensures { λ r.
+        let p : Str = now (pool .entry) in
+        let rel : Rec = rec (now (past .entry)) (now (old .entry)) [] in
+        ⌜ meaning p (rel .pool) r
+        ≡ checkMemberArrived (textOf p current) (textOf p owner) (required (optOf p since)) (bitfieldFound (rel .stream) (rel .pool) was)
+        (memberOf p m) ⌝ }
 {
     let name = m.name;
     let own = m.first_release;
@@ -126,7 +139,12 @@ fn check_members_arrived(
     was: BitfieldStep,
     from: Cursor,
 ) -> Verdict
-    ensures { λ r. ⌜ meaning (now (pool .entry)) (now (old .entry)) r ≡ checkMembersArrived (textOf (now (pool .entry)) current) (textOf (now (pool .entry)) owner) (required (optOf (now (pool .entry)) since)) (bitfieldFound (now (past .entry)) (now (old .entry)) was) (membersAt (now (stream .entry)) (now (pool .entry)) (from .at)) ⌝ }
+    ensures { λ r.
+        let cur : Rec = rec (now (stream .entry)) (now (pool .entry)) [] in
+        let rel : Rec = rec (now (past .entry)) (now (old .entry)) [] in
+        ⌜ meaning (cur .pool) (rel .pool) r
+        ≡ checkMembersArrived (textOf (cur .pool) current) (textOf (cur .pool) owner) (required (optOf (cur .pool) since))
+        (bitfieldFound (rel .stream) (rel .pool) was) (membersAt (cur .stream) (cur .pool) (from .at)) ⌝ }
 {
     let mut cursor = from;
     loop {
@@ -152,7 +170,11 @@ fn check_bitfield_arrived(
     is: Bitfield,
     from: Cursor,
 ) -> Verdict
-    ensures { λ r. ⌜ meaning (now (pool .entry)) (now (old .entry)) r ≡ checkBitfieldArrived (textOf (now (pool .entry)) current) (bitfieldsAt (now (past .entry)) (now (old .entry)) 0) (bitfieldOf (now (pool .entry)) is (membersAt (now (stream .entry)) (now (pool .entry)) (from .at))) ⌝ }
+    ensures { λ r.
+        let cur : Rec = rec (now (stream .entry)) (now (pool .entry)) [] in
+        let rel : Rec = rec (now (past .entry)) (now (old .entry)) [] in
+        ⌜ meaning (cur .pool) (rel .pool) r ≡ checkBitfieldArrived (textOf (cur .pool) current) (bitfieldList rel)
+        (bitfieldOf (cur .pool) is (membersAt (cur .stream) (cur .pool) (from .at))) ⌝ }
 {
     let name = is.name;
     let since = is.first_release;
@@ -174,7 +196,10 @@ pub fn check_bitfield_releases(
     old: &[u8],
     current: Text,
 ) -> Verdict
-    ensures { λ r. ⌜ meaning (now (pool .entry)) (now (old .entry)) r ≡ checkBitfieldReleases (textOf (now (pool .entry)) current) (bitfieldsAt (now (stream .entry)) (now (pool .entry)) 0) (bitfieldsAt (now (past .entry)) (now (old .entry)) 0) ⌝ }
+    ensures { λ r.
+        let cur : Rec = rec (now (stream .entry)) (now (pool .entry)) [] in
+        let rel : Rec = rec (now (past .entry)) (now (old .entry)) [] in
+        ⌜ meaning (cur .pool) (rel .pool) r ≡ checkBitfieldReleases (textOf (cur .pool) current) (bitfieldList cur) (bitfieldList rel) ⌝ }
 {
     let mut cursor = Cursor::new();
     loop {

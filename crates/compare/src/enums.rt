@@ -12,12 +12,16 @@ use record::text::Text;
 use record::text::bytes_of;
 use verdicts::verdict::Verdict;
 ghost use mathlib.Core.Path.{_≡_};
+ghost use mathlib.Core.List.{[]};
 ghost use Rattle.record.specs.Stretch.{textOf};
 ghost use Rattle.record.specs.Lists.{enumOf, valueOf};
-ghost use Rattle.record.specs.Steps.{enumsAt, valuesAt};
+ghost use Rattle.record.specs.Steps.{valuesAt};
 ghost use Rattle.record.specs.Index.{Indexed};
+ghost use Rattle.record.specs.Reading.{Rec, rec};
+ghost use Rattle.record.specs.Base.{Str};
 ghost use Rattle.definition.specs.Enums.{checkValue, checkValues, checkEnum, checkEnums};
 ghost use Rattle.compare.specs.Sought.{NumberFrom};
+ghost use Rattle.compare.specs.Records.{enumList};
 ghost use Rattle.verdicts.specs.Meaning.{meaning};
 
 // The first value with that number from a cursor on.
@@ -45,7 +49,10 @@ fn check_value(
     owner: Text,
     was: Value,
 ) -> Verdict
-    ensures { λ r. ⌜ meaning (now (pool .entry)) (now (old .entry)) r ≡ checkValue (textOf (now (old .entry)) owner) (valuesAt (now (stream .entry)) (now (pool .entry)) (is .at)) (valueOf (now (old .entry)) was) ⌝ }
+    ensures { λ r.
+        let cur : Rec = rec (now (stream .entry)) (now (pool .entry)) [] in
+        let q : Str = now (old .entry) in
+        ⌜ meaning (cur .pool) q r ≡ checkValue (textOf q owner) (valuesAt (cur .stream) (cur .pool) (is .at)) (valueOf q was) ⌝ }
 {
     let name = was.name;
     let named = find_value(stream, pool, is, bytes_of(old, name));
@@ -81,7 +88,11 @@ fn check_values(
     owner: Text,
     from: Cursor,
 ) -> Verdict
-    ensures { λ r. ⌜ meaning (now (pool .entry)) (now (old .entry)) r ≡ checkValues (textOf (now (old .entry)) owner) (valuesAt (now (stream .entry)) (now (pool .entry)) (is .at)) (valuesAt (now (past .entry)) (now (old .entry)) (from .at)) ⌝ }
+    ensures { λ r.
+        let cur : Rec = rec (now (stream .entry)) (now (pool .entry)) [] in
+        let rel : Rec = rec (now (past .entry)) (now (old .entry)) [] in
+        ⌜ meaning (cur .pool) (rel .pool) r ≡ checkValues (textOf (rel .pool) owner) (valuesAt (cur .stream) (cur .pool) (is .at))
+        (valuesAt (rel .stream) (rel .pool) (from .at)) ⌝ }
 {
     let mut cursor = from;
     loop {
@@ -108,7 +119,11 @@ fn check_enum(
     from: Cursor,
 ) -> Verdict
     requires { ⌜ Indexed (now stream) (now pool) (now index) ⌝ }
-    ensures { λ r. ⌜ meaning (now (pool .entry)) (now (old .entry)) r ≡ checkEnum (enumsAt (now (stream .entry)) (now (pool .entry)) 0) (enumOf (now (old .entry)) was (valuesAt (now (past .entry)) (now (old .entry)) (from .at))) ⌝ }
+    ensures { λ r.
+        let cur : Rec = rec (now (stream .entry)) (now (pool .entry)) [] in
+        let rel : Rec = rec (now (past .entry)) (now (old .entry)) [] in
+        ⌜ meaning (cur .pool) (rel .pool) r
+        ≡ checkEnum (enumList cur) (enumOf (rel .pool) was (valuesAt (rel .stream) (rel .pool) (from .at))) ⌝ }
 {
     let ValueStep::AValue(_, _) = next_value(past, from) else {
         return Verdict::Passed;
@@ -129,7 +144,10 @@ pub(crate) fn check_enums(
     old: &[u8],
 ) -> Verdict
     requires { ⌜ Indexed (now stream) (now pool) (now index) ⌝ }
-    ensures { λ r. ⌜ meaning (now (pool .entry)) (now (old .entry)) r ≡ checkEnums (enumsAt (now (stream .entry)) (now (pool .entry)) 0) (enumsAt (now (past .entry)) (now (old .entry)) 0) ⌝ }
+    ensures { λ r.
+        let cur : Rec = rec (now (stream .entry)) (now (pool .entry)) [] in
+        let rel : Rec = rec (now (past .entry)) (now (old .entry)) [] in
+        ⌜ meaning (cur .pool) (rel .pool) r ≡ checkEnums (enumList cur) (enumList rel) ⌝ }
 {
     let mut cursor = Cursor::new();
     loop {

@@ -26,8 +26,9 @@ ghost use mathlib.Core.Path.{_≡_};
 ghost use lib.ListN.{length, set};
 ghost use Rattle.record.specs.Scalars.{scalarsOf};
 ghost use Rattle.record.specs.Marks.{Clear};
-ghost use Rattle.record.specs.Reading.{rec};
+ghost use Rattle.record.specs.Reading.{Rec, rec};
 ghost use Rattle.record.specs.Read.{Exact};
+ghost use Rattle.record.specs.Base.{Str};
 ghost use Rattle.layout.specs.Handles.{typeName, layoutOf};
 ghost use Rattle.layout.specs.Names.{nameOf};
 ghost use Rattle.layout.specs.Table.{Typed};
@@ -43,7 +44,10 @@ ghost use Rattle.verdicts.specs.Meaning.{meaning};
 
 // A released field against the one of its name.
 fn check_kept(pool: &[u8], old: &[u8], owner: TypeName, was: Spot, is: Spot) -> Verdict
-    ensures { λ r. ⌜ meaning (now (pool .entry)) (now (old .entry)) r ≡ checkKept (nameOf (now (old .entry)) owner) (spotOf (now (old .entry)) was) (spotOf (now (pool .entry)) is) ⌝ }
+    ensures { λ r.
+        let p : Str = now (pool .entry) in
+        let q : Str = now (old .entry) in
+        ⌜ meaning p q r ≡ checkKept (nameOf q owner) (spotOf q was) (spotOf p is) ⌝ }
 {
     let name = was.name;
     if is.offset != was.offset {
@@ -85,8 +89,11 @@ fn find_near(
     table: &[u64],
     name: &[u8],
 ) -> SpotStep
-    requires { ⌜ Sound (rec (now stream) (now pool) (scalarsOf (now rows))) (now sizes) from × Near (now stream) (now pool) (now sizes) from (now table) ⌝ }
-    ensures { λ r. ⌜ placeIn (now (name .entry)) (placesFrom (rec (now (stream .entry)) (now (pool .entry)) (scalarsOf (now (rows .entry)))) from) ≡ spotFound (now (pool .entry)) r ⌝ }
+    requires { let cur : Rec = rec (now stream) (now pool) (scalarsOf (now rows)) in
+        ⌜ Sound cur (now sizes) from × Near (cur .stream) (cur .pool) (now sizes) from (now table) ⌝ }
+    ensures { λ r.
+        let cur : Rec = rec (now (stream .entry)) (now (pool .entry)) (scalarsOf (now (rows .entry))) in
+        ⌜ placeIn (now (name .entry)) (placesFrom cur from) ≡ spotFound (cur .pool) r ⌝ }
 {
     let near = near_spot(table, from, name);
     find_spot(rows, stream, pool, sizes, near, name)
@@ -104,8 +111,12 @@ fn check_place(
     owner: TypeName,
     was: Spot,
 ) -> Verdict
-    requires { ⌜ Sound (rec (now stream) (now pool) (scalarsOf (now rows))) (now sizes) is × Near (now stream) (now pool) (now sizes) is (now table) ⌝ }
-    ensures { λ r. ⌜ meaning (now (pool .entry)) (now (old .entry)) r ≡ checkPlace (nameOf (now (old .entry)) owner) (placesFrom (rec (now (stream .entry)) (now (pool .entry)) (scalarsOf (now (rows .entry)))) is) (spotOf (now (old .entry)) was) ⌝ }
+    requires { let cur : Rec = rec (now stream) (now pool) (scalarsOf (now rows)) in
+        ⌜ Sound cur (now sizes) is × Near (cur .stream) (cur .pool) (now sizes) is (now table) ⌝ }
+    ensures { λ r.
+        let cur : Rec = rec (now (stream .entry)) (now (pool .entry)) (scalarsOf (now (rows .entry))) in
+        let q : Str = now (old .entry) in
+        ⌜ meaning (cur .pool) q r ≡ checkPlace (nameOf q owner) (placesFrom cur is) (spotOf q was) ⌝ }
 {
     if was.padding {
         return Verdict::Passed;
@@ -132,8 +143,13 @@ fn check_places(
     owner: TypeName,
     from: SpotCursor,
 ) -> Verdict
-    requires { ⌜ Sound (rec (now stream) (now pool) (scalarsOf (now rows))) (now sizes) is × Near (now stream) (now pool) (now sizes) is (now table) × Sound (rec (now past) (now old) (scalarsOf (now rows))) (now widths) from ⌝ }
-    ensures { λ r. ⌜ meaning (now (pool .entry)) (now (old .entry)) r ≡ checkPlaces (nameOf (now (old .entry)) owner) (placesFrom (rec (now (stream .entry)) (now (pool .entry)) (scalarsOf (now (rows .entry)))) is) (placesFrom (rec (now (past .entry)) (now (old .entry)) (scalarsOf (now (rows .entry)))) from) ⌝ }
+    requires { let cur : Rec = rec (now stream) (now pool) (scalarsOf (now rows)) in
+        let rel : Rec = rec (now past) (now old) (scalarsOf (now rows)) in
+        ⌜ Sound cur (now sizes) is × Near (cur .stream) (cur .pool) (now sizes) is (now table) × Sound rel (now widths) from ⌝ }
+    ensures { λ r.
+        let cur : Rec = rec (now (stream .entry)) (now (pool .entry)) (scalarsOf (now (rows .entry))) in
+        let rel : Rec = rec (now (past .entry)) (now (old .entry)) (scalarsOf (now (rows .entry))) in
+        ⌜ meaning (cur .pool) (rel .pool) r ≡ checkPlaces (nameOf (rel .pool) owner) (placesFrom cur is) (placesFrom rel from) ⌝ }
 {
     let mut cursor = from;
     loop {
@@ -149,7 +165,7 @@ fn check_places(
     }
 }
 
-// The same by an empty table that is lent.
+// Fills an empty table that is lent, and holds the released fields to it.
 fn check_near(
     rows: &[u8],
     stream: &[u8],
@@ -163,8 +179,13 @@ fn check_near(
     owner: TypeName,
     from: SpotCursor,
 ) -> Verdict
-    requires { ⌜ Sound (rec (now stream) (now pool) (scalarsOf (now rows))) (now sizes) is × Sound (rec (now past) (now old) (scalarsOf (now rows))) (now widths) from × Clear (now table) × (1024 ≤ length (now table)) ⌝ }
-    ensures { λ r. ⌜ meaning (now (pool .entry)) (now (old .entry)) r ≡ checkPlaces (nameOf (now (old .entry)) owner) (placesFrom (rec (now (stream .entry)) (now (pool .entry)) (scalarsOf (now (rows .entry)))) is) (placesFrom (rec (now (past .entry)) (now (old .entry)) (scalarsOf (now (rows .entry)))) from) ⌝ }
+    requires { let cur : Rec = rec (now stream) (now pool) (scalarsOf (now rows)) in
+        let rel : Rec = rec (now past) (now old) (scalarsOf (now rows)) in
+        ⌜ Sound cur (now sizes) is × Sound rel (now widths) from × Clear (now table) × (1024 ≤ length (now table)) ⌝ }
+    ensures { λ r.
+        let cur : Rec = rec (now (stream .entry)) (now (pool .entry)) (scalarsOf (now (rows .entry))) in
+        let rel : Rec = rec (now (past .entry)) (now (old .entry)) (scalarsOf (now (rows .entry))) in
+        ⌜ meaning (cur .pool) (rel .pool) r ≡ checkPlaces (nameOf (rel .pool) owner) (placesFrom cur is) (placesFrom rel from) ⌝ }
 {
     fill_near(stream, pool, sizes, is, table);
     check_places(
@@ -182,7 +203,7 @@ fn check_near(
     )
 }
 
-// The same for a type of many fields.
+// The released fields of a type of many, by a table of its own.
 fn check_many(
     rows: &[u8],
     stream: &[u8],
@@ -195,8 +216,13 @@ fn check_many(
     owner: TypeName,
     from: SpotCursor,
 ) -> Verdict
-    requires { ⌜ Sound (rec (now stream) (now pool) (scalarsOf (now rows))) (now sizes) is × Sound (rec (now past) (now old) (scalarsOf (now rows))) (now widths) from ⌝ }
-    ensures { λ r. ⌜ meaning (now (pool .entry)) (now (old .entry)) r ≡ checkPlaces (nameOf (now (old .entry)) owner) (placesFrom (rec (now (stream .entry)) (now (pool .entry)) (scalarsOf (now (rows .entry)))) is) (placesFrom (rec (now (past .entry)) (now (old .entry)) (scalarsOf (now (rows .entry)))) from) ⌝ }
+    requires { let cur : Rec = rec (now stream) (now pool) (scalarsOf (now rows)) in
+        let rel : Rec = rec (now past) (now old) (scalarsOf (now rows)) in
+        ⌜ Sound cur (now sizes) is × Sound rel (now widths) from ⌝ }
+    ensures { λ r.
+        let cur : Rec = rec (now (stream .entry)) (now (pool .entry)) (scalarsOf (now (rows .entry))) in
+        let rel : Rec = rec (now (past .entry)) (now (old .entry)) (scalarsOf (now (rows .entry))) in
+        ⌜ meaning (cur .pool) (rel .pool) r ≡ checkPlaces (nameOf (rel .pool) owner) (placesFrom cur is) (placesFrom rel from) ⌝ }
 {
     let mut table = [0u64; 1024];
     check_near(
@@ -214,7 +240,7 @@ fn check_many(
     )
 }
 
-// The same for any type: a table costs more than it saves where the fields are few.
+// The released fields of any type: a table costs more than it saves where they are few.
 fn check_any(
     rows: &[u8],
     stream: &[u8],
@@ -227,8 +253,13 @@ fn check_any(
     owner: TypeName,
     was: SpotCursor,
 ) -> Verdict
-    requires { ⌜ Sound (rec (now stream) (now pool) (scalarsOf (now rows))) (now sizes) is × Sound (rec (now past) (now old) (scalarsOf (now rows))) (now widths) was ⌝ }
-    ensures { λ r. ⌜ meaning (now (pool .entry)) (now (old .entry)) r ≡ checkPlaces (nameOf (now (old .entry)) owner) (placesFrom (rec (now (stream .entry)) (now (pool .entry)) (scalarsOf (now (rows .entry)))) is) (placesFrom (rec (now (past .entry)) (now (old .entry)) (scalarsOf (now (rows .entry)))) was) ⌝ }
+    requires { let cur : Rec = rec (now stream) (now pool) (scalarsOf (now rows)) in
+        let rel : Rec = rec (now past) (now old) (scalarsOf (now rows)) in
+        ⌜ Sound cur (now sizes) is × Sound rel (now widths) was ⌝ }
+    ensures { λ r.
+        let cur : Rec = rec (now (stream .entry)) (now (pool .entry)) (scalarsOf (now (rows .entry))) in
+        let rel : Rec = rec (now (past .entry)) (now (old .entry)) (scalarsOf (now (rows .entry))) in
+        ⌜ meaning (cur .pool) (rel .pool) r ≡ checkPlaces (nameOf (rel .pool) owner) (placesFrom cur is) (placesFrom rel was) ⌝ }
 {
     if are_many(past, was) {
         return check_many(rows, stream, pool, sizes, is, past, old, widths, owner, was);
@@ -261,8 +292,13 @@ pub(crate) fn note_rest(
     cover: &mut [u32],
     i: usize,
 )
-    requires { ⌜ Sound (rec (now stream) (now pool) (scalarsOf (now rows))) (now sizes) (both .is) × Sound (rec (now past) (now old) (scalarsOf (now rows))) (now widths) (both .was) × (i < length (now cover)) ⌝ }
-    ensures { λ _. ⌜ now (cover .exit) ≡ set (now (cover .entry)) i (entryOf (eqPlaces (placesFrom (rec (now (stream .entry)) (now (pool .entry)) (scalarsOf (now (rows .entry)))) (both .is)) (placesFrom (rec (now (past .entry)) (now (old .entry)) (scalarsOf (now (rows .entry)))) (both .was)))) ⌝ }
+    requires { let cur : Rec = rec (now stream) (now pool) (scalarsOf (now rows)) in
+        let rel : Rec = rec (now past) (now old) (scalarsOf (now rows)) in
+        ⌜ Sound cur (now sizes) (both .is) × Sound rel (now widths) (both .was) × (i < length (now cover)) ⌝ }
+    ensures { λ _.
+        let cur : Rec = rec (now (stream .entry)) (now (pool .entry)) (scalarsOf (now (rows .entry))) in
+        let rel : Rec = rec (now (past .entry)) (now (old .entry)) (scalarsOf (now (rows .entry))) in
+        ⌜ now (cover .exit) ≡ set (now (cover .entry)) i (entryOf (eqPlaces (placesFrom cur (both .is)) (placesFrom rel (both .was)))) ⌝ }
 {
     let is = both.is;
     let was = both.was;
@@ -277,7 +313,7 @@ pub(crate) fn note_rest(
     }
 }
 
-// The same without the released fields that are seen to be kept; the entry of the type says whether all its fields are the same.
+// The released fields of a type but those at its front that are seen to be kept; puts the entry that says whether all fields are as they were.
 fn check_changed(
     rows: &[u8],
     stream: &[u8],
@@ -292,8 +328,14 @@ fn check_changed(
     cover: &mut [u32],
     i: usize,
 ) -> Verdict
-    requires { ⌜ Sound (rec (now stream) (now pool) (scalarsOf (now rows))) (now sizes) is × Sound (rec (now past) (now old) (scalarsOf (now rows))) (now widths) was × (i < length (now cover)) ⌝ }
-    ensures { λ r. ⌜ (meaning (now (pool .entry)) (now (old .entry)) r ≡ checkPlaces (nameOf (now (old .entry)) owner) (placesFrom (rec (now (stream .entry)) (now (pool .entry)) (scalarsOf (now (rows .entry)))) is) (placesFrom (rec (now (past .entry)) (now (old .entry)) (scalarsOf (now (rows .entry)))) was)) × (now (cover .exit) ≡ set (now (cover .entry)) i (entryOf (eqPlaces (placesFrom (rec (now (stream .entry)) (now (pool .entry)) (scalarsOf (now (rows .entry)))) is) (placesFrom (rec (now (past .entry)) (now (old .entry)) (scalarsOf (now (rows .entry)))) was)))) ⌝ }
+    requires { let cur : Rec = rec (now stream) (now pool) (scalarsOf (now rows)) in
+        let rel : Rec = rec (now past) (now old) (scalarsOf (now rows)) in
+        ⌜ Sound cur (now sizes) is × Sound rel (now widths) was × (i < length (now cover)) ⌝ }
+    ensures { λ r.
+        let cur : Rec = rec (now (stream .entry)) (now (pool .entry)) (scalarsOf (now (rows .entry))) in
+        let rel : Rec = rec (now (past .entry)) (now (old .entry)) (scalarsOf (now (rows .entry))) in
+        ⌜ (meaning (cur .pool) (rel .pool) r ≡ checkPlaces (nameOf (rel .pool) owner) (placesFrom cur is) (placesFrom rel was))
+        × (now (cover .exit) ≡ set (now (cover .entry)) i (entryOf (eqPlaces (placesFrom cur is) (placesFrom rel was)))) ⌝ }
 {
     let both = pass_kept(stream, pool, sizes, is, past, old, widths, was);
     note_rest(rows, stream, pool, sizes, past, old, widths, both, cover, i);
@@ -329,8 +371,17 @@ fn check_layout(
     cover: &mut [u32],
     i: usize,
 ) -> Verdict
-    requires { ⌜ (Typed (now stream) handle × SizesTable (rec (now stream) (now pool) (scalarsOf (now rows))) (now sizes) × Exact (rec (now stream) (now pool) (scalarsOf (now rows)))) × (Typed (now past) other × SizesTable (rec (now past) (now old) (scalarsOf (now rows))) (now widths) × Exact (rec (now past) (now old) (scalarsOf (now rows)))) × (i < length (now cover)) ⌝ }
-    ensures { λ r. ⌜ (meaning (now (pool .entry)) (now (old .entry)) r ≡ checkPlaces (typeName (now (past .entry)) (now (old .entry)) other) (layoutOf (rec (now (stream .entry)) (now (pool .entry)) (scalarsOf (now (rows .entry)))) handle .fields) (layoutOf (rec (now (past .entry)) (now (old .entry)) (scalarsOf (now (rows .entry)))) other .fields)) × (now (cover .exit) ≡ set (now (cover .entry)) i (entryOf (eqPlaces (layoutOf (rec (now (stream .entry)) (now (pool .entry)) (scalarsOf (now (rows .entry)))) handle .fields) (layoutOf (rec (now (past .entry)) (now (old .entry)) (scalarsOf (now (rows .entry)))) other .fields)))) ⌝ }
+    requires { let cur : Rec = rec (now stream) (now pool) (scalarsOf (now rows)) in
+        let rel : Rec = rec (now past) (now old) (scalarsOf (now rows)) in
+        ⌜ (Typed (cur .stream) handle × SizesTable cur (now sizes) × Exact cur)
+        × (Typed (rel .stream) other × SizesTable rel (now widths) × Exact rel)
+        × (i < length (now cover)) ⌝ }
+    ensures { λ r.
+        let cur : Rec = rec (now (stream .entry)) (now (pool .entry)) (scalarsOf (now (rows .entry))) in
+        let rel : Rec = rec (now (past .entry)) (now (old .entry)) (scalarsOf (now (rows .entry))) in
+        ⌜ (meaning (cur .pool) (rel .pool) r
+        ≡ checkPlaces (typeName (rel .stream) (rel .pool) other) (layoutOf cur handle .fields) (layoutOf rel other .fields))
+        × (now (cover .exit) ≡ set (now (cover .entry)) i (entryOf (eqPlaces (layoutOf cur handle .fields) (layoutOf rel other .fields)))) ⌝ }
 {
     let was = first_spot(past, other);
     let is = first_spot(stream, handle);
@@ -370,8 +421,16 @@ fn check_type(
     near: usize,
     cover: &mut [u32],
 ) -> Verdict
-    requires { ⌜ Tables (rec (now stream) (now pool) (scalarsOf (now rows))) (now types) (now sizes) × (Typed (now past) other × SizesTable (rec (now past) (now old) (scalarsOf (now rows))) (now widths) × Exact (rec (now past) (now old) (scalarsOf (now rows)))) × (length (now types) ≤ length (now cover)) ⌝ }
-    ensures { λ r. ⌜ (meaning (now (pool .entry)) (now (old .entry)) r ≡ checkType (typesOf (rec (now (stream .entry)) (now (pool .entry)) (scalarsOf (now (rows .entry))))) (layoutOf (rec (now (past .entry)) (now (old .entry)) (scalarsOf (now (rows .entry)))) other)) × (r ≡ Verdict.Passed → TypeNoted (rec (now (stream .entry)) (now (pool .entry)) (scalarsOf (now (rows .entry)))) (rec (now (past .entry)) (now (old .entry)) (scalarsOf (now (rows .entry)))) (now (types .entry)) other (now (cover .entry)) (now (cover .exit))) ⌝ }
+    requires { let cur : Rec = rec (now stream) (now pool) (scalarsOf (now rows)) in
+        let rel : Rec = rec (now past) (now old) (scalarsOf (now rows)) in
+        ⌜ Tables cur (now types) (now sizes)
+        × (Typed (rel .stream) other × SizesTable rel (now widths) × Exact rel)
+        × (length (now types) ≤ length (now cover)) ⌝ }
+    ensures { λ r.
+        let cur : Rec = rec (now (stream .entry)) (now (pool .entry)) (scalarsOf (now (rows .entry))) in
+        let rel : Rec = rec (now (past .entry)) (now (old .entry)) (scalarsOf (now (rows .entry))) in
+        ⌜ (meaning (cur .pool) (rel .pool) r ≡ checkType (typesOf cur) (layoutOf rel other))
+        × (r ≡ Verdict.Passed → TypeNoted cur rel (now (types .entry)) other (now (cover .entry)) (now (cover .exit))) ⌝ }
 {
     let found = find_same(stream, pool, types, past, old, other, near);
     let TypeFound::At(i) = found else {
@@ -421,8 +480,14 @@ pub(crate) fn check_fields(
     widths: &[u64],
     cover: &mut [u32],
 ) -> Verdict
-    requires { ⌜ Tables (rec (now stream) (now pool) (scalarsOf (now rows))) (now types) (now sizes) × Tables (rec (now past) (now old) (scalarsOf (now rows))) (now shipped) (now widths) × (length (now types) ≤ length (now cover)) ⌝ }
-    ensures { λ r. ⌜ (meaning (now (pool .entry)) (now (old .entry)) r ≡ checkFields (typesOf (rec (now (stream .entry)) (now (pool .entry)) (scalarsOf (now (rows .entry))))) (typesOf (rec (now (past .entry)) (now (old .entry)) (scalarsOf (now (rows .entry)))))) × (r ≡ Verdict.Passed → Changes (rec (now (stream .entry)) (now (pool .entry)) (scalarsOf (now (rows .entry)))) (rec (now (past .entry)) (now (old .entry)) (scalarsOf (now (rows .entry)))) (now (types .entry)) (now (cover .exit))) ⌝ }
+    requires { let cur : Rec = rec (now stream) (now pool) (scalarsOf (now rows)) in
+        let rel : Rec = rec (now past) (now old) (scalarsOf (now rows)) in
+        ⌜ Tables cur (now types) (now sizes) × Tables rel (now shipped) (now widths) × (length (now types) ≤ length (now cover)) ⌝ }
+    ensures { λ r.
+        let cur : Rec = rec (now (stream .entry)) (now (pool .entry)) (scalarsOf (now (rows .entry))) in
+        let rel : Rec = rec (now (past .entry)) (now (old .entry)) (scalarsOf (now (rows .entry))) in
+        ⌜ (meaning (cur .pool) (rel .pool) r ≡ checkFields (typesOf cur) (typesOf rel))
+        × (r ≡ Verdict.Passed → Changes cur rel (now (types .entry)) (now (cover .exit))) ⌝ }
 {
     fill_ones(cover, types.len());
     let mut i = 0;

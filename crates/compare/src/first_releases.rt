@@ -31,16 +31,21 @@ use record::text::same;
 use verdicts::arguments::Item;
 use verdicts::verdict::Verdict;
 ghost use mathlib.Core.Path.{_≡_};
+ghost use mathlib.Core.List.{[]};
 ghost use Rattle.record.specs.Stretch.{textOf};
 ghost use Rattle.record.specs.Lists.{optOf, constantOf, enumOf, valueOf, keyOf};
-ghost use Rattle.record.specs.Steps.{constantsAt, enumsAt, valuesAt, structsAt, unstoredAt, enumFound};
+ghost use Rattle.record.specs.Steps.{valuesAt, enumFound};
 ghost use Rattle.record.specs.Index.{Indexed};
 ghost use Rattle.record.specs.Ends.{EndsOf};
-ghost use Rattle.record.specs.Keys.{pluginKeys};
+ghost use Rattle.record.specs.Reading.{Rec, rec};
+ghost use Rattle.record.specs.Base.{Str};
 ghost use Rattle.verdicts.specs.Arguments.{itemOf};
 ghost use Rattle.compare.specs.Shipped.{shippedOf};
-ghost use Rattle.definition.specs.FirstReleases.{checkArrival, checkConstantArrival, checkConstantArrivals, checkValueArrival, checkValueArrivals, checkEnumArrival, checkEnumArrivals, checkKeyArrival, checkKeyArrivals, checkFirstReleases};
+ghost use Rattle.definition.specs.FirstReleases.{checkArrival, checkConstantArrival, checkConstantArrivals, checkValueArrival};
+ghost use Rattle.definition.specs.FirstReleases.{checkValueArrivals, checkEnumArrival, checkEnumArrivals, checkKeyArrival};
+ghost use Rattle.definition.specs.FirstReleases.{checkKeyArrivals, checkFirstReleases};
 ghost use Rattle.compare.specs.Sought.{PassedIf, ValueDated};
+ghost use Rattle.compare.specs.Records.{constantList, enumList, keyList};
 ghost use Rattle.verdicts.specs.Meaning.{meaning};
 
 // Nothing where the test holds, else this verdict.
@@ -63,7 +68,10 @@ fn check_arrival(
     names: Text,
     was: Shipped,
 ) -> Verdict
-    ensures { λ r. ⌜ meaning (now (pool .entry)) (now (old .entry)) r ≡ checkArrival (textOf (now (pool .entry)) current) (optOf (now (old .entry)) copy) (itemOf (now (pool .entry)) what) (textOf (now (pool .entry)) names) (shippedOf (now (old .entry)) was) ⌝ }
+    ensures { λ r.
+        let p : Str = now (pool .entry) in
+        let q : Str = now (old .entry) in
+        ⌜ meaning p q r ≡ checkArrival (textOf p current) (optOf q copy) (itemOf p what) (textOf p names) (shippedOf q was) ⌝ }
 {
     match was {
         Shipped::Absent => passed_if(
@@ -104,7 +112,10 @@ fn check_constant_arrival(
     is: Constant,
 ) -> Verdict
     requires { ⌜ Indexed (now past) (now old) (now index) ⌝ }
-    ensures { λ r. ⌜ meaning (now (pool .entry)) (now (old .entry)) r ≡ checkConstantArrival (textOf (now (pool .entry)) current) (optOf (now (old .entry)) copy) (constantsAt (now (past .entry)) (now (old .entry)) 0) (constantOf (now (pool .entry)) is) ⌝ }
+    ensures { λ r.
+        let p : Str = now (pool .entry) in
+        let rel : Rec = rec (now (past .entry)) (now (old .entry)) [] in
+        ⌜ meaning p (rel .pool) r ≡ checkConstantArrival (textOf p current) (optOf (rel .pool) copy) (constantList rel) (constantOf p is) ⌝ }
 {
     if !is.ora_api {
         return Verdict::Passed;
@@ -129,7 +140,11 @@ fn check_constant_arrivals(
     copy: OptText,
 ) -> Verdict
     requires { ⌜ Indexed (now past) (now old) (now index) ⌝ }
-    ensures { λ r. ⌜ meaning (now (pool .entry)) (now (old .entry)) r ≡ checkConstantArrivals (textOf (now (pool .entry)) current) (optOf (now (old .entry)) copy) (constantsAt (now (stream .entry)) (now (pool .entry)) 0) (constantsAt (now (past .entry)) (now (old .entry)) 0) ⌝ }
+    ensures { λ r.
+        let cur : Rec = rec (now (stream .entry)) (now (pool .entry)) [] in
+        let rel : Rec = rec (now (past .entry)) (now (old .entry)) [] in
+        ⌜ meaning (cur .pool) (rel .pool) r
+        ≡ checkConstantArrivals (textOf (cur .pool) current) (optOf (rel .pool) copy) (constantList cur) (constantList rel) ⌝ }
 {
     let mut cursor = Cursor::new();
     loop {
@@ -172,7 +187,12 @@ fn check_value_arrival(
     was: EnumStep,
     is: Value,
 ) -> Verdict
-    ensures { λ r. ⌜ meaning (now (pool .entry)) (now (old .entry)) r ≡ checkValueArrival (textOf (now (pool .entry)) current) (optOf (now (old .entry)) copy) (textOf (now (pool .entry)) (parent .name)) (optOf (now (pool .entry)) (parent .«first_release»)) (enumFound (now (past .entry)) (now (old .entry)) was) (valueOf (now (pool .entry)) is) ⌝ }
+    ensures { λ r.
+        let p : Str = now (pool .entry) in
+        let rel : Rec = rec (now (past .entry)) (now (old .entry)) [] in
+        ⌜ meaning p (rel .pool) r
+        ≡ checkValueArrival (textOf p current) (optOf (rel .pool) copy) (textOf p (parent .name)) (optOf p (parent .«first_release»))
+        (enumFound (rel .stream) (rel .pool) was) (valueOf p is) ⌝ }
 {
     let own = is.first_release;
     let since = parent.first_release;
@@ -213,7 +233,13 @@ fn check_value_arrivals(
     was: EnumStep,
     from: Cursor,
 ) -> Verdict
-    ensures { λ r. ⌜ meaning (now (pool .entry)) (now (old .entry)) r ≡ checkValueArrivals (textOf (now (pool .entry)) current) (optOf (now (old .entry)) copy) (textOf (now (pool .entry)) (parent .name)) (optOf (now (pool .entry)) (parent .«first_release»)) (enumFound (now (past .entry)) (now (old .entry)) was) (valuesAt (now (stream .entry)) (now (pool .entry)) (from .at)) ⌝ }
+    ensures { λ r.
+        let cur : Rec = rec (now (stream .entry)) (now (pool .entry)) [] in
+        let rel : Rec = rec (now (past .entry)) (now (old .entry)) [] in
+        ⌜ meaning (cur .pool) (rel .pool) r
+        ≡ checkValueArrivals (textOf (cur .pool) current) (optOf (rel .pool) copy) (textOf (cur .pool) (parent .name))
+        (optOf (cur .pool) (parent .«first_release»)) (enumFound (rel .stream) (rel .pool) was)
+        (valuesAt (cur .stream) (cur .pool) (from .at)) ⌝ }
 {
     let mut cursor = from;
     loop {
@@ -242,7 +268,11 @@ fn check_enum_arrival(
     from: Cursor,
 ) -> Verdict
     requires { ⌜ Indexed (now past) (now old) (now index) ⌝ }
-    ensures { λ r. ⌜ meaning (now (pool .entry)) (now (old .entry)) r ≡ checkEnumArrival (textOf (now (pool .entry)) current) (optOf (now (old .entry)) copy) (enumsAt (now (past .entry)) (now (old .entry)) 0) (enumOf (now (pool .entry)) is (valuesAt (now (stream .entry)) (now (pool .entry)) (from .at))) ⌝ }
+    ensures { λ r.
+        let cur : Rec = rec (now (stream .entry)) (now (pool .entry)) [] in
+        let rel : Rec = rec (now (past .entry)) (now (old .entry)) [] in
+        ⌜ meaning (cur .pool) (rel .pool) r ≡ checkEnumArrival (textOf (cur .pool) current) (optOf (rel .pool) copy) (enumList rel)
+        (enumOf (cur .pool) is (valuesAt (cur .stream) (cur .pool) (from .at))) ⌝ }
 {
     if !is.ora_api {
         return Verdict::Passed;
@@ -279,7 +309,11 @@ fn check_enum_arrivals(
     copy: OptText,
 ) -> Verdict
     requires { ⌜ Indexed (now past) (now old) (now index) ⌝ }
-    ensures { λ r. ⌜ meaning (now (pool .entry)) (now (old .entry)) r ≡ checkEnumArrivals (textOf (now (pool .entry)) current) (optOf (now (old .entry)) copy) (enumsAt (now (stream .entry)) (now (pool .entry)) 0) (enumsAt (now (past .entry)) (now (old .entry)) 0) ⌝ }
+    ensures { λ r.
+        let cur : Rec = rec (now (stream .entry)) (now (pool .entry)) [] in
+        let rel : Rec = rec (now (past .entry)) (now (old .entry)) [] in
+        ⌜ meaning (cur .pool) (rel .pool) r
+        ≡ checkEnumArrivals (textOf (cur .pool) current) (optOf (rel .pool) copy) (enumList cur) (enumList rel) ⌝ }
 {
     let mut cursor = Cursor::new();
     loop {
@@ -306,7 +340,10 @@ fn check_key_arrival(
     is: PluginKey,
 ) -> Verdict
     requires { ⌜ Indexed (now past) (now old) (now index) ⌝ }
-    ensures { λ r. ⌜ meaning (now (pool .entry)) (now (old .entry)) r ≡ checkKeyArrival (textOf (now (pool .entry)) current) (optOf (now (old .entry)) copy) (pluginKeys (structsAt (now (past .entry)) (now (old .entry)) 0) (unstoredAt (now (past .entry)) (now (old .entry)) 0)) (keyOf (now (pool .entry)) is) ⌝ }
+    ensures { λ r.
+        let p : Str = now (pool .entry) in
+        let rel : Rec = rec (now (past .entry)) (now (old .entry)) [] in
+        ⌜ meaning p (rel .pool) r ≡ checkKeyArrival (textOf p current) (optOf (rel .pool) copy) (keyList rel) (keyOf p is) ⌝ }
 {
     let first = is.first_release;
     let names = required_text(first);
@@ -326,7 +363,11 @@ fn check_key_arrivals(
     copy: OptText,
 ) -> Verdict
     requires { ⌜ Indexed (now past) (now old) (now index) ⌝ }
-    ensures { λ r. ⌜ meaning (now (pool .entry)) (now (old .entry)) r ≡ checkKeyArrivals (textOf (now (pool .entry)) current) (optOf (now (old .entry)) copy) (pluginKeys (structsAt (now (stream .entry)) (now (pool .entry)) 0) (unstoredAt (now (stream .entry)) (now (pool .entry)) 0)) (pluginKeys (structsAt (now (past .entry)) (now (old .entry)) 0) (unstoredAt (now (past .entry)) (now (old .entry)) 0)) ⌝ }
+    ensures { λ r.
+        let cur : Rec = rec (now (stream .entry)) (now (pool .entry)) [] in
+        let rel : Rec = rec (now (past .entry)) (now (old .entry)) [] in
+        ⌜ meaning (cur .pool) (rel .pool) r
+        ≡ checkKeyArrivals (textOf (cur .pool) current) (optOf (rel .pool) copy) (keyList cur) (keyList rel) ⌝ }
 {
     let mut at = first_key();
     loop {
@@ -354,7 +395,12 @@ pub(crate) fn check_first_releases(
     copy: OptText,
 ) -> Verdict
     requires { ⌜ EndsOf (now stream) ends × Indexed (now past) (now old) (now index) ⌝ }
-    ensures { λ r. ⌜ meaning (now (pool .entry)) (now (old .entry)) r ≡ checkFirstReleases (textOf (now (pool .entry)) current) (optOf (now (old .entry)) copy) (constantsAt (now (stream .entry)) (now (pool .entry)) 0) (constantsAt (now (past .entry)) (now (old .entry)) 0) (enumsAt (now (stream .entry)) (now (pool .entry)) 0) (enumsAt (now (past .entry)) (now (old .entry)) 0) (pluginKeys (structsAt (now (stream .entry)) (now (pool .entry)) 0) (unstoredAt (now (stream .entry)) (now (pool .entry)) 0)) (pluginKeys (structsAt (now (past .entry)) (now (old .entry)) 0) (unstoredAt (now (past .entry)) (now (old .entry)) 0)) ⌝ }
+    ensures { λ r.
+        let cur : Rec = rec (now (stream .entry)) (now (pool .entry)) [] in
+        let rel : Rec = rec (now (past .entry)) (now (old .entry)) [] in
+        ⌜ meaning (cur .pool) (rel .pool) r
+        ≡ checkFirstReleases (textOf (cur .pool) current) (optOf (rel .pool) copy) (constantList cur) (constantList rel) (enumList cur)
+        (enumList rel) (keyList cur) (keyList rel) ⌝ }
 {
     let first = upto(stream, ends.constants);
     let constants = check_constant_arrivals(first, pool, past, old, index, current, copy);

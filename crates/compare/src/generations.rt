@@ -27,22 +27,25 @@ ghost use Prim.Native.Nat.{_≤_};
 ghost use mathlib.Core.Path.{_≡_};
 ghost use mathlib.Core.List.{List, []};
 ghost use mathlib.Core.Bool.{_&&_};
+ghost use mathlib.Core.Option.{Option};
 ghost use lib.Dec.{eqb};
 ghost use lib.ListN.{length};
 ghost use Rattle.record.specs.Base.{Str, eqs};
 ghost use Rattle.record.specs.Stretch.{textOf};
 ghost use Rattle.record.specs.Scalars.{Scalar};
 ghost use Rattle.record.specs.Lists.{optOf, constantOf};
-ghost use Rattle.record.specs.Steps.{constantsAt, constantIn, structsAt, structFound, versionsAt};
+ghost use Rattle.record.specs.Steps.{constantIn, structFound, versionsAt};
 ghost use Rattle.record.specs.Index.{Indexed};
 ghost use Rattle.record.specs.Owner.{withName};
-ghost use Rattle.record.specs.References.{typesAt};
-ghost use Rattle.record.specs.Reading.{rec};
+ghost use Rattle.record.specs.Reading.{Rec, rec};
 ghost use Rattle.record.specs.Versioned.{versioned, InSlots};
 ghost use Rattle.layout.specs.Table.{TypesTable};
 ghost use Rattle.definition.specs.Pass.{_then_};
-ghost use Rattle.definition.specs.Generations.{isListed, checkStill, checkRise, checkFrom, checkAgainst, checkGeneration, checkRoots, checkGenerations};
+ghost use Rattle.definition.specs.Generations.{isListed, checkStill, checkRise, checkFrom, checkAgainst, checkGeneration};
+ghost use Rattle.definition.specs.Generations.{checkGenerations};
+ghost use Rattle.compare.specs.Generations.{rootsChecked};
 ghost use Rattle.compare.specs.CoverTable.{changedTypes, Changes, firstUncovered, touchedBy};
+ghost use Rattle.compare.specs.Records.{constantList, structList, versionList, typeLists, withWords};
 ghost use Rattle.verdicts.specs.Meaning.{meaning};
 
 // Whether a version entry is of this structure and number.
@@ -82,7 +85,11 @@ fn check_still(
     constant: Text,
     was: u32,
 ) -> Verdict
-    ensures { λ r. ⌜ ((q : Str) → meaning (now (pool .entry)) q r ≡ checkStill (touchedBy (now (stream .entry)) (now (pool .entry)) (now (types .entry)) (now (cover .entry)) (textOf (now (pool .entry)) root)) (textOf (now (pool .entry)) root) (textOf (now (pool .entry)) constant) was) ⌝ }
+    ensures { λ r.
+        let cur : Rec = rec (now (stream .entry)) (now (pool .entry)) [] in
+        let touched : Str → Option Str = touchedBy (cur .stream) (cur .pool) (now (types .entry)) (now (cover .entry)) in
+        ⌜ ((q : Str) → meaning (cur .pool) q r
+        ≡ checkStill (touched (textOf (cur .pool) root)) (textOf (cur .pool) root) (textOf (cur .pool) constant) was) ⌝ }
 {
     let touched = first_touched(pool, types, cover, bytes_of(pool, root));
     let Touched::Changed(handle) = touched else {
@@ -111,7 +118,12 @@ fn check_rise(
     current: Text,
     copy: OptText,
 ) -> Verdict
-    ensures { λ r. ⌜ ((q : Str) → meaning (now (pool .entry)) q r ≡ checkRise (textOf (now (pool .entry)) current) (optOf q copy) (versionsAt (now (stream .entry)) (now (pool .entry)) 0) (touchedBy (now (stream .entry)) (now (pool .entry)) (now (types .entry)) (now (cover .entry)) (textOf (now (pool .entry)) root)) (textOf (now (pool .entry)) root) (textOf (now (pool .entry)) constant) was is) ⌝ }
+    ensures { λ r.
+        let cur : Rec = rec (now (stream .entry)) (now (pool .entry)) [] in
+        let touched : Str → Option Str = touchedBy (cur .stream) (cur .pool) (now (types .entry)) (now (cover .entry)) in
+        ⌜ ((q : Str) → meaning (cur .pool) q r
+        ≡ checkRise (textOf (cur .pool) current) (optOf q copy) (versionList cur) (touched (textOf (cur .pool) root))
+        (textOf (cur .pool) root) (textOf (cur .pool) constant) was is) ⌝ }
 {
     if is < was {
         return Verdict::Fell { constant, was, is };
@@ -151,7 +163,12 @@ fn check_from(
     current: Text,
     copy: OptText,
 ) -> Verdict
-    ensures { λ r. ⌜ ((q : Str) → meaning (now (pool .entry)) q r ≡ checkFrom (textOf (now (pool .entry)) current) (optOf q copy) (versionsAt (now (stream .entry)) (now (pool .entry)) 0) (touchedBy (now (stream .entry)) (now (pool .entry)) (now (types .entry)) (now (cover .entry)) (textOf (now (pool .entry)) root)) (textOf (now (pool .entry)) root) (textOf (now (pool .entry)) constant) is (constantOf q was .value)) ⌝ }
+    ensures { λ r.
+        let cur : Rec = rec (now (stream .entry)) (now (pool .entry)) [] in
+        let touched : Str → Option Str = touchedBy (cur .stream) (cur .pool) (now (types .entry)) (now (cover .entry)) in
+        ⌜ ((q : Str) → meaning (cur .pool) q r
+        ≡ checkFrom (textOf (cur .pool) current) (optOf q copy) (versionList cur) (touched (textOf (cur .pool) root))
+        (textOf (cur .pool) root) (textOf (cur .pool) constant) is (constantOf q was .value)) ⌝ }
 {
     if was.is_text {
         return Verdict::Passed;
@@ -192,7 +209,13 @@ fn check_against(
     copy: OptText,
 ) -> Verdict
     requires { ⌜ Indexed (now past) (now old) (now «old_index») ⌝ }
-    ensures { λ r. ⌜ meaning (now (pool .entry)) (now (old .entry)) r ≡ checkAgainst (textOf (now (pool .entry)) current) (optOf (now (old .entry)) copy) (versionsAt (now (stream .entry)) (now (pool .entry)) 0) (touchedBy (now (stream .entry)) (now (pool .entry)) (now (types .entry)) (now (cover .entry)) (textOf (now (pool .entry)) root)) (textOf (now (pool .entry)) root) (textOf (now (pool .entry)) constant) is (constantIn (textOf (now (pool .entry)) constant) (constantsAt (now (past .entry)) (now (old .entry)) 0)) ⌝ }
+    ensures { λ r.
+        let cur : Rec = rec (now (stream .entry)) (now (pool .entry)) [] in
+        let rel : Rec = rec (now (past .entry)) (now (old .entry)) [] in
+        ⌜ meaning (cur .pool) (rel .pool) r
+        ≡ checkAgainst (textOf (cur .pool) current) (optOf (rel .pool) copy) (versionList cur)
+        (touchedBy (cur .stream) (cur .pool) (now (types .entry)) (now (cover .entry)) (textOf (cur .pool) root))
+        (textOf (cur .pool) root) (textOf (cur .pool) constant) is (constantIn (textOf (cur .pool) constant) (constantList rel)) ⌝ }
 {
     let found = first_constant(past, old, old_index, bytes_of(pool, constant));
     let ConstantStep::AConstant(was, _) = found else {
@@ -227,7 +250,12 @@ fn check_generation(
     copy: OptText,
 ) -> Verdict
     requires { ⌜ Indexed (now stream) (now pool) (now index) × Indexed (now past) (now old) (now «old_index») ⌝ }
-    ensures { λ r. ⌜ meaning (now (pool .entry)) (now (old .entry)) r ≡ checkGeneration (textOf (now (pool .entry)) current) (optOf (now (old .entry)) copy) (versionsAt (now (stream .entry)) (now (pool .entry)) 0) (structsAt (now (stream .entry)) (now (pool .entry)) 0) (constantsAt (now (stream .entry)) (now (pool .entry)) 0) (constantsAt (now (past .entry)) (now (old .entry)) 0) (touchedBy (now (stream .entry)) (now (pool .entry)) (now (types .entry)) (now (cover .entry))) (textOf (now (pool .entry)) root) ⌝ }
+    ensures { λ r.
+        let cur : Rec = rec (now (stream .entry)) (now (pool .entry)) [] in
+        let rel : Rec = rec (now (past .entry)) (now (old .entry)) [] in
+        ⌜ meaning (cur .pool) (rel .pool) r
+        ≡ checkGeneration (textOf (cur .pool) current) (optOf (rel .pool) copy) (versionList cur) (structList cur) (constantList cur)
+        (constantList rel) (touchedBy (cur .stream) (cur .pool) (now (types .entry)) (now (cover .entry))) (textOf (cur .pool) root) ⌝ }
 {
     let held = generation_constant(stream, pool, index, bytes_of(pool, root));
     let Generation::Held(constant, is) = held else {
@@ -264,7 +292,11 @@ fn check_slot(
     copy: OptText,
 ) -> Verdict
     requires { ⌜ Indexed (now stream) (now pool) (now index) × Indexed (now past) (now old) (now «old_index») ⌝ }
-    ensures { λ r. ⌜ meaning (now (pool .entry)) (now (old .entry)) r ≡ checkRoots (textOf (now (pool .entry)) current) (optOf (now (old .entry)) copy) (versionsAt (now (stream .entry)) (now (pool .entry)) 0) (structsAt (now (stream .entry)) (now (pool .entry)) 0) (constantsAt (now (stream .entry)) (now (pool .entry)) 0) (constantsAt (now (past .entry)) (now (old .entry)) 0) (touchedBy (now (stream .entry)) (now (pool .entry)) (now (types .entry)) (now (cover .entry))) (withName (structFound (now (stream .entry)) (now (pool .entry)) slot) []) ⌝ }
+    ensures { λ r.
+        let cur : Rec = rec (now (stream .entry)) (now (pool .entry)) [] in
+        let rel : Rec = rec (now (past .entry)) (now (old .entry)) [] in
+        ⌜ meaning (cur .pool) (rel .pool) r
+        ≡ rootsChecked cur rel current copy (now (types .entry)) (now (cover .entry)) (withName (structFound (cur .stream) (cur .pool) slot) []) ⌝ }
 {
     let StructStep::AStruct(root, _) = slot else {
         return Verdict::Passed;
@@ -299,8 +331,14 @@ fn check_roots(
     current: Text,
     copy: OptText,
 ) -> Verdict
-    requires { ⌜ InSlots (now stream) (now pool) slots × Indexed (now stream) (now pool) (now index) × Indexed (now past) (now old) (now «old_index») ⌝ }
-    ensures { λ r. ⌜ meaning (now (pool .entry)) (now (old .entry)) r ≡ checkRoots (textOf (now (pool .entry)) current) (optOf (now (old .entry)) copy) (versionsAt (now (stream .entry)) (now (pool .entry)) 0) (structsAt (now (stream .entry)) (now (pool .entry)) 0) (constantsAt (now (stream .entry)) (now (pool .entry)) 0) (constantsAt (now (past .entry)) (now (old .entry)) 0) (touchedBy (now (stream .entry)) (now (pool .entry)) (now (types .entry)) (now (cover .entry))) (versioned (structsAt (now (stream .entry)) (now (pool .entry)) 0)) ⌝ }
+    requires { ⌜ InSlots (now stream) (now pool) slots
+        × Indexed (now stream) (now pool) (now index)
+        × Indexed (now past) (now old) (now «old_index») ⌝ }
+    ensures { λ r.
+        let cur : Rec = rec (now (stream .entry)) (now (pool .entry)) [] in
+        let rel : Rec = rec (now (past .entry)) (now (old .entry)) [] in
+        ⌜ meaning (cur .pool) (rel .pool) r
+        ≡ rootsChecked cur rel current copy (now (types .entry)) (now (cover .entry)) (versioned (structList cur)) ⌝ }
 {
     let first = slots.info;
     let second = slots.metadata;
@@ -366,8 +404,15 @@ fn check_filled(
     current: Text,
     copy: OptText,
 ) -> Verdict
-    requires { ⌜ InSlots (now stream) (now pool) slots × Indexed (now stream) (now pool) (now index) × Indexed (now past) (now old) (now «old_index») ⌝ }
-    ensures { λ r. ⌜ meaning (now (pool .entry)) (now (old .entry)) r ≡ (meaning (now (pool .entry)) (now (old .entry)) (firstUncovered (now (stream .entry)) (now (types .entry)) (now (cover .entry))) then checkRoots (textOf (now (pool .entry)) current) (optOf (now (old .entry)) copy) (versionsAt (now (stream .entry)) (now (pool .entry)) 0) (structsAt (now (stream .entry)) (now (pool .entry)) 0) (constantsAt (now (stream .entry)) (now (pool .entry)) 0) (constantsAt (now (past .entry)) (now (old .entry)) 0) (touchedBy (now (stream .entry)) (now (pool .entry)) (now (types .entry)) (now (cover .entry))) (versioned (structsAt (now (stream .entry)) (now (pool .entry)) 0))) ⌝ }
+    requires { ⌜ InSlots (now stream) (now pool) slots
+        × Indexed (now stream) (now pool) (now index)
+        × Indexed (now past) (now old) (now «old_index») ⌝ }
+    ensures { λ r.
+        let cur : Rec = rec (now (stream .entry)) (now (pool .entry)) [] in
+        let rel : Rec = rec (now (past .entry)) (now (old .entry)) [] in
+        ⌜ meaning (cur .pool) (rel .pool) r
+        ≡ (meaning (cur .pool) (rel .pool) (firstUncovered (cur .stream) (now (types .entry)) (now (cover .entry)))
+        then rootsChecked cur rel current copy (now (types .entry)) (now (cover .entry)) (versioned (structList cur))) ⌝ }
 {
     let covered = check_covered(stream, types, cover);
     let Verdict::Passed = covered else {
@@ -403,8 +448,18 @@ pub(crate) fn check_generations(
     current: Text,
     copy: OptText,
 ) -> Verdict
-    requires { ⌜ TypesTable (now stream) (now pool) (now types) × (length (now stream) ≤ length (now marks)) × (length (now types) ≤ length (now cover)) × Indexed (now stream) (now pool) (now index) × Indexed (now past) (now old) (now «old_index») ⌝ }
-    ensures { λ r. ⌜ ((w : List Scalar) → Changes (rec (now (stream .entry)) (now (pool .entry)) w) (rec (now (past .entry)) (now (old .entry)) w) (now (types .entry)) (now (cover .entry)) → meaning (now (pool .entry)) (now (old .entry)) r ≡ checkGenerations (textOf (now (pool .entry)) current) (optOf (now (old .entry)) copy) (versionsAt (now (stream .entry)) (now (pool .entry)) 0) (typesAt (now (stream .entry)) (now (pool .entry))) (constantsAt (now (stream .entry)) (now (pool .entry)) 0) (constantsAt (now (past .entry)) (now (old .entry)) 0) (changedTypes (rec (now (stream .entry)) (now (pool .entry)) w) (rec (now (past .entry)) (now (old .entry)) w))) ⌝ }
+    requires { ⌜ TypesTable (now stream) (now pool) (now types)
+        × (length (now stream) ≤ length (now marks))
+        × (length (now types) ≤ length (now cover))
+        × Indexed (now stream) (now pool) (now index)
+        × Indexed (now past) (now old) (now «old_index») ⌝ }
+    ensures { λ r.
+        let cur : Rec = rec (now (stream .entry)) (now (pool .entry)) [] in
+        let rel : Rec = rec (now (past .entry)) (now (old .entry)) [] in
+        ⌜ ((w : List Scalar) → Changes (withWords cur w) (withWords rel w) (now (types .entry)) (now (cover .entry))
+        → meaning (cur .pool) (rel .pool) r
+        ≡ checkGenerations (textOf (cur .pool) current) (optOf (rel .pool) copy) (versionList cur) (typeLists cur) (constantList cur)
+        (constantList rel) (changedTypes (withWords cur w) (withWords rel w))) ⌝ }
 {
     let slots = versioned_structs(stream, pool);
     mark_owners(stream, pool, slots, index, marks);

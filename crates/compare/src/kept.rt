@@ -13,17 +13,19 @@ use record::sizes::sum;
 ghost use Prim.Native.Nat.{_≤_};
 ghost use mathlib.Core.Path.{_≡_};
 ghost use mathlib.Core.Bool.{true, false};
+ghost use mathlib.Core.List.{[]};
 ghost use lib.ListN.{length, getD};
-ghost use Rattle.record.specs.Commands.{place};
-ghost use Rattle.layout.specs.Spots.{cursorAt, OthersPassed};
+ghost use Rattle.record.specs.Reading.{Rec, rec};
+ghost use Rattle.layout.specs.Spots.{OthersPassed};
 ghost use Rattle.compare.specs.Near.{keyOf};
-ghost use Rattle.compare.specs.Alike.{AlikePassed};
+ghost use Rattle.compare.specs.Alike.{bodyAt, AlikePassed};
 ghost use Rattle.compare.specs.Kept.{Kept, Noted, Noting, keptFrom};
 
 // Notes the number of a name; answers whether it was noted before.
 fn note(seen: &mut [u8], name: &[u8]) -> bool
     requires { ⌜ 1024 ≤ length (now seen) ⌝ }
-    ensures { λ r. ⌜ Noting (now (seen .entry)) (now (name .entry)) (now (seen .exit)) × (r ≡ false → getD (now (seen .entry)) (keyOf (now (name .entry))) 0 ≡ 0) ⌝ }
+    ensures { λ r. ⌜ Noting (now (seen .entry)) (now (name .entry)) (now (seen .exit))
+        × (r ≡ false → getD (now (seen .entry)) (keyOf (now (name .entry))) 0 ≡ 0) ⌝ }
 {
     let key = key_of(name);
     if seen[key] != 0 {
@@ -43,7 +45,10 @@ fn leads(
     at: usize,
     offset: u64,
 ) -> bool
-    ensures { λ r. ⌜ (r ≡ true → OthersPassed (now (stream .entry)) (now (pool .entry)) (now (sizes .entry)) (now (name .entry)) front (cursorAt (Ahead.Body (place at)) offset)) ⌝ }
+    ensures { λ r.
+        let cur : Rec = rec (now (stream .entry)) (now (pool .entry)) [] in
+        ⌜ (r ≡ true
+        → OthersPassed (cur .stream) (cur .pool) (now (sizes .entry)) (now (name .entry)) front (bodyAt at offset)) ⌝ }
 {
     let c = pass_others(stream, pool, sizes, front, name);
     let ahead = c.ahead;
@@ -56,7 +61,7 @@ fn leads(
     c.offset == offset
 }
 
-// The same, by the numbers noted so far; the name's is noted.
+// Whether no field before a place has this name, by the numbers noted so far first; notes the name's number.
 fn is_first(
     stream: &[u8],
     pool: &[u8],
@@ -68,7 +73,11 @@ fn is_first(
     offset: u64,
 ) -> bool
     requires { ⌜ Noted (now stream) (now pool) (now sizes) front (now seen) at offset × (1024 ≤ length (now seen)) ⌝ }
-    ensures { λ r. ⌜ Noting (now (seen .entry)) (now (name .entry)) (now (seen .exit)) × (r ≡ true → OthersPassed (now (stream .entry)) (now (pool .entry)) (now (sizes .entry)) (now (name .entry)) front (cursorAt (Ahead.Body (place at)) offset)) ⌝ }
+    ensures { λ r.
+        let cur : Rec = rec (now (stream .entry)) (now (pool .entry)) [] in
+        ⌜ Noting (now (seen .entry)) (now (name .entry)) (now (seen .exit))
+        × (r ≡ true
+        → OthersPassed (cur .stream) (cur .pool) (now (sizes .entry)) (now (name .entry)) front (bodyAt at offset)) ⌝ }
 {
     if note(seen, name) {
         return leads(stream, pool, sizes, front, name, at, offset);
@@ -91,7 +100,11 @@ fn next_kept(
     offset: u64,
 ) -> AlikeStep
     requires { ⌜ Noted (now stream) (now pool) (now sizes) front (now seen) at offset × (1024 ≤ length (now seen)) ⌝ }
-    ensures { λ r. ⌜ keptFrom (now (stream .entry)) (now (pool .entry)) (now (sizes .entry)) front (now (seen .exit)) at (now (past .entry)) (now (old .entry)) (now (widths .entry)) to offset r ⌝ }
+    ensures { λ r.
+        let cur : Rec = rec (now (stream .entry)) (now (pool .entry)) [] in
+        let rel : Rec = rec (now (past .entry)) (now (old .entry)) [] in
+        ⌜ keptFrom (cur .stream) (cur .pool) (now (sizes .entry)) front (now (seen .exit)) at (rel .stream) (rel .pool) (now (widths .entry))
+        to offset r ⌝ }
 {
     let step = next_alike(stream, pool, sizes, at, past, old, widths, to);
     let AlikeStep::Alike(place, after, next, size) = step else {
@@ -119,7 +132,13 @@ fn pass_fields(
     start: u64,
 ) -> Both
     requires { ⌜ Noted (now stream) (now pool) (now sizes) front (now seen) from start × (1024 ≤ length (now seen)) ⌝ }
-    ensures { λ r. ⌜ Kept (now (stream .entry)) (now (pool .entry)) (now (sizes .entry)) front (now (past .entry)) (now (old .entry)) (now (widths .entry)) (cursorAt (Ahead.Body (place other)) start) (r .was) × AlikePassed (now (stream .entry)) (now (pool .entry)) (now (sizes .entry)) (now (past .entry)) (now (old .entry)) (now (widths .entry)) (cursorAt (Ahead.Body (place from)) start) (cursorAt (Ahead.Body (place other)) start) (r .is) (r .was) ⌝ }
+    ensures { λ r.
+        let cur : Rec = rec (now (stream .entry)) (now (pool .entry)) [] in
+        let rel : Rec = rec (now (past .entry)) (now (old .entry)) [] in
+        ⌜ Kept (cur .stream) (cur .pool) (now (sizes .entry)) front (rel .stream) (rel .pool) (now (widths .entry))
+        (bodyAt other start) (r .was)
+        × AlikePassed (cur .stream) (cur .pool) (now (sizes .entry)) (rel .stream) (rel .pool) (now (widths .entry))
+        (bodyAt from start) (bodyAt other start) (r .is) (r .was) ⌝ }
 {
     let mut at = from;
     let mut to = other;
@@ -146,7 +165,7 @@ fn pass_fields(
     }
 }
 
-// The same from two cursors on; the front of a family is not passed over.
+// What is ahead of two types without those fields, from two cursors on; before the front of a family none is passed over.
 pub(crate) fn pass_kept(
     stream: &[u8],
     pool: &[u8],
@@ -157,7 +176,11 @@ pub(crate) fn pass_kept(
     widths: &[u64],
     was: SpotCursor,
 ) -> Both
-    ensures { λ r. ⌜ Kept (now (stream .entry)) (now (pool .entry)) (now (sizes .entry)) is (now (past .entry)) (now (old .entry)) (now (widths .entry)) was (r .was) × AlikePassed (now (stream .entry)) (now (pool .entry)) (now (sizes .entry)) (now (past .entry)) (now (old .entry)) (now (widths .entry)) is was (r .is) (r .was) ⌝ }
+    ensures { λ r.
+        let cur : Rec = rec (now (stream .entry)) (now (pool .entry)) [] in
+        let rel : Rec = rec (now (past .entry)) (now (old .entry)) [] in
+        ⌜ Kept (cur .stream) (cur .pool) (now (sizes .entry)) is (rel .stream) (rel .pool) (now (widths .entry)) was (r .was)
+        × AlikePassed (cur .stream) (cur .pool) (now (sizes .entry)) (rel .stream) (rel .pool) (now (widths .entry)) is was (r .is) (r .was) ⌝ }
 {
     let ahead = is.ahead;
     let Ahead::Body(k) = ahead else {

@@ -22,7 +22,7 @@ ghost use Rattle.record.specs.Base.{Str, eqs};
 ghost use Rattle.record.specs.Scalars.{Scalar, scalarsOf};
 ghost use Rattle.record.specs.Lists.{optOf};
 ghost use Rattle.record.specs.Describe.{describedAs};
-ghost use Rattle.record.specs.Reading.{rec};
+ghost use Rattle.record.specs.Reading.{Rec, rec};
 ghost use Rattle.record.specs.Read.{Exact};
 ghost use Rattle.layout.specs.Handles.{layoutOf};
 ghost use Rattle.layout.specs.Table.{Typed};
@@ -86,7 +86,7 @@ fn same_text(pool: &[u8], d: Description, old: &[u8], e: Description) -> bool
     same(&a[..m], &b[..n])
 }
 
-// The same, by the parts first.
+// Whether two descriptions read the same, each in its pool: by their parts first.
 pub fn same_description(pool: &[u8], d: Description, old: &[u8], e: Description) -> bool
     ensures { λ r. ⌜ r ≡ eqs (describedAs (now (pool .entry)) d) (describedAs (now (old .entry)) e) ⌝ }
 {
@@ -131,8 +131,13 @@ pub(crate) fn same_rest(
     widths: &[u64],
     other: SpotCursor,
 ) -> bool
-    requires { ⌜ Sound (rec (now stream) (now pool) (scalarsOf (now rows))) (now sizes) from × Sound (rec (now past) (now old) (scalarsOf (now rows))) (now widths) other ⌝ }
-    ensures { λ r. ⌜ r ≡ eqPlaces (placesFrom (rec (now (stream .entry)) (now (pool .entry)) (scalarsOf (now (rows .entry)))) from) (placesFrom (rec (now (past .entry)) (now (old .entry)) (scalarsOf (now (rows .entry)))) other) ⌝ }
+    requires { let cur : Rec = rec (now stream) (now pool) (scalarsOf (now rows)) in
+        let rel : Rec = rec (now past) (now old) (scalarsOf (now rows)) in
+        ⌜ Sound cur (now sizes) from × Sound rel (now widths) other ⌝ }
+    ensures { λ r.
+        let cur : Rec = rec (now (stream .entry)) (now (pool .entry)) (scalarsOf (now (rows .entry))) in
+        let rel : Rec = rec (now (past .entry)) (now (old .entry)) (scalarsOf (now (rows .entry))) in
+        ⌜ r ≡ eqPlaces (placesFrom cur from) (placesFrom rel other) ⌝ }
 {
     let mut is = from;
     let mut was = other;
@@ -157,7 +162,7 @@ pub(crate) fn same_rest(
     }
 }
 
-// The same, those that are alike first.
+// Whether the fields from two cursors on are the same, those at their fronts that are alike first.
 fn same_ahead(
     rows: &[u8],
     stream: &[u8],
@@ -169,8 +174,13 @@ fn same_ahead(
     widths: &[u64],
     other: SpotCursor,
 ) -> bool
-    requires { ⌜ Sound (rec (now stream) (now pool) (scalarsOf (now rows))) (now sizes) from × Sound (rec (now past) (now old) (scalarsOf (now rows))) (now widths) other ⌝ }
-    ensures { λ r. ⌜ r ≡ eqPlaces (placesFrom (rec (now (stream .entry)) (now (pool .entry)) (scalarsOf (now (rows .entry)))) from) (placesFrom (rec (now (past .entry)) (now (old .entry)) (scalarsOf (now (rows .entry)))) other) ⌝ }
+    requires { let cur : Rec = rec (now stream) (now pool) (scalarsOf (now rows)) in
+        let rel : Rec = rec (now past) (now old) (scalarsOf (now rows)) in
+        ⌜ Sound cur (now sizes) from × Sound rel (now widths) other ⌝ }
+    ensures { λ r.
+        let cur : Rec = rec (now (stream .entry)) (now (pool .entry)) (scalarsOf (now (rows .entry))) in
+        let rel : Rec = rec (now (past .entry)) (now (old .entry)) (scalarsOf (now (rows .entry))) in
+        ⌜ r ≡ eqPlaces (placesFrom cur from) (placesFrom rel other) ⌝ }
 {
     let both = pass_alike(stream, pool, sizes, from, past, old, widths, other);
     let is = both.is;
@@ -194,7 +204,8 @@ pub(crate) fn is_bare(stream: &[u8], c: SpotCursor) -> bool
 
 // Whether the fields from two cursors on are seen to be the same since there are none.
 pub(crate) fn both_bare(stream: &[u8], is: SpotCursor, past: &[u8], was: SpotCursor) -> bool
-    ensures { λ r. ⌜ (r ≡ true → (p q : Str) (w : List Scalar) → eqPlaces (placesFrom (rec (now (stream .entry)) p w) is) (placesFrom (rec (now (past .entry)) q w) was) ≡ true) ⌝ }
+    ensures { λ r. ⌜ (r ≡ true → (p q : Str) (w : List Scalar)
+        → eqPlaces (placesFrom (rec (now (stream .entry)) p w) is) (placesFrom (rec (now (past .entry)) q w) was) ≡ true) ⌝ }
 {
     if is_bare(stream, is) {
         return is_bare(past, was);
@@ -214,8 +225,14 @@ pub fn same_fields(
     widths: &[u64],
     other: u32,
 ) -> bool
-    requires { ⌜ (Typed (now stream) handle × SizesTable (rec (now stream) (now pool) (scalarsOf (now rows))) (now sizes) × Exact (rec (now stream) (now pool) (scalarsOf (now rows)))) × (Typed (now past) other × SizesTable (rec (now past) (now old) (scalarsOf (now rows))) (now widths) × Exact (rec (now past) (now old) (scalarsOf (now rows)))) ⌝ }
-    ensures { λ r. ⌜ r ≡ eqPlaces (layoutOf (rec (now (stream .entry)) (now (pool .entry)) (scalarsOf (now (rows .entry)))) handle .fields) (layoutOf (rec (now (past .entry)) (now (old .entry)) (scalarsOf (now (rows .entry)))) other .fields) ⌝ }
+    requires { let cur : Rec = rec (now stream) (now pool) (scalarsOf (now rows)) in
+        let rel : Rec = rec (now past) (now old) (scalarsOf (now rows)) in
+        ⌜ (Typed (cur .stream) handle × SizesTable cur (now sizes) × Exact cur)
+        × (Typed (rel .stream) other × SizesTable rel (now widths) × Exact rel) ⌝ }
+    ensures { λ r.
+        let cur : Rec = rec (now (stream .entry)) (now (pool .entry)) (scalarsOf (now (rows .entry))) in
+        let rel : Rec = rec (now (past .entry)) (now (old .entry)) (scalarsOf (now (rows .entry))) in
+        ⌜ r ≡ eqPlaces (layoutOf cur handle .fields) (layoutOf rel other .fields) ⌝ }
 {
     let is = first_spot(stream, handle);
     let was = first_spot(past, other);
@@ -234,8 +251,11 @@ pub(crate) fn find_spot(
     from: SpotCursor,
     name: &[u8],
 ) -> SpotStep
-    requires { ⌜ Sound (rec (now stream) (now pool) (scalarsOf (now rows))) (now sizes) from ⌝ }
-    ensures { λ r. ⌜ placeIn (now (name .entry)) (placesFrom (rec (now (stream .entry)) (now (pool .entry)) (scalarsOf (now (rows .entry)))) from) ≡ spotFound (now (pool .entry)) r ⌝ }
+    requires { let cur : Rec = rec (now stream) (now pool) (scalarsOf (now rows)) in
+        ⌜ Sound cur (now sizes) from ⌝ }
+    ensures { λ r.
+        let cur : Rec = rec (now (stream .entry)) (now (pool .entry)) (scalarsOf (now (rows .entry))) in
+        ⌜ placeIn (now (name .entry)) (placesFrom cur from) ≡ spotFound (cur .pool) r ⌝ }
 {
     let mut cursor = from;
     loop {

@@ -11,6 +11,7 @@ ghost use mathlib.Core.Path.{_≡_};
 ghost use Rattle.record.specs.Release.{releaseParts, firstNaming};
 ghost use Rattle.record.specs.Stretch.{textOf};
 ghost use Rattle.record.specs.Lists.{optOf};
+ghost use Rattle.record.specs.Base.{Str};
 ghost use Rattle.definition.specs.ReleaseOrder.{checkEarlier, checkReleaseOrder};
 ghost use Rattle.verdicts.specs.Meaning.{meaning};
 
@@ -27,7 +28,10 @@ fn first_naming() -> Release
 
 // The copy's release against the current one, whose numbers are known.
 fn check_earlier(pool: &[u8], old: &[u8], current: Text, is: Release, was: Text) -> Verdict
-    ensures { λ r. ⌜ meaning (now (pool .entry)) (now (old .entry)) r ≡ checkEarlier (textOf (now (pool .entry)) current) is (textOf (now (old .entry)) was) (releaseParts (textOf (now (old .entry)) was)) ⌝ }
+    ensures { λ r.
+        let p : Str = now (pool .entry) in
+        let q : Str = now (old .entry) in
+        ⌜ meaning p q r ≡ checkEarlier (textOf p current) is (textOf q was) (releaseParts (textOf q was)) ⌝ }
 {
     let ReleaseParts::Parts(then) = release_parts(bytes_of(old, was)) else {
         return Verdict::WasUnreadable { was };
@@ -40,7 +44,10 @@ fn check_earlier(pool: &[u8], old: &[u8], current: Text, is: Release, was: Text)
 
 // The current record's release, and the copy's if it names one.
 pub fn check_release_order(pool: &[u8], old: &[u8], current: Text, copy: OptText) -> Verdict
-    ensures { λ r. ⌜ meaning (now (pool .entry)) (now (old .entry)) r ≡ checkReleaseOrder (textOf (now (pool .entry)) current) (optOf (now (old .entry)) copy) ⌝ }
+    ensures { λ r.
+        let p : Str = now (pool .entry) in
+        let q : Str = now (old .entry) in
+        ⌜ meaning p q r ≡ checkReleaseOrder (textOf p current) (optOf q copy) ⌝ }
 {
     let ReleaseParts::Parts(is) = release_parts(bytes_of(pool, current)) else {
         return Verdict::NowUnreadable { current };

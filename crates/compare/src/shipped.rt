@@ -17,11 +17,13 @@ use record::text::bytes_of;
 use record::text::same;
 ghost use mathlib.Core.Path.{_≡_};
 ghost use mathlib.Core.List.{[]};
-ghost use Rattle.record.specs.Steps.{constantsAt, structsAt, unstoredAt, enumFound};
+ghost use Rattle.record.specs.Steps.{constantsAt, enumFound};
 ghost use Rattle.record.specs.Index.{Indexed};
 ghost use Rattle.record.specs.Keys.{pluginKeys};
+ghost use Rattle.record.specs.Reading.{Rec, rec};
 ghost use Rattle.definition.specs.FirstReleases.{constantRelease, valueRelease, keyRelease};
 ghost use Rattle.compare.specs.Shipped.{shippedOf, ShippedWith, EnumShipped};
+ghost use Rattle.compare.specs.Records.{structList, keyList};
 
 pub enum Shipped {
     // The copy has no such item: it arrives now.
@@ -82,7 +84,9 @@ pub fn value_release(past: &[u8], old: &[u8], was: EnumStep, name: &[u8]) -> Shi
 
 // What the copy says of a plugin key by structures' fields alone.
 fn stored_release(past: &[u8], old: &[u8], name: &[u8]) -> Shipped
-    ensures { λ r. ⌜ shippedOf (now (old .entry)) r ≡ keyRelease (now (name .entry)) (pluginKeys (structsAt (now (past .entry)) (now (old .entry)) 0) []) ⌝ }
+    ensures { λ r.
+        let rel : Rec = rec (now (past .entry)) (now (old .entry)) [] in
+        ⌜ shippedOf (rel .pool) r ≡ keyRelease (now (name .entry)) (pluginKeys (structList rel) []) ⌝ }
 {
     let mut found = Shipped::Absent;
     let mut at = first_stored();
@@ -102,7 +106,9 @@ fn stored_release(past: &[u8], old: &[u8], name: &[u8]) -> Shipped
 // What the copy says of a plugin key: the unstored ones come after those of fields, so the last of them counts first.
 pub(crate) fn key_release(past: &[u8], old: &[u8], index: &[u16], name: &[u8]) -> Shipped
     requires { ⌜ Indexed (now past) (now old) (now index) ⌝ }
-    ensures { λ r. ⌜ shippedOf (now (old .entry)) r ≡ keyRelease (now (name .entry)) (pluginKeys (structsAt (now (past .entry)) (now (old .entry)) 0) (unstoredAt (now (past .entry)) (now (old .entry)) 0)) ⌝ }
+    ensures { λ r.
+        let rel : Rec = rec (now (past .entry)) (now (old .entry)) [] in
+        ⌜ shippedOf (rel .pool) r ≡ keyRelease (now (name .entry)) (keyList rel) ⌝ }
 {
     if let UnstoredStep::AnUnstored(k, _) = last_unstored(past, old, index, name) {
         let release = k.first_release;

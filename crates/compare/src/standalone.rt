@@ -20,13 +20,14 @@ use record::text::Text;
 use record::text::bytes_of;
 use verdicts::verdict::Verdict;
 ghost use mathlib.Core.Path.{_≡_};
-ghost use mathlib.Core.List.{_∷_};
+ghost use mathlib.Core.List.{_∷_, []};
 ghost use Rattle.record.specs.Stretch.{textOf};
 ghost use Rattle.record.specs.Scalars.{scalarsOf};
 ghost use Rattle.record.specs.Lists.{optOf, familyOf};
-ghost use Rattle.record.specs.Steps.{fieldsAt, variantsAt, familiesAt};
-ghost use Rattle.record.specs.Reading.{rec};
+ghost use Rattle.record.specs.Steps.{fieldsAt, variantsAt};
+ghost use Rattle.record.specs.Reading.{Rec, rec};
 ghost use Rattle.record.specs.Read.{Exact};
+ghost use Rattle.record.specs.Base.{Str};
 ghost use Rattle.layout.specs.Names.{nameOf};
 ghost use Rattle.layout.specs.Table.{TypesTable};
 ghost use Rattle.layout.specs.FieldSizes.{SizesTable};
@@ -35,6 +36,7 @@ ghost use Rattle.layout.specs.Tables.{Tables};
 ghost use Rattle.compare.specs.Layouts.{typesOf};
 ghost use Rattle.definition.specs.Standalone.{variantNames, gained, checkShippedAll, checkStanding, checkFamily, checkStandalone};
 ghost use Rattle.compare.specs.Pairs.{checkPair, pairTyped, PairFound};
+ghost use Rattle.compare.specs.Records.{familyList};
 ghost use Rattle.verdicts.specs.Meaning.{meaning};
 
 // The name of the first field from one cursor on that none from another on has.
@@ -49,8 +51,13 @@ fn gained(
     widths: &[u64],
     was: SpotCursor,
 ) -> OptText
-    requires { ⌜ Sound (rec (now stream) (now pool) (scalarsOf (now rows))) (now sizes) is × Sound (rec (now past) (now old) (scalarsOf (now rows))) (now widths) was ⌝ }
-    ensures { λ r. ⌜ optOf (now (pool .entry)) r ≡ gained (placesFrom (rec (now (stream .entry)) (now (pool .entry)) (scalarsOf (now (rows .entry)))) is) (placesFrom (rec (now (past .entry)) (now (old .entry)) (scalarsOf (now (rows .entry)))) was) ⌝ }
+    requires { let cur : Rec = rec (now stream) (now pool) (scalarsOf (now rows)) in
+        let rel : Rec = rec (now past) (now old) (scalarsOf (now rows)) in
+        ⌜ Sound cur (now sizes) is × Sound rel (now widths) was ⌝ }
+    ensures { λ r.
+        let cur : Rec = rec (now (stream .entry)) (now (pool .entry)) (scalarsOf (now (rows .entry))) in
+        let rel : Rec = rec (now (past .entry)) (now (old .entry)) (scalarsOf (now (rows .entry))) in
+        ⌜ optOf (cur .pool) r ≡ gained (placesFrom cur is) (placesFrom rel was) ⌝ }
 {
     let mut cursor = is;
     loop {
@@ -83,7 +90,10 @@ fn find_both(
     name: TypeName,
 ) -> Pair
     requires { ⌜ TypesTable (now stream) (now pool) (now types) × TypesTable (now past) (now old) (now shipped) ⌝ }
-    ensures { λ r. ⌜ PairFound (now (stream .entry)) (now (pool .entry)) (now (past .entry)) (now (old .entry)) (nameOf (now (pool .entry)) name) r ⌝ }
+    ensures { λ r.
+        let cur : Rec = rec (now (stream .entry)) (now (pool .entry)) [] in
+        let rel : Rec = rec (now (past .entry)) (now (old .entry)) [] in
+        ⌜ PairFound (cur .stream) (cur .pool) (rel .stream) (rel .pool) (nameOf (cur .pool) name) r ⌝ }
 {
     let was = find_named(past, old, shipped, pool, name);
     let TypeFound::At(j) = was else {
@@ -110,8 +120,13 @@ fn check_pair(
     name: TypeName,
     pair: Pair,
 ) -> Verdict
-    requires { ⌜ pairTyped (now stream) (now past) pair × (SizesTable (rec (now stream) (now pool) (scalarsOf (now rows))) (now sizes) × Exact (rec (now stream) (now pool) (scalarsOf (now rows)))) × (SizesTable (rec (now past) (now old) (scalarsOf (now rows))) (now widths) × Exact (rec (now past) (now old) (scalarsOf (now rows)))) ⌝ }
-    ensures { λ r. ⌜ meaning (now (pool .entry)) (now (old .entry)) r ≡ checkPair (rec (now (stream .entry)) (now (pool .entry)) (scalarsOf (now (rows .entry)))) (rec (now (past .entry)) (now (old .entry)) (scalarsOf (now (rows .entry)))) (nameOf (now (pool .entry)) name) pair ⌝ }
+    requires { let cur : Rec = rec (now stream) (now pool) (scalarsOf (now rows)) in
+        let rel : Rec = rec (now past) (now old) (scalarsOf (now rows)) in
+        ⌜ pairTyped (cur .stream) (rel .stream) pair × (SizesTable cur (now sizes) × Exact cur) × (SizesTable rel (now widths) × Exact rel) ⌝ }
+    ensures { λ r.
+        let cur : Rec = rec (now (stream .entry)) (now (pool .entry)) (scalarsOf (now (rows .entry))) in
+        let rel : Rec = rec (now (past .entry)) (now (old .entry)) (scalarsOf (now (rows .entry))) in
+        ⌜ meaning (cur .pool) (rel .pool) r ≡ checkPair cur rel (nameOf (cur .pool) name) pair ⌝ }
 {
     let Pair::Both(is, was) = pair else {
         return Verdict::Passed;
@@ -139,8 +154,14 @@ fn check_variants(
     family: Text,
     from: Cursor,
 ) -> Verdict
-    requires { ⌜ Tables (rec (now stream) (now pool) (scalarsOf (now rows))) (now types) (now sizes) × Tables (rec (now past) (now old) (scalarsOf (now rows))) (now shipped) (now widths) ⌝ }
-    ensures { λ r. ⌜ meaning (now (pool .entry)) (now (old .entry)) r ≡ checkShippedAll (typesOf (rec (now (stream .entry)) (now (pool .entry)) (scalarsOf (now (rows .entry))))) (typesOf (rec (now (past .entry)) (now (old .entry)) (scalarsOf (now (rows .entry))))) (variantNames (textOf (now (pool .entry)) family) (variantsAt (now (stream .entry)) (now (pool .entry)) (from .at))) ⌝ }
+    requires { let cur : Rec = rec (now stream) (now pool) (scalarsOf (now rows)) in
+        let rel : Rec = rec (now past) (now old) (scalarsOf (now rows)) in
+        ⌜ Tables cur (now types) (now sizes) × Tables rel (now shipped) (now widths) ⌝ }
+    ensures { λ r.
+        let cur : Rec = rec (now (stream .entry)) (now (pool .entry)) (scalarsOf (now (rows .entry))) in
+        let rel : Rec = rec (now (past .entry)) (now (old .entry)) (scalarsOf (now (rows .entry))) in
+        ⌜ meaning (cur .pool) (rel .pool) r ≡ checkShippedAll (typesOf cur) (typesOf rel)
+        (variantNames (textOf (cur .pool) family) (variantsAt (cur .stream) (cur .pool) (from .at))) ⌝ }
 {
     let mut cursor = from;
     loop {
@@ -176,8 +197,14 @@ fn check_layouts(
     family: Text,
     from: Cursor,
 ) -> Verdict
-    requires { ⌜ Tables (rec (now stream) (now pool) (scalarsOf (now rows))) (now types) (now sizes) × Tables (rec (now past) (now old) (scalarsOf (now rows))) (now shipped) (now widths) ⌝ }
-    ensures { λ r. ⌜ meaning (now (pool .entry)) (now (old .entry)) r ≡ checkShippedAll (typesOf (rec (now (stream .entry)) (now (pool .entry)) (scalarsOf (now (rows .entry))))) (typesOf (rec (now (past .entry)) (now (old .entry)) (scalarsOf (now (rows .entry))))) (textOf (now (pool .entry)) family ∷ variantNames (textOf (now (pool .entry)) family) (variantsAt (now (stream .entry)) (now (pool .entry)) (from .at))) ⌝ }
+    requires { let cur : Rec = rec (now stream) (now pool) (scalarsOf (now rows)) in
+        let rel : Rec = rec (now past) (now old) (scalarsOf (now rows)) in
+        ⌜ Tables cur (now types) (now sizes) × Tables rel (now shipped) (now widths) ⌝ }
+    ensures { λ r.
+        let cur : Rec = rec (now (stream .entry)) (now (pool .entry)) (scalarsOf (now (rows .entry))) in
+        let rel : Rec = rec (now (past .entry)) (now (old .entry)) (scalarsOf (now (rows .entry))) in
+        ⌜ meaning (cur .pool) (rel .pool) r ≡ checkShippedAll (typesOf cur) (typesOf rel)
+        (textOf (cur .pool) family ∷ variantNames (textOf (cur .pool) family) (variantsAt (cur .stream) (cur .pool) (from .at))) ⌝ }
 {
     let name = TypeName {
         front: family,
@@ -205,7 +232,10 @@ fn check_layouts(
 
 // Whether a family stands alone as the first released one of its name did, if there is one.
 fn check_standing(pool: &[u8], past: &[u8], old: &[u8], name: Text, standalone: bool) -> Verdict
-    ensures { λ r. ⌜ meaning (now (pool .entry)) (now (old .entry)) r ≡ checkStanding (familiesAt (now (past .entry)) (now (old .entry)) 0) (textOf (now (pool .entry)) name) standalone ⌝ }
+    ensures { λ r.
+        let p : Str = now (pool .entry) in
+        let rel : Rec = rec (now (past .entry)) (now (old .entry)) [] in
+        ⌜ meaning p (rel .pool) r ≡ checkStanding (familyList rel) (textOf p name) standalone ⌝ }
 {
     let found = find_family(past, old, Cursor::new(), bytes_of(pool, name));
     let FamilyStep::AFamily(was, _) = found else {
@@ -235,8 +265,14 @@ fn check_family(
     m: Family,
     from: Cursor,
 ) -> Verdict
-    requires { ⌜ Tables (rec (now stream) (now pool) (scalarsOf (now rows))) (now types) (now sizes) × Tables (rec (now past) (now old) (scalarsOf (now rows))) (now shipped) (now widths) ⌝ }
-    ensures { λ r. ⌜ meaning (now (pool .entry)) (now (old .entry)) r ≡ checkFamily (familiesAt (now (past .entry)) (now (old .entry)) 0) (typesOf (rec (now (stream .entry)) (now (pool .entry)) (scalarsOf (now (rows .entry))))) (typesOf (rec (now (past .entry)) (now (old .entry)) (scalarsOf (now (rows .entry))))) (familyOf (now (pool .entry)) m (fieldsAt (now (stream .entry)) (now (pool .entry)) (from .at)) (variantsAt (now (stream .entry)) (now (pool .entry)) (from .at))) ⌝ }
+    requires { let cur : Rec = rec (now stream) (now pool) (scalarsOf (now rows)) in
+        let rel : Rec = rec (now past) (now old) (scalarsOf (now rows)) in
+        ⌜ Tables cur (now types) (now sizes) × Tables rel (now shipped) (now widths) ⌝ }
+    ensures { λ r.
+        let cur : Rec = rec (now (stream .entry)) (now (pool .entry)) (scalarsOf (now (rows .entry))) in
+        let rel : Rec = rec (now (past .entry)) (now (old .entry)) (scalarsOf (now (rows .entry))) in
+        ⌜ meaning (cur .pool) (rel .pool) r ≡ checkFamily (familyList rel) (typesOf cur) (typesOf rel)
+        (familyOf (cur .pool) m (fieldsAt (cur .stream) (cur .pool) (from .at)) (variantsAt (cur .stream) (cur .pool) (from .at))) ⌝ }
 {
     let name = m.name;
     let verdict = check_standing(pool, past, old, name, m.standalone);
@@ -273,8 +309,13 @@ pub(crate) fn check_standalone(
     shipped: &[u32],
     widths: &[u64],
 ) -> Verdict
-    requires { ⌜ Tables (rec (now stream) (now pool) (scalarsOf (now rows))) (now types) (now sizes) × Tables (rec (now past) (now old) (scalarsOf (now rows))) (now shipped) (now widths) ⌝ }
-    ensures { λ r. ⌜ meaning (now (pool .entry)) (now (old .entry)) r ≡ checkStandalone (familiesAt (now (stream .entry)) (now (pool .entry)) 0) (familiesAt (now (past .entry)) (now (old .entry)) 0) (typesOf (rec (now (stream .entry)) (now (pool .entry)) (scalarsOf (now (rows .entry))))) (typesOf (rec (now (past .entry)) (now (old .entry)) (scalarsOf (now (rows .entry))))) ⌝ }
+    requires { let cur : Rec = rec (now stream) (now pool) (scalarsOf (now rows)) in
+        let rel : Rec = rec (now past) (now old) (scalarsOf (now rows)) in
+        ⌜ Tables cur (now types) (now sizes) × Tables rel (now shipped) (now widths) ⌝ }
+    ensures { λ r.
+        let cur : Rec = rec (now (stream .entry)) (now (pool .entry)) (scalarsOf (now (rows .entry))) in
+        let rel : Rec = rec (now (past .entry)) (now (old .entry)) (scalarsOf (now (rows .entry))) in
+        ⌜ meaning (cur .pool) (rel .pool) r ≡ checkStandalone (familyList cur) (familyList rel) (typesOf cur) (typesOf rel) ⌝ }
 {
     let mut cursor = Cursor::new();
     loop {
