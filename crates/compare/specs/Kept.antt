@@ -11,7 +11,8 @@ use Rattle.layout.specs.Spots.{placesFrom, Sound, OthersPassed}
 use Rattle.layout.specs.declared.spots.SpotCursor.{SpotCursor}
 use Rattle.definition.specs.Fields.{checkPlaces}
 use Rattle.compare.specs.Near.{keyOf}
-use Rattle.compare.specs.Alike.{bodyAt, AlikeNext}
+use Rattle.compare.specs.Alike.{bodyAt, AlikePassed, AlikeNext}
+use Rattle.compare.specs.declared.alike.Both.{Both}
 use Rattle.compare.specs.declared.alike.AlikeStep.{AlikeStep}
 use Rattle.compare.specs.declared.alike.AlikeStep.the-variants.{Differ, Alike}
 
@@ -21,6 +22,11 @@ pub record Kept (s p : Str) (z : List ℕ) (c : SpotCursor) (b q : Str) (y : Lis
       → (n : Str)
       → checkPlaces n (placesFrom (rec s p w) c) (placesFrom (rec b q w) d) ≡ checkPlaces n (placesFrom (rec s p w) c) (placesFrom (rec b q w) e)
   pub sound : (w : List Scalar) → Sound (rec s p w) z c → Sound (rec b q w) y d → Sound (rec b q w) y e
+
+-- fields at the fronts of two types were passed over: they are alike, and the released ones stand as they were
+pub record KeptPassed (s p : Str) (z : List ℕ) (b q : Str) (y : List ℕ) (front is was : SpotCursor) (r : Both) : Type 0 where
+  pub kept : Kept s p z front b q y was (r .was)
+  pub alike : AlikePassed s p z b q y is was (r .is) (r .was)
 
 -- a name whose number is not noted is of no field before a place
 pub record Noted (s p : Str) (z : List ℕ) (c : SpotCursor) (t : List ℕ) (at offset : ℕ) : Type 0 where

@@ -38,7 +38,7 @@ ghost use Rattle.layout.specs.Tables.{Tables};
 ghost use Rattle.definition.specs.Fields.{placeIn, checkKept, checkPlace, checkPlaces, checkType, checkFields, eqPlaces};
 ghost use Rattle.compare.specs.Layouts.{typesOf, spotFound};
 ghost use Rattle.compare.specs.Near.{Near};
-ghost use Rattle.compare.specs.Fields.{entryOf, Ones, TypeNoted};
+ghost use Rattle.compare.specs.Fields.{entryOf, Ones, FieldsHeld, TypeNoted};
 ghost use Rattle.compare.specs.CoverTable.{Changes};
 ghost use Rattle.verdicts.specs.Meaning.{meaning};
 
@@ -129,33 +129,44 @@ fn check_place(
     check_kept(pool, old, owner, was, x)
 }
 
+// A released type against the current one of its name: what it is called, what is ahead of each, and the index of its entry.
+pub struct Pairing {
+    pub owner: TypeName,
+    pub is: SpotCursor,
+    pub was: SpotCursor,
+    pub index: usize,
+}
+
 // The released fields of a type from a cursor on against those that are now, from another on.
 fn check_places(
     rows: &[u8],
     stream: &[u8],
     pool: &[u8],
     sizes: &[u64],
-    is: SpotCursor,
-    table: &[u64],
     past: &[u8],
     old: &[u8],
     widths: &[u64],
-    owner: TypeName,
-    from: SpotCursor,
+    table: &[u64],
+    pair: Pairing,
 ) -> Verdict
     requires { let cur : Rec = rec (now stream) (now pool) (scalarsOf (now rows)) in
         let rel : Rec = rec (now past) (now old) (scalarsOf (now rows)) in
-        ⌜ Sound cur (now sizes) is × Near (cur .stream) (cur .pool) (now sizes) is (now table) × Sound rel (now widths) from ⌝ }
+        ⌜ Sound cur (now sizes) (pair .is)
+        × Near (cur .stream) (cur .pool) (now sizes) (pair .is) (now table)
+        × Sound rel (now widths) (pair .was) ⌝ }
     ensures { λ r.
         let cur : Rec = rec (now (stream .entry)) (now (pool .entry)) (scalarsOf (now (rows .entry))) in
         let rel : Rec = rec (now (past .entry)) (now (old .entry)) (scalarsOf (now (rows .entry))) in
-        ⌜ meaning (cur .pool) (rel .pool) r ≡ checkPlaces (nameOf (rel .pool) owner) (placesFrom cur is) (placesFrom rel from) ⌝ }
+        ⌜ meaning (cur .pool) (rel .pool) r
+        ≡ checkPlaces (nameOf (rel .pool) (pair .owner)) (placesFrom cur (pair .is)) (placesFrom rel (pair .was)) ⌝ }
 {
-    let mut cursor = from;
+    let mut cursor = pair.was;
     loop {
         let SpotStep::ASpot(was, after) = next_spot(rows, past, old, widths, cursor) else {
             return Verdict::Passed;
         };
+        let is = pair.is;
+        let owner = pair.owner;
         let verdict = check_place(rows, stream, pool, sizes, is, table, old, owner, was);
         if let Verdict::Passed = verdict {
             cursor = after;
@@ -171,36 +182,24 @@ fn check_near(
     stream: &[u8],
     pool: &[u8],
     sizes: &[u64],
-    is: SpotCursor,
-    table: &mut [u64],
     past: &[u8],
     old: &[u8],
     widths: &[u64],
-    owner: TypeName,
-    from: SpotCursor,
+    table: &mut [u64],
+    pair: Pairing,
 ) -> Verdict
     requires { let cur : Rec = rec (now stream) (now pool) (scalarsOf (now rows)) in
         let rel : Rec = rec (now past) (now old) (scalarsOf (now rows)) in
-        ⌜ Sound cur (now sizes) is × Sound rel (now widths) from × Clear (now table) × (1024 ≤ length (now table)) ⌝ }
+        ⌜ Sound cur (now sizes) (pair .is) × Sound rel (now widths) (pair .was) × Clear (now table) × (1024 ≤ length (now table)) ⌝ }
     ensures { λ r.
         let cur : Rec = rec (now (stream .entry)) (now (pool .entry)) (scalarsOf (now (rows .entry))) in
         let rel : Rec = rec (now (past .entry)) (now (old .entry)) (scalarsOf (now (rows .entry))) in
-        ⌜ meaning (cur .pool) (rel .pool) r ≡ checkPlaces (nameOf (rel .pool) owner) (placesFrom cur is) (placesFrom rel from) ⌝ }
+        ⌜ meaning (cur .pool) (rel .pool) r
+        ≡ checkPlaces (nameOf (rel .pool) (pair .owner)) (placesFrom cur (pair .is)) (placesFrom rel (pair .was)) ⌝ }
 {
+    let is = pair.is;
     fill_near(stream, pool, sizes, is, table);
-    check_places(
-        rows,
-        stream,
-        pool,
-        sizes,
-        is,
-        table,
-        past,
-        old,
-        widths,
-        owner,
-        from,
-    )
+    check_places(rows, stream, pool, sizes, past, old, widths, table, pair)
 }
 
 // The released fields of a type of many, by a table of its own.
@@ -209,20 +208,19 @@ fn check_many(
     stream: &[u8],
     pool: &[u8],
     sizes: &[u64],
-    is: SpotCursor,
     past: &[u8],
     old: &[u8],
     widths: &[u64],
-    owner: TypeName,
-    from: SpotCursor,
+    pair: Pairing,
 ) -> Verdict
     requires { let cur : Rec = rec (now stream) (now pool) (scalarsOf (now rows)) in
         let rel : Rec = rec (now past) (now old) (scalarsOf (now rows)) in
-        ⌜ Sound cur (now sizes) is × Sound rel (now widths) from ⌝ }
+        ⌜ Sound cur (now sizes) (pair .is) × Sound rel (now widths) (pair .was) ⌝ }
     ensures { λ r.
         let cur : Rec = rec (now (stream .entry)) (now (pool .entry)) (scalarsOf (now (rows .entry))) in
         let rel : Rec = rec (now (past .entry)) (now (old .entry)) (scalarsOf (now (rows .entry))) in
-        ⌜ meaning (cur .pool) (rel .pool) r ≡ checkPlaces (nameOf (rel .pool) owner) (placesFrom cur is) (placesFrom rel from) ⌝ }
+        ⌜ meaning (cur .pool) (rel .pool) r
+        ≡ checkPlaces (nameOf (rel .pool) (pair .owner)) (placesFrom cur (pair .is)) (placesFrom rel (pair .was)) ⌝ }
 {
     let mut table = [0u64; 1024];
     check_near(
@@ -230,13 +228,11 @@ fn check_many(
         stream,
         pool,
         sizes,
-        is,
-        &mut table,
         past,
         old,
         widths,
-        owner,
-        from,
+        &mut table,
+        pair,
     )
 }
 
@@ -246,36 +242,34 @@ fn check_any(
     stream: &[u8],
     pool: &[u8],
     sizes: &[u64],
-    is: SpotCursor,
     past: &[u8],
     old: &[u8],
     widths: &[u64],
-    owner: TypeName,
-    was: SpotCursor,
+    pair: Pairing,
 ) -> Verdict
     requires { let cur : Rec = rec (now stream) (now pool) (scalarsOf (now rows)) in
         let rel : Rec = rec (now past) (now old) (scalarsOf (now rows)) in
-        ⌜ Sound cur (now sizes) is × Sound rel (now widths) was ⌝ }
+        ⌜ Sound cur (now sizes) (pair .is) × Sound rel (now widths) (pair .was) ⌝ }
     ensures { λ r.
         let cur : Rec = rec (now (stream .entry)) (now (pool .entry)) (scalarsOf (now (rows .entry))) in
         let rel : Rec = rec (now (past .entry)) (now (old .entry)) (scalarsOf (now (rows .entry))) in
-        ⌜ meaning (cur .pool) (rel .pool) r ≡ checkPlaces (nameOf (rel .pool) owner) (placesFrom cur is) (placesFrom rel was) ⌝ }
+        ⌜ meaning (cur .pool) (rel .pool) r
+        ≡ checkPlaces (nameOf (rel .pool) (pair .owner)) (placesFrom cur (pair .is)) (placesFrom rel (pair .was)) ⌝ }
 {
+    let was = pair.was;
     if are_many(past, was) {
-        return check_many(rows, stream, pool, sizes, is, past, old, widths, owner, was);
+        return check_many(rows, stream, pool, sizes, past, old, widths, pair);
     }
     check_places(
         rows,
         stream,
         pool,
         sizes,
-        is,
-        &sizes[..0],
         past,
         old,
         widths,
-        owner,
-        was,
+        &sizes[..0],
+        pair,
     )
 }
 
@@ -319,42 +313,55 @@ fn check_changed(
     stream: &[u8],
     pool: &[u8],
     sizes: &[u64],
-    is: SpotCursor,
     past: &[u8],
     old: &[u8],
     widths: &[u64],
-    owner: TypeName,
-    was: SpotCursor,
+    pair: Pairing,
     cover: &mut [u32],
-    i: usize,
 ) -> Verdict
     requires { let cur : Rec = rec (now stream) (now pool) (scalarsOf (now rows)) in
         let rel : Rec = rec (now past) (now old) (scalarsOf (now rows)) in
-        ⌜ Sound cur (now sizes) is × Sound rel (now widths) was × (i < length (now cover)) ⌝ }
+        ⌜ Sound cur (now sizes) (pair .is) × Sound rel (now widths) (pair .was) × (pair .index < length (now cover)) ⌝ }
     ensures { λ r.
         let cur : Rec = rec (now (stream .entry)) (now (pool .entry)) (scalarsOf (now (rows .entry))) in
         let rel : Rec = rec (now (past .entry)) (now (old .entry)) (scalarsOf (now (rows .entry))) in
-        ⌜ (meaning (cur .pool) (rel .pool) r ≡ checkPlaces (nameOf (rel .pool) owner) (placesFrom cur is) (placesFrom rel was))
-        × (now (cover .exit) ≡ set (now (cover .entry)) i (entryOf (eqPlaces (placesFrom cur is) (placesFrom rel was)))) ⌝ }
+        ⌜ FieldsHeld cur rel (nameOf (rel .pool) (pair .owner)) (placesFrom cur (pair .is)) (placesFrom rel (pair .was)) (pair .index)
+        (now (cover .entry)) (now (cover .exit)) r ⌝ }
 {
+    let is = pair.is;
+    let was = pair.was;
     let both = pass_kept(stream, pool, sizes, is, past, old, widths, was);
-    note_rest(rows, stream, pool, sizes, past, old, widths, both, cover, i);
-    let rest = both.was;
-    if is_bare(past, rest) {
-        return Verdict::Passed;
-    }
-    check_any(
+    note_rest(
         rows,
         stream,
         pool,
         sizes,
-        is,
         past,
         old,
         widths,
+        both,
+        cover,
+        pair.index,
+    );
+    let rest = both.was;
+    if is_bare(past, rest) {
+        return Verdict::Passed;
+    }
+    let owner = pair.owner;
+    let left = Pairing {
         owner,
-        rest,
-    )
+        is,
+        was: rest,
+        index: pair.index,
+    };
+    check_any(rows, stream, pool, sizes, past, old, widths, left)
+}
+
+// A released type and the current one of its name, by their handles, and the index of the current one.
+pub struct Handles {
+    pub is: u32,
+    pub was: u32,
+    pub index: usize,
 }
 
 // The fields of a released type against those of a current one, by the handles of the types.
@@ -363,48 +370,49 @@ fn check_layout(
     stream: &[u8],
     pool: &[u8],
     sizes: &[u64],
-    handle: u32,
     past: &[u8],
     old: &[u8],
     widths: &[u64],
-    other: u32,
+    types: Handles,
     cover: &mut [u32],
-    i: usize,
 ) -> Verdict
     requires { let cur : Rec = rec (now stream) (now pool) (scalarsOf (now rows)) in
         let rel : Rec = rec (now past) (now old) (scalarsOf (now rows)) in
-        ⌜ (Typed (cur .stream) handle × SizesTable cur (now sizes) × Exact cur)
-        × (Typed (rel .stream) other × SizesTable rel (now widths) × Exact rel)
-        × (i < length (now cover)) ⌝ }
+        ⌜ (Typed (cur .stream) (types .is) × SizesTable cur (now sizes) × Exact cur)
+        × (Typed (rel .stream) (types .was) × SizesTable rel (now widths) × Exact rel)
+        × (types .index < length (now cover)) ⌝ }
     ensures { λ r.
         let cur : Rec = rec (now (stream .entry)) (now (pool .entry)) (scalarsOf (now (rows .entry))) in
         let rel : Rec = rec (now (past .entry)) (now (old .entry)) (scalarsOf (now (rows .entry))) in
-        ⌜ (meaning (cur .pool) (rel .pool) r
-        ≡ checkPlaces (typeName (rel .stream) (rel .pool) other) (layoutOf cur handle .fields) (layoutOf rel other .fields))
-        × (now (cover .exit) ≡ set (now (cover .entry)) i (entryOf (eqPlaces (layoutOf cur handle .fields) (layoutOf rel other .fields)))) ⌝ }
+        ⌜ FieldsHeld cur rel (typeName (rel .stream) (rel .pool) (types .was)) (layoutOf cur (types .is) .fields)
+        (layoutOf rel (types .was) .fields) (types .index) (now (cover .entry)) (now (cover .exit)) r ⌝ }
 {
-    let was = first_spot(past, other);
-    let is = first_spot(stream, handle);
+    let was = first_spot(past, types.was);
+    let is = first_spot(stream, types.is);
     if is_bare(past, was) {
         let both = Both { is, was };
-        note_rest(rows, stream, pool, sizes, past, old, widths, both, cover, i);
+        note_rest(
+            rows,
+            stream,
+            pool,
+            sizes,
+            past,
+            old,
+            widths,
+            both,
+            cover,
+            types.index,
+        );
         return Verdict::Passed;
     }
-    let owner = type_name(past, other);
-    check_changed(
-        rows,
-        stream,
-        pool,
-        sizes,
-        is,
-        past,
-        old,
-        widths,
+    let owner = type_name(past, types.was);
+    let pair = Pairing {
         owner,
+        is,
         was,
-        cover,
-        i,
-    )
+        index: types.index,
+    };
+    check_changed(rows, stream, pool, sizes, past, old, widths, pair, cover)
 }
 
 // One released type, by its handle; its name is thought to stand near an index of the current types.
@@ -439,19 +447,12 @@ fn check_type(
         };
     };
     let handle = types[i];
-    check_layout(
-        rows,
-        stream,
-        pool,
-        sizes,
-        handle,
-        past,
-        old,
-        widths,
-        other,
-        cover,
-        i,
-    )
+    let both = Handles {
+        is: handle,
+        was: other,
+        index: i,
+    };
+    check_layout(rows, stream, pool, sizes, past, old, widths, both, cover)
 }
 
 // Puts 1 for the first entries of a table, as many as n.

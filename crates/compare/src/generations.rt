@@ -41,8 +41,7 @@ ghost use Rattle.record.specs.Reading.{Rec, rec};
 ghost use Rattle.record.specs.Versioned.{versioned, InSlots};
 ghost use Rattle.layout.specs.Table.{TypesTable};
 ghost use Rattle.definition.specs.Pass.{_then_};
-ghost use Rattle.definition.specs.Generations.{isListed, checkStill, checkRise, checkFrom, checkAgainst, checkGeneration};
-ghost use Rattle.definition.specs.Generations.{checkGenerations};
+ghost use Rattle.definition.specs.Generations.{isListed, checkStill, checkRise, checkFrom, checkAgainst, checkGenerations};
 ghost use Rattle.compare.specs.Generations.{rootsChecked};
 ghost use Rattle.compare.specs.CoverTable.{changedTypes, Changes, firstUncovered, touchedBy};
 ghost use Rattle.compare.specs.Records.{constantList, structList, versionList, typeLists, withWords};
@@ -105,26 +104,35 @@ fn check_still(
     }
 }
 
+// A root with its number now, and the releases that a verdict on it names.
+pub struct Numbered {
+    pub root: Text,
+    pub constant: Text,
+    pub is: u32,
+    pub current: Text,
+    pub copy: OptText,
+}
+
 // The number of a root before and now.
 fn check_rise(
     stream: &[u8],
     pool: &[u8],
     types: &[u32],
     cover: &[u32],
-    root: Text,
-    constant: Text,
+    n: Numbered,
     was: u32,
-    is: u32,
-    current: Text,
-    copy: OptText,
 ) -> Verdict
     ensures { λ r.
         let cur : Rec = rec (now (stream .entry)) (now (pool .entry)) [] in
-        let touched : Str → Option Str = touchedBy (cur .stream) (cur .pool) (now (types .entry)) (now (cover .entry)) in
+        let name : Str = textOf (cur .pool) (n .root) in
+        let touched : Option Str = touchedBy (cur .stream) (cur .pool) (now (types .entry)) (now (cover .entry)) name in
         ⌜ ((q : Str) → meaning (cur .pool) q r
-        ≡ checkRise (textOf (cur .pool) current) (optOf q copy) (versionList cur) (touched (textOf (cur .pool) root))
-        (textOf (cur .pool) root) (textOf (cur .pool) constant) was is) ⌝ }
+        ≡ checkRise (textOf (cur .pool) (n .current)) (optOf q (n .copy)) (versionList cur) touched name
+        (textOf (cur .pool) (n .constant)) was (n .is)) ⌝ }
 {
+    let constant = n.constant;
+    let root = n.root;
+    let is = n.is;
     if is < was {
         return Verdict::Fell { constant, was, is };
     }
@@ -132,6 +140,8 @@ fn check_rise(
         return check_still(stream, pool, types, cover, root, constant, was);
     }
     if is - was != 1 {
+        let copy = n.copy;
+        let current = n.current;
         return Verdict::Leapt {
             constant,
             was,
@@ -156,41 +166,28 @@ fn check_from(
     pool: &[u8],
     types: &[u32],
     cover: &[u32],
-    root: Text,
-    constant: Text,
-    is: u32,
+    n: Numbered,
     was: Constant,
-    current: Text,
-    copy: OptText,
 ) -> Verdict
     ensures { λ r.
         let cur : Rec = rec (now (stream .entry)) (now (pool .entry)) [] in
-        let touched : Str → Option Str = touchedBy (cur .stream) (cur .pool) (now (types .entry)) (now (cover .entry)) in
+        let name : Str = textOf (cur .pool) (n .root) in
+        let touched : Option Str = touchedBy (cur .stream) (cur .pool) (now (types .entry)) (now (cover .entry)) name in
         ⌜ ((q : Str) → meaning (cur .pool) q r
-        ≡ checkFrom (textOf (cur .pool) current) (optOf q copy) (versionList cur) (touched (textOf (cur .pool) root))
-        (textOf (cur .pool) root) (textOf (cur .pool) constant) is (constantOf q was .value)) ⌝ }
+        ≡ checkFrom (textOf (cur .pool) (n .current)) (optOf q (n .copy)) (versionList cur) touched name
+        (textOf (cur .pool) (n .constant)) (n .is) (constantOf q was .value)) ⌝ }
 {
     if was.is_text {
         return Verdict::Passed;
     }
     if 4294967296 <= was.integer {
+        let constant = n.constant;
         return Verdict::NoGeneration {
             constant,
             was: was.integer,
         };
     }
-    check_rise(
-        stream,
-        pool,
-        types,
-        cover,
-        root,
-        constant,
-        was.integer as u32,
-        is,
-        current,
-        copy,
-    )
+    check_rise(stream, pool, types, cover, n, was.integer as u32)
 }
 
 // The number of a root against the released constant of the same name, if there is one.
@@ -202,79 +199,31 @@ fn check_against(
     old: &[u8],
     old_index: &[u16],
     cover: &[u32],
-    root: Text,
-    constant: Text,
-    is: u32,
-    current: Text,
-    copy: OptText,
+    n: Numbered,
 ) -> Verdict
     requires { ⌜ Indexed (now past) (now old) (now «old_index») ⌝ }
     ensures { λ r.
         let cur : Rec = rec (now (stream .entry)) (now (pool .entry)) [] in
         let rel : Rec = rec (now (past .entry)) (now (old .entry)) [] in
-        ⌜ meaning (cur .pool) (rel .pool) r
-        ≡ checkAgainst (textOf (cur .pool) current) (optOf (rel .pool) copy) (versionList cur)
-        (touchedBy (cur .stream) (cur .pool) (now (types .entry)) (now (cover .entry)) (textOf (cur .pool) root))
-        (textOf (cur .pool) root) (textOf (cur .pool) constant) is (constantIn (textOf (cur .pool) constant) (constantList rel)) ⌝ }
+        let p : Str = cur .pool in
+        let name : Str = textOf p (n .root) in
+        ⌜ meaning p (rel .pool) r ≡ checkAgainst (textOf p (n .current)) (optOf (rel .pool) (n .copy)) (versionList cur)
+        (touchedBy (cur .stream) p (now (types .entry)) (now (cover .entry)) name) name
+        (textOf p (n .constant)) (n .is) (constantIn (textOf p (n .constant)) (constantList rel)) ⌝ }
 {
+    let constant = n.constant;
     let found = first_constant(past, old, old_index, bytes_of(pool, constant));
     let ConstantStep::AConstant(was, _) = found else {
         return Verdict::Passed;
     };
-    check_from(
-        stream,
-        pool,
-        types,
-        cover,
-        root,
-        constant,
-        is,
-        was,
-        current,
-        copy,
-    )
+    check_from(stream, pool, types, cover, n, was)
 }
 
-// One root.
-fn check_generation(
-    stream: &[u8],
-    pool: &[u8],
-    index: &[u16],
-    types: &[u32],
-    past: &[u8],
-    old: &[u8],
-    old_index: &[u16],
-    cover: &[u32],
-    root: Text,
-    current: Text,
-    copy: OptText,
-) -> Verdict
-    requires { ⌜ Indexed (now stream) (now pool) (now index) × Indexed (now past) (now old) (now «old_index») ⌝ }
-    ensures { λ r.
-        let cur : Rec = rec (now (stream .entry)) (now (pool .entry)) [] in
-        let rel : Rec = rec (now (past .entry)) (now (old .entry)) [] in
-        ⌜ meaning (cur .pool) (rel .pool) r
-        ≡ checkGeneration (textOf (cur .pool) current) (optOf (rel .pool) copy) (versionList cur) (structList cur) (constantList cur)
-        (constantList rel) (touchedBy (cur .stream) (cur .pool) (now (types .entry)) (now (cover .entry))) (textOf (cur .pool) root) ⌝ }
-{
-    let held = generation_constant(stream, pool, index, bytes_of(pool, root));
-    let Generation::Held(constant, is) = held else {
-        return Verdict::NoConstant { name: root };
-    };
-    check_against(
-        stream,
-        pool,
-        types,
-        past,
-        old,
-        old_index,
-        cover,
-        root,
-        constant,
-        is,
-        current,
-        copy,
-    )
+// A slot for a root, and the releases that a verdict on its number names.
+pub struct Slot {
+    pub root: StructStep,
+    pub current: Text,
+    pub copy: OptText,
 }
 
 // The root in a slot, if one fills it.
@@ -287,34 +236,41 @@ fn check_slot(
     old: &[u8],
     old_index: &[u16],
     cover: &[u32],
-    slot: StructStep,
-    current: Text,
-    copy: OptText,
+    slot: Slot,
 ) -> Verdict
     requires { ⌜ Indexed (now stream) (now pool) (now index) × Indexed (now past) (now old) (now «old_index») ⌝ }
     ensures { λ r.
         let cur : Rec = rec (now (stream .entry)) (now (pool .entry)) [] in
         let rel : Rec = rec (now (past .entry)) (now (old .entry)) [] in
-        ⌜ meaning (cur .pool) (rel .pool) r
-        ≡ rootsChecked cur rel current copy (now (types .entry)) (now (cover .entry)) (withName (structFound (cur .stream) (cur .pool) slot) []) ⌝ }
+        ⌜ meaning (cur .pool) (rel .pool) r ≡ rootsChecked cur rel (slot .current) (slot .copy) (now (types .entry)) (now (cover .entry))
+        (withName (structFound (cur .stream) (cur .pool) (slot .root)) []) ⌝ }
 {
-    let StructStep::AStruct(root, _) = slot else {
+    let filled = slot.root;
+    let StructStep::AStruct(root, _) = filled else {
         return Verdict::Passed;
     };
     let name = root.name;
-    check_generation(
-        stream,
-        pool,
-        index,
-        types,
-        past,
-        old,
-        old_index,
-        cover,
-        name,
+    let held = generation_constant(stream, pool, index, bytes_of(pool, name));
+    let Generation::Held(constant, is) = held else {
+        return Verdict::NoConstant { name };
+    };
+    let current = slot.current;
+    let copy = slot.copy;
+    let n = Numbered {
+        root: name,
+        constant,
+        is,
         current,
         copy,
-    )
+    };
+    check_against(stream, pool, types, past, old, old_index, cover, n)
+}
+
+// The slots for the roots, and the releases that a verdict names.
+pub struct Roots {
+    pub slots: Versioned,
+    pub current: Text,
+    pub copy: OptText,
 }
 
 // The roots in the order of their slots.
@@ -327,22 +283,28 @@ fn check_roots(
     old: &[u8],
     old_index: &[u16],
     cover: &[u32],
-    slots: Versioned,
-    current: Text,
-    copy: OptText,
+    roots: Roots,
 ) -> Verdict
-    requires { ⌜ InSlots (now stream) (now pool) slots
+    requires { ⌜ InSlots (now stream) (now pool) (roots .slots)
         × Indexed (now stream) (now pool) (now index)
         × Indexed (now past) (now old) (now «old_index») ⌝ }
     ensures { λ r.
         let cur : Rec = rec (now (stream .entry)) (now (pool .entry)) [] in
         let rel : Rec = rec (now (past .entry)) (now (old .entry)) [] in
         ⌜ meaning (cur .pool) (rel .pool) r
-        ≡ rootsChecked cur rel current copy (now (types .entry)) (now (cover .entry)) (versioned (structList cur)) ⌝ }
+        ≡ rootsChecked cur rel (roots .current) (roots .copy) (now (types .entry)) (now (cover .entry)) (versioned (structList cur)) ⌝ }
 {
+    let slots = roots.slots;
+    let current = roots.current;
+    let copy = roots.copy;
     let first = slots.info;
     let second = slots.metadata;
     let third = slots.runtime;
+    let slot = Slot {
+        root: first,
+        current,
+        copy,
+    };
     let info = check_slot(
         stream,
         pool,
@@ -352,12 +314,15 @@ fn check_roots(
         old,
         old_index,
         cover,
-        first,
-        current,
-        copy,
+        slot,
     );
     let Verdict::Passed = info else {
         return info;
+    };
+    let slot = Slot {
+        root: second,
+        current,
+        copy,
     };
     let metadata = check_slot(
         stream,
@@ -368,12 +333,15 @@ fn check_roots(
         old,
         old_index,
         cover,
-        second,
-        current,
-        copy,
+        slot,
     );
     let Verdict::Passed = metadata else {
         return metadata;
+    };
+    let slot = Slot {
+        root: third,
+        current,
+        copy,
     };
     check_slot(
         stream,
@@ -384,9 +352,7 @@ fn check_roots(
         old,
         old_index,
         cover,
-        third,
-        current,
-        copy,
+        slot,
     )
 }
 
@@ -400,11 +366,9 @@ fn check_filled(
     old: &[u8],
     old_index: &[u16],
     cover: &[u32],
-    slots: Versioned,
-    current: Text,
-    copy: OptText,
+    roots: Roots,
 ) -> Verdict
-    requires { ⌜ InSlots (now stream) (now pool) slots
+    requires { ⌜ InSlots (now stream) (now pool) (roots .slots)
         × Indexed (now stream) (now pool) (now index)
         × Indexed (now past) (now old) (now «old_index») ⌝ }
     ensures { λ r.
@@ -412,7 +376,7 @@ fn check_filled(
         let rel : Rec = rec (now (past .entry)) (now (old .entry)) [] in
         ⌜ meaning (cur .pool) (rel .pool) r
         ≡ (meaning (cur .pool) (rel .pool) (firstUncovered (cur .stream) (now (types .entry)) (now (cover .entry)))
-        then rootsChecked cur rel current copy (now (types .entry)) (now (cover .entry)) (versioned (structList cur))) ⌝ }
+        then rootsChecked cur rel (roots .current) (roots .copy) (now (types .entry)) (now (cover .entry)) (versioned (structList cur))) ⌝ }
 {
     let covered = check_covered(stream, types, cover);
     let Verdict::Passed = covered else {
@@ -427,9 +391,7 @@ fn check_filled(
         old,
         old_index,
         cover,
-        slots,
-        current,
-        copy,
+        roots,
     )
 }
 
@@ -464,6 +426,11 @@ pub(crate) fn check_generations(
     let slots = versioned_structs(stream, pool);
     mark_owners(stream, pool, slots, index, marks);
     fill_cover(stream, pool, types, slots, marks, index, cover);
+    let roots = Roots {
+        slots,
+        current,
+        copy,
+    };
     check_filled(
         stream,
         pool,
@@ -473,8 +440,6 @@ pub(crate) fn check_generations(
         old,
         old_index,
         cover,
-        slots,
-        current,
-        copy,
+        roots,
     )
 }

@@ -18,8 +18,8 @@ ghost use lib.ListN.{length, getD};
 ghost use Rattle.record.specs.Reading.{Rec, rec};
 ghost use Rattle.layout.specs.Spots.{OthersPassed};
 ghost use Rattle.compare.specs.Near.{keyOf};
-ghost use Rattle.compare.specs.Alike.{bodyAt, AlikePassed};
-ghost use Rattle.compare.specs.Kept.{Kept, Noted, Noting, keptFrom};
+ghost use Rattle.compare.specs.Alike.{bodyAt};
+ghost use Rattle.compare.specs.Kept.{KeptPassed, Noted, Noting, keptFrom};
 
 // Notes the number of a name; answers whether it was noted before.
 fn note(seen: &mut [u8], name: &[u8]) -> bool
@@ -85,78 +85,75 @@ fn is_first(
     true
 }
 
+// Where two types are compared: the front of the current one, the places of the next fields of both and their offset.
+pub struct Walk {
+    pub front: SpotCursor,
+    pub at: usize,
+    pub to: usize,
+    pub offset: u64,
+}
+
 // The next fields of two types at one offset, where they are alike and the current one is the first of its name.
 fn next_kept(
     stream: &[u8],
     pool: &[u8],
     sizes: &[u64],
-    front: SpotCursor,
     seen: &mut [u8],
-    at: usize,
     past: &[u8],
     old: &[u8],
     widths: &[u64],
-    to: usize,
-    offset: u64,
+    walk: Walk,
 ) -> AlikeStep
-    requires { ⌜ Noted (now stream) (now pool) (now sizes) front (now seen) at offset × (1024 ≤ length (now seen)) ⌝ }
+    requires { ⌜ Noted (now stream) (now pool) (now sizes) (walk .front) (now seen) (walk .at) (walk .offset) × (1024 ≤ length (now seen)) ⌝ }
     ensures { λ r.
         let cur : Rec = rec (now (stream .entry)) (now (pool .entry)) [] in
         let rel : Rec = rec (now (past .entry)) (now (old .entry)) [] in
-        ⌜ keptFrom (cur .stream) (cur .pool) (now (sizes .entry)) front (now (seen .exit)) at (rel .stream) (rel .pool) (now (widths .entry))
-        to offset r ⌝ }
+        ⌜ keptFrom (cur .stream) (cur .pool) (now (sizes .entry)) (walk .front) (now (seen .exit)) (walk .at)
+        (rel .stream) (rel .pool) (now (widths .entry)) (walk .to) (walk .offset) r ⌝ }
 {
-    let step = next_alike(stream, pool, sizes, at, past, old, widths, to);
+    let step = next_alike(stream, pool, sizes, walk.at, past, old, widths, walk.to);
     let AlikeStep::Alike(place, after, next, size) = step else {
         return AlikeStep::Differ;
     };
     let name = name_at(stream, pool, place);
-    if is_first(stream, pool, sizes, front, seen, name, at, offset) {
+    let front = walk.front;
+    if is_first(stream, pool, sizes, front, seen, name, walk.at, walk.offset) {
         return AlikeStep::Alike(place, after, next, size);
     }
     AlikeStep::Differ
 }
 
 // What is ahead of two types without the fields at their fronts that are alike and kept, from two places on; seen has room for the numbers of names.
-fn pass_fields(
+fn pass_kept_fields(
     stream: &[u8],
     pool: &[u8],
     sizes: &[u64],
-    front: SpotCursor,
     seen: &mut [u8],
-    from: usize,
     past: &[u8],
     old: &[u8],
     widths: &[u64],
-    other: usize,
-    start: u64,
+    from: Walk,
 ) -> Both
-    requires { ⌜ Noted (now stream) (now pool) (now sizes) front (now seen) from start × (1024 ≤ length (now seen)) ⌝ }
+    requires { ⌜ Noted (now stream) (now pool) (now sizes) (from .front) (now seen) (from .at) (from .offset) × (1024 ≤ length (now seen)) ⌝ }
     ensures { λ r.
         let cur : Rec = rec (now (stream .entry)) (now (pool .entry)) [] in
         let rel : Rec = rec (now (past .entry)) (now (old .entry)) [] in
-        ⌜ Kept (cur .stream) (cur .pool) (now (sizes .entry)) front (rel .stream) (rel .pool) (now (widths .entry))
-        (bodyAt other start) (r .was)
-        × AlikePassed (cur .stream) (cur .pool) (now (sizes .entry)) (rel .stream) (rel .pool) (now (widths .entry))
-        (bodyAt from start) (bodyAt other start) (r .is) (r .was) ⌝ }
+        ⌜ KeptPassed (cur .stream) (cur .pool) (now (sizes .entry)) (rel .stream) (rel .pool) (now (widths .entry))
+        (from .front) (bodyAt (from .at) (from .offset)) (bodyAt (from .to) (from .offset)) r ⌝ }
 {
-    let mut at = from;
-    let mut to = other;
-    let mut offset = start;
+    let mut at = from.at;
+    let mut to = from.to;
+    let mut offset = from.offset;
     loop {
-        let AlikeStep::Alike(_, after, next, size) = next_kept(
-            stream,
-            pool,
-            sizes,
+        let front = from.front;
+        let walk = Walk {
             front,
-            seen,
             at,
-            past,
-            old,
-            widths,
             to,
             offset,
-        ) else {
+        };
+        let step = next_kept(stream, pool, sizes, seen, past, old, widths, walk);
+        let AlikeStep::Alike(_, after, next, size) = step else {
             return bodies_at(at, to, offset);
         };
         offset = sum(offset, size);
@@ -179,8 +176,7 @@ pub(crate) fn pass_kept(
     ensures { λ r.
         let cur : Rec = rec (now (stream .entry)) (now (pool .entry)) [] in
         let rel : Rec = rec (now (past .entry)) (now (old .entry)) [] in
-        ⌜ Kept (cur .stream) (cur .pool) (now (sizes .entry)) is (rel .stream) (rel .pool) (now (widths .entry)) was (r .was)
-        × AlikePassed (cur .stream) (cur .pool) (now (sizes .entry)) (rel .stream) (rel .pool) (now (widths .entry)) is was (r .is) (r .was) ⌝ }
+        ⌜ KeptPassed (cur .stream) (cur .pool) (now (sizes .entry)) (rel .stream) (rel .pool) (now (widths .entry)) is is was r ⌝ }
 {
     let ahead = is.ahead;
     let Ahead::Body(k) = ahead else {
@@ -194,17 +190,11 @@ pub(crate) fn pass_kept(
         return Both { is, was };
     }
     let mut seen = [0u8; 1024];
-    pass_fields(
-        stream,
-        pool,
-        sizes,
-        is,
-        &mut seen,
-        k.at,
-        past,
-        old,
-        widths,
-        l.at,
-        is.offset,
-    )
+    let walk = Walk {
+        front: is,
+        at: k.at,
+        to: l.at,
+        offset: is.offset,
+    };
+    pass_kept_fields(stream, pool, sizes, &mut seen, past, old, widths, walk)
 }
