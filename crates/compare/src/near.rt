@@ -48,7 +48,7 @@ pub(crate) fn key_of(name: &[u8]) -> usize
 }
 
 // An entry of the table; past its end 0, which says nothing.
-fn entry_at(table: &[u64], i: usize) -> u64
+fn near_entry(table: &[u64], i: usize) -> u64
     ensures { λ r. ⌜ r ≡ getD (now (table .entry)) i 0 ⌝ }
 {
     if i < table.len() { table[i] } else { 0 }
@@ -58,7 +58,7 @@ fn entry_at(table: &[u64], i: usize) -> u64
 pub(crate) fn near_spot(table: &[u64], c: SpotCursor, name: &[u8]) -> SpotCursor
     ensures { λ r. ⌜ NearSpot (now (table .entry)) c (now (name .entry)) r ⌝ }
 {
-    let entry = entry_at(table, key_of(name));
+    let entry = near_entry(table, key_of(name));
     if entry == 0 {
         return c;
     }
