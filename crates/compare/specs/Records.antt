@@ -1,12 +1,11 @@
 -- The lists of a record, one by one, as the passes over them read them. Assumes nothing.
 use mathlib.Core.List.{List}
-use Rattle.record.specs.Scalars.{Scalar}
 use Rattle.record.specs.Schema.{Const, Enum, BitField, Struct, Family, Key, Version}
 use Rattle.record.specs.Steps.{constantsAt, enumsAt, bitfieldsAt, structsAt, familiesAt, unstoredAt, versionsAt}
 use Rattle.record.specs.Keys.{pluginKeys}
 use Rattle.record.specs.Owner.{Types}
 use Rattle.record.specs.References.{typesAt}
-use Rattle.record.specs.Reading.{Rec, rec}
+use Rattle.record.specs.Reading.{Rec}
 
 abbrev pub constantList : Rec → List Const
 constantList r = constantsAt (r .stream) (r .pool) 0
@@ -32,7 +31,3 @@ keyList r = pluginKeys (structsAt (r .stream) (r .pool) 0) (unstoredAt (r .strea
 -- the lists that say who owns a name
 abbrev pub typeLists : Rec → Types
 typeLists r = typesAt (r .stream) (r .pool)
-
--- the record under other scalar words: the passes over the lists read none
-abbrev pub withWords : Rec → List Scalar → Rec
-withWords r w = rec (r .stream) (r .pool) w

@@ -44,7 +44,7 @@ ghost use Rattle.definition.specs.Pass.{_then_};
 ghost use Rattle.definition.specs.Generations.{isListed, checkStill, checkRise, checkFrom, checkAgainst, checkGenerations};
 ghost use Rattle.compare.specs.Generations.{rootsChecked};
 ghost use Rattle.compare.specs.CoverTable.{changedTypes, Changes, firstUncovered, touchedBy};
-ghost use Rattle.compare.specs.Records.{constantList, structList, versionList, typeLists, withWords};
+ghost use Rattle.compare.specs.Records.{constantList, structList, versionList, typeLists};
 ghost use Rattle.verdicts.specs.Meaning.{meaning};
 
 // Whether a version entry is of this structure and number.
@@ -415,13 +415,13 @@ pub(crate) fn check_generations(
         × (length (now types) ≤ length (now cover))
         × Indexed (now stream) (now pool) (now index)
         × Indexed (now past) (now old) (now «old_index») ⌝ }
-    ensures { λ r.
-        let cur : Rec = rec (now (stream .entry)) (now (pool .entry)) [] in
-        let rel : Rec = rec (now (past .entry)) (now (old .entry)) [] in
-        ⌜ ((w : List Scalar) → Changes (withWords cur w) (withWords rel w) (now (types .entry)) (now (cover .entry))
+    ensures { λ r. ⌜ ((w : List Scalar)
+        → (let cur : Rec = rec (now (stream .entry)) (now (pool .entry)) w in
+        let rel : Rec = rec (now (past .entry)) (now (old .entry)) w in
+        Changes cur rel (now (types .entry)) (now (cover .entry))
         → meaning (cur .pool) (rel .pool) r
         ≡ checkGenerations (textOf (cur .pool) current) (optOf (rel .pool) copy) (versionList cur) (typeLists cur) (constantList cur)
-        (constantList rel) (changedTypes (withWords cur w) (withWords rel w))) ⌝ }
+        (constantList rel) (changedTypes cur rel))) ⌝ }
 {
     let slots = versioned_structs(stream, pool);
     mark_owners(stream, pool, slots, index, marks);
