@@ -32,13 +32,19 @@ fn alike_numbers(s: &[u8], t: &[u8]) -> bool
 }
 
 // Whether all texts of two fields are alike, each in its pool.
-fn alike_texts(pool: &[u8], s: &[u8], old: &[u8], t: &[u8]) -> bool
-    ensures { λ r. ⌜ (r ≡ true → SameTexts (now (pool .entry)) (now (old .entry)) (fieldAt (now (s .entry))) (fieldAt (now (t .entry)))) ⌝ }
+fn alike_texts(pool: &[u8], s: &[u8], old_pool: &[u8], t: &[u8]) -> bool
+    ensures { λ r. ⌜ (r ≡ true → SameTexts (now (pool .entry)) (now («old_pool» .entry)) (fieldAt (now (s .entry))) (fieldAt (now (t .entry)))) ⌝ }
 {
-    if same(bytes_of(pool, text_at(s, 1)), bytes_of(old, text_at(t, 1))) {
-        if same(bytes_of(pool, text_at(s, 4)), bytes_of(old, text_at(t, 4))) {
-            if alike_words(pool, opt_text_at(s, 7), old, opt_text_at(t, 7)) {
-                return alike_words(pool, opt_text_at(s, 10), old, opt_text_at(t, 10));
+    if same(
+        bytes_of(pool, text_at(s, 1)),
+        bytes_of(old_pool, text_at(t, 1)),
+    ) {
+        if same(
+            bytes_of(pool, text_at(s, 4)),
+            bytes_of(old_pool, text_at(t, 4)),
+        ) {
+            if alike_words(pool, opt_text_at(s, 7), old_pool, opt_text_at(t, 7)) {
+                return alike_words(pool, opt_text_at(s, 10), old_pool, opt_text_at(t, 10));
             }
         }
     }
@@ -46,19 +52,26 @@ fn alike_texts(pool: &[u8], s: &[u8], old: &[u8], t: &[u8]) -> bool
 }
 
 // Whether the fields whose commands are at two places are alike. A field takes 33 bytes.
-fn alike_at(stream: &[u8], pool: &[u8], a: usize, past: &[u8], old: &[u8], b: usize) -> bool
-    requires { ⌜ (a + 33 ≤ length (now stream)) × (b + 33 ≤ length (now past)) ⌝ }
+fn alike_at(
+    stream: &[u8],
+    pool: &[u8],
+    a: usize,
+    old_stream: &[u8],
+    old_pool: &[u8],
+    b: usize,
+) -> bool
+    requires { ⌜ (a + 33 ≤ length (now stream)) × (b + 33 ≤ length (now «old_stream»)) ⌝ }
     ensures { λ r.
         let cur : Rec = rec (now (stream .entry)) (now (pool .entry)) [] in
-        let rel : Rec = rec (now (past .entry)) (now (old .entry)) [] in
+        let rel : Rec = rec (now («old_stream» .entry)) (now («old_pool» .entry)) [] in
         ⌜ (r ≡ true → fieldOf (cur .pool) (fieldAt (drop a (cur .stream))) none ≡ fieldOf (rel .pool) (fieldAt (drop b (rel .stream))) none) ⌝ }
 {
     let end = a + 33;
     let s = &stream[a..end];
     let last = b + 33;
-    let t = &past[b..last];
+    let t = &old_stream[b..last];
     if alike_numbers(s, t) {
-        return alike_texts(pool, s, old, t);
+        return alike_texts(pool, s, old_pool, t);
     }
     false
 }
@@ -75,27 +88,27 @@ pub(crate) fn next_alike(
     pool: &[u8],
     sizes: &[u64],
     at: usize,
-    past: &[u8],
-    old: &[u8],
-    widths: &[u64],
+    old_stream: &[u8],
+    old_pool: &[u8],
+    old_sizes: &[u64],
     to: usize,
 ) -> AlikeStep
     ensures { λ r.
         let cur : Rec = rec (now (stream .entry)) (now (pool .entry)) [] in
-        let rel : Rec = rec (now (past .entry)) (now (old .entry)) [] in
-        ⌜ alikeFrom (cur .stream) (cur .pool) (now (sizes .entry)) at (rel .stream) (rel .pool) (now (widths .entry)) to r ⌝ }
+        let rel : Rec = rec (now («old_stream» .entry)) (now («old_pool» .entry)) [] in
+        ⌜ alikeFrom (cur .stream) (cur .pool) (now (sizes .entry)) at (rel .stream) (rel .pool) (now («old_sizes» .entry)) to r ⌝ }
 {
     let Sought::At(a, after) = seek(stream, at, 11, Between::Keys) else {
         return AlikeStep::Differ;
     };
-    let Sought::At(b, next) = seek(past, to, 11, Between::Keys) else {
+    let Sought::At(b, next) = seek(old_stream, to, 11, Between::Keys) else {
         return AlikeStep::Differ;
     };
     let size = size_before(sizes, after);
-    if size != size_before(widths, next) {
+    if size != size_before(old_sizes, next) {
         return AlikeStep::Differ;
     }
-    if alike_at(stream, pool, a, past, old, b) {
+    if alike_at(stream, pool, a, old_stream, old_pool, b) {
         return AlikeStep::Alike(a, after, next, size);
     }
     AlikeStep::Differ
@@ -133,16 +146,16 @@ fn pass_places(
     pool: &[u8],
     sizes: &[u64],
     from: usize,
-    past: &[u8],
-    old: &[u8],
-    widths: &[u64],
+    old_stream: &[u8],
+    old_pool: &[u8],
+    old_sizes: &[u64],
     other: usize,
     start: u64,
 ) -> Both
     ensures { λ r.
         let cur : Rec = rec (now (stream .entry)) (now (pool .entry)) [] in
-        let rel : Rec = rec (now (past .entry)) (now (old .entry)) [] in
-        ⌜ AlikePassed (cur .stream) (cur .pool) (now (sizes .entry)) (rel .stream) (rel .pool) (now (widths .entry))
+        let rel : Rec = rec (now («old_stream» .entry)) (now («old_pool» .entry)) [] in
+        ⌜ AlikePassed (cur .stream) (cur .pool) (now (sizes .entry)) (rel .stream) (rel .pool) (now («old_sizes» .entry))
         (bodyAt from start) (bodyAt other start) (r .is) (r .was) ⌝ }
 {
     let mut at = from;
@@ -154,9 +167,9 @@ fn pass_places(
             pool,
             sizes,
             at,
-            past,
-            old,
-            widths,
+            old_stream,
+            old_pool,
+            old_sizes,
             to,
         ) else {
             return bodies_at(at, to, offset);
@@ -173,15 +186,15 @@ pub(crate) fn pass_alike(
     pool: &[u8],
     sizes: &[u64],
     is: SpotCursor,
-    past: &[u8],
-    old: &[u8],
-    widths: &[u64],
+    old_stream: &[u8],
+    old_pool: &[u8],
+    old_sizes: &[u64],
     was: SpotCursor,
 ) -> Both
     ensures { λ r.
         let cur : Rec = rec (now (stream .entry)) (now (pool .entry)) [] in
-        let rel : Rec = rec (now (past .entry)) (now (old .entry)) [] in
-        ⌜ AlikePassed (cur .stream) (cur .pool) (now (sizes .entry)) (rel .stream) (rel .pool) (now (widths .entry)) is was (r .is) (r .was) ⌝ }
+        let rel : Rec = rec (now («old_stream» .entry)) (now («old_pool» .entry)) [] in
+        ⌜ AlikePassed (cur .stream) (cur .pool) (now (sizes .entry)) (rel .stream) (rel .pool) (now («old_sizes» .entry)) is was (r .is) (r .was) ⌝ }
 {
     let ahead = is.ahead;
     let Ahead::Body(k) = ahead else {
@@ -199,9 +212,9 @@ pub(crate) fn pass_alike(
         pool,
         sizes,
         k.at,
-        past,
-        old,
-        widths,
+        old_stream,
+        old_pool,
+        old_sizes,
         l.at,
         is.offset,
     )

@@ -46,13 +46,15 @@ fn bitfield_shipped(was: BitfieldStep) -> Shipped
 }
 
 // What the copy says of a member of a bit field.
-fn member_shipped(past: &[u8], old: &[u8], was: BitfieldStep, name: &[u8]) -> Shipped
-    ensures { λ r. ⌜ shippedOf (now (old .entry)) r ≡ memberRelease (bitfieldFound (now (past .entry)) (now (old .entry)) was) (now (name .entry)) ⌝ }
+fn member_shipped(old_stream: &[u8], old_pool: &[u8], was: BitfieldStep, name: &[u8]) -> Shipped
+    ensures { λ r.
+        let rel : Rec = rec (now («old_stream» .entry)) (now («old_pool» .entry)) [] in
+        ⌜ shippedOf (rel .pool) r ≡ memberRelease (bitfieldFound (rel .stream) (rel .pool) was) (now (name .entry)) ⌝ }
 {
     let BitfieldStep::ABitfield(b, from) = was else {
         return Shipped::Absent;
     };
-    let MemberStep::AMember(m, _) = find_member(past, old, from, name) else {
+    let MemberStep::AMember(m, _) = find_member(old_stream, old_pool, from, name) else {
         return Shipped::Absent;
     };
     let own = m.first_release;
@@ -63,7 +65,7 @@ fn member_shipped(past: &[u8], old: &[u8], was: BitfieldStep, name: &[u8]) -> Sh
 // What there is now, with its release, against what the copy says of it.
 fn check_arrived(
     pool: &[u8],
-    old: &[u8],
+    old_pool: &[u8],
     current: Text,
     what: Item,
     release: Text,
@@ -71,7 +73,7 @@ fn check_arrived(
 ) -> Verdict
     ensures { λ r.
         let p : Str = now (pool .entry) in
-        let q : Str = now (old .entry) in
+        let q : Str = now («old_pool» .entry) in
         ⌜ meaning p q r ≡ checkArrived (textOf p current) (itemOf p what) (textOf p release) (shippedOf q shipped) ⌝ }
 {
     match shipped {
@@ -86,7 +88,7 @@ fn check_arrived(
             }
         }
         Shipped::Named(was) => {
-            if same(bytes_of(pool, release), bytes_of(old, was)) {
+            if same(bytes_of(pool, release), bytes_of(old_pool, was)) {
                 return Verdict::Passed;
             }
             Verdict::BitsRedated { what, was, release }
@@ -98,8 +100,8 @@ fn check_arrived(
 // One member of a bit field, whose name and release are given, against what the bit field was.
 fn check_member_arrived(
     pool: &[u8],
-    past: &[u8],
-    old: &[u8],
+    old_stream: &[u8],
+    old_pool: &[u8],
     current: Text,
     owner: Text,
     since: OptText,
@@ -108,7 +110,7 @@ fn check_member_arrived(
 ) -> Verdict
     ensures { λ r.
         let p : Str = now (pool .entry) in
-        let rel : Rec = rec (now (past .entry)) (now (old .entry)) [] in
+        let rel : Rec = rec (now («old_stream» .entry)) (now («old_pool» .entry)) [] in
         ⌜ meaning p (rel .pool) r
         ≡ checkMemberArrived (textOf p current) (textOf p owner) (required (optOf p since)) (bitfieldFound (rel .stream) (rel .pool) was)
         (memberOf p m) ⌝ }
@@ -116,10 +118,10 @@ fn check_member_arrived(
     let name = m.name;
     let own = m.first_release;
     let release = required_text(member_release(own, since));
-    let shipped = member_shipped(past, old, was, bytes_of(pool, name));
+    let shipped = member_shipped(old_stream, old_pool, was, bytes_of(pool, name));
     check_arrived(
         pool,
-        old,
+        old_pool,
         current,
         Item::Within(owner, name),
         release,
@@ -131,8 +133,8 @@ fn check_member_arrived(
 fn check_members_arrived(
     stream: &[u8],
     pool: &[u8],
-    past: &[u8],
-    old: &[u8],
+    old_stream: &[u8],
+    old_pool: &[u8],
     current: Text,
     owner: Text,
     since: OptText,
@@ -141,7 +143,7 @@ fn check_members_arrived(
 ) -> Verdict
     ensures { λ r.
         let cur : Rec = rec (now (stream .entry)) (now (pool .entry)) [] in
-        let rel : Rec = rec (now (past .entry)) (now (old .entry)) [] in
+        let rel : Rec = rec (now («old_stream» .entry)) (now («old_pool» .entry)) [] in
         ⌜ meaning (cur .pool) (rel .pool) r
         ≡ checkMembersArrived (textOf (cur .pool) current) (textOf (cur .pool) owner) (required (optOf (cur .pool) since))
         (bitfieldFound (rel .stream) (rel .pool) was) (membersAt (cur .stream) (cur .pool) (from .at)) ⌝ }
@@ -151,7 +153,16 @@ fn check_members_arrived(
         let MemberStep::AMember(m, after) = next_member(stream, cursor) else {
             return Verdict::Passed;
         };
-        let verdict = check_member_arrived(pool, past, old, current, owner, since, was, m);
+        let verdict = check_member_arrived(
+            pool,
+            old_stream,
+            old_pool,
+            current,
+            owner,
+            since,
+            was,
+            m,
+        );
         if let Verdict::Passed = verdict {
             cursor = after;
         } else {
@@ -164,26 +175,43 @@ fn check_members_arrived(
 fn check_bitfield_arrived(
     stream: &[u8],
     pool: &[u8],
-    past: &[u8],
-    old: &[u8],
+    old_stream: &[u8],
+    old_pool: &[u8],
     current: Text,
     is: Bitfield,
     from: Cursor,
 ) -> Verdict
     ensures { λ r.
         let cur : Rec = rec (now (stream .entry)) (now (pool .entry)) [] in
-        let rel : Rec = rec (now (past .entry)) (now (old .entry)) [] in
+        let rel : Rec = rec (now («old_stream» .entry)) (now («old_pool» .entry)) [] in
         ⌜ meaning (cur .pool) (rel .pool) r ≡ checkBitfieldArrived (textOf (cur .pool) current) (bitfieldList rel)
         (bitfieldOf (cur .pool) is (membersAt (cur .stream) (cur .pool) (from .at))) ⌝ }
 {
     let name = is.name;
     let since = is.first_release;
-    let was = find_bitfield(past, old, Cursor::new(), bytes_of(pool, name));
+    let was = find_bitfield(old_stream, old_pool, Cursor::new(), bytes_of(pool, name));
     let release = required_text(since);
     let shipped = bitfield_shipped(was);
-    let verdict = check_arrived(pool, old, current, Item::Bitfield(name), release, shipped);
+    let verdict = check_arrived(
+        pool,
+        old_pool,
+        current,
+        Item::Bitfield(name),
+        release,
+        shipped,
+    );
     if let Verdict::Passed = verdict {
-        return check_members_arrived(stream, pool, past, old, current, name, since, was, from);
+        return check_members_arrived(
+            stream,
+            pool,
+            old_stream,
+            old_pool,
+            current,
+            name,
+            since,
+            was,
+            from,
+        );
     }
     verdict
 }
@@ -192,13 +220,13 @@ fn check_bitfield_arrived(
 pub fn check_bitfield_releases(
     stream: &[u8],
     pool: &[u8],
-    past: &[u8],
-    old: &[u8],
+    old_stream: &[u8],
+    old_pool: &[u8],
     current: Text,
 ) -> Verdict
     ensures { λ r.
         let cur : Rec = rec (now (stream .entry)) (now (pool .entry)) [] in
-        let rel : Rec = rec (now (past .entry)) (now (old .entry)) [] in
+        let rel : Rec = rec (now («old_stream» .entry)) (now («old_pool» .entry)) [] in
         ⌜ meaning (cur .pool) (rel .pool) r ≡ checkBitfieldReleases (textOf (cur .pool) current) (bitfieldList cur) (bitfieldList rel) ⌝ }
 {
     let mut cursor = Cursor::new();
@@ -206,7 +234,15 @@ pub fn check_bitfield_releases(
         let BitfieldStep::ABitfield(is, after) = next_bitfield(stream, cursor) else {
             return Verdict::Passed;
         };
-        let verdict = check_bitfield_arrived(stream, pool, past, old, current, is, after);
+        let verdict = check_bitfield_arrived(
+            stream,
+            pool,
+            old_stream,
+            old_pool,
+            current,
+            is,
+            after,
+        );
         if let Verdict::Passed = verdict {
             cursor = after;
         } else {

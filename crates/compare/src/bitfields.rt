@@ -85,20 +85,20 @@ fn check_unnamed(stream: &[u8], is: Cursor, owner: Text, name: Text, bit: u32, w
 fn check_member(
     stream: &[u8],
     pool: &[u8],
-    old: &[u8],
+    old_pool: &[u8],
     is: Cursor,
     owner: Text,
     was: Member,
 ) -> Verdict
     ensures { λ r.
         let cur : Rec = rec (now (stream .entry)) (now (pool .entry)) [] in
-        let q : Str = now (old .entry) in
+        let q : Str = now («old_pool» .entry) in
         ⌜ meaning (cur .pool) q r ≡ checkMember (textOf q owner) (membersAt (cur .stream) (cur .pool) (is .at)) (memberOf q was) ⌝ }
 {
     let name = was.name;
     let given = was.width;
     let wide = width(given);
-    let named = find_member(stream, pool, is, bytes_of(old, name));
+    let named = find_member(stream, pool, is, bytes_of(old_pool, name));
     let MemberStep::AMember(m, _) = named else {
         return check_unnamed(stream, is, owner, name, was.bit, wide);
     };
@@ -127,24 +127,24 @@ fn check_member(
 fn check_members(
     stream: &[u8],
     pool: &[u8],
-    past: &[u8],
-    old: &[u8],
+    old_stream: &[u8],
+    old_pool: &[u8],
     is: Cursor,
     owner: Text,
     from: Cursor,
 ) -> Verdict
     ensures { λ r.
         let cur : Rec = rec (now (stream .entry)) (now (pool .entry)) [] in
-        let rel : Rec = rec (now (past .entry)) (now (old .entry)) [] in
+        let rel : Rec = rec (now («old_stream» .entry)) (now («old_pool» .entry)) [] in
         ⌜ meaning (cur .pool) (rel .pool) r ≡ checkMembers (textOf (rel .pool) owner) (membersAt (cur .stream) (cur .pool) (is .at))
         (membersAt (rel .stream) (rel .pool) (from .at)) ⌝ }
 {
     let mut cursor = from;
     loop {
-        let MemberStep::AMember(was, after) = next_member(past, cursor) else {
+        let MemberStep::AMember(was, after) = next_member(old_stream, cursor) else {
             return Verdict::Passed;
         };
-        let verdict = check_member(stream, pool, old, is, owner, was);
+        let verdict = check_member(stream, pool, old_pool, is, owner, was);
         if let Verdict::Passed = verdict {
             cursor = after;
         } else {
@@ -157,14 +157,14 @@ fn check_members(
 fn check_bitfield(
     stream: &[u8],
     pool: &[u8],
-    past: &[u8],
-    old: &[u8],
+    old_stream: &[u8],
+    old_pool: &[u8],
     was: Bitfield,
     from: Cursor,
 ) -> Verdict
     ensures { λ r.
         let cur : Rec = rec (now (stream .entry)) (now (pool .entry)) [] in
-        let rel : Rec = rec (now (past .entry)) (now (old .entry)) [] in
+        let rel : Rec = rec (now («old_stream» .entry)) (now («old_pool» .entry)) [] in
         ⌜ meaning (cur .pool) (rel .pool) r
         ≡ checkBitfield (bitfieldList cur) (bitfieldOf (rel .pool) was (membersAt (rel .stream) (rel .pool) (from .at))) ⌝ }
 {
@@ -173,26 +173,26 @@ fn check_bitfield(
         stream,
         pool,
         Cursor::new(),
-        bytes_of(old, name),
+        bytes_of(old_pool, name),
     ) else {
         return Verdict::BitFieldGone { name };
     };
-    check_members(stream, pool, past, old, is, name, from)
+    check_members(stream, pool, old_stream, old_pool, is, name, from)
 }
 
 // The first bit field or member of the release that does not stand as it was.
-pub fn check_bitfields(stream: &[u8], pool: &[u8], past: &[u8], old: &[u8]) -> Verdict
+pub fn check_bitfields(stream: &[u8], pool: &[u8], old_stream: &[u8], old_pool: &[u8]) -> Verdict
     ensures { λ r.
         let cur : Rec = rec (now (stream .entry)) (now (pool .entry)) [] in
-        let rel : Rec = rec (now (past .entry)) (now (old .entry)) [] in
+        let rel : Rec = rec (now («old_stream» .entry)) (now («old_pool» .entry)) [] in
         ⌜ meaning (cur .pool) (rel .pool) r ≡ checkBitfields (bitfieldList cur) (bitfieldList rel) ⌝ }
 {
     let mut cursor = Cursor::new();
     loop {
-        let BitfieldStep::ABitfield(was, after) = next_bitfield(past, cursor) else {
+        let BitfieldStep::ABitfield(was, after) = next_bitfield(old_stream, cursor) else {
             return Verdict::Passed;
         };
-        let verdict = check_bitfield(stream, pool, past, old, was, after);
+        let verdict = check_bitfield(stream, pool, old_stream, old_pool, was, after);
         if let Verdict::Passed = verdict {
             cursor = after;
         } else {

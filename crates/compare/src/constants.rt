@@ -82,12 +82,12 @@ fn words_are(words: &[u8], pool: &[u8], value: ConstantValue) -> bool
 }
 
 // Whether a value that is now and one that was have the same text.
-fn same_value(pool: &[u8], is: ConstantValue, old: &[u8], was: ConstantValue) -> bool
-    ensures { λ r. ⌜ r ≡ eqs (valueText (valueMeant (now (pool .entry)) is)) (valueText (valueMeant (now (old .entry)) was)) ⌝ }
+fn same_value(pool: &[u8], is: ConstantValue, old_pool: &[u8], was: ConstantValue) -> bool
+    ensures { λ r. ⌜ r ≡ eqs (valueText (valueMeant (now (pool .entry)) is)) (valueText (valueMeant (now («old_pool» .entry)) was)) ⌝ }
 {
     match is {
-        ConstantValue::Integer(n) => integer_is(n, old, was),
-        ConstantValue::Words(text) => words_are(bytes_of(pool, required_text(text)), old, was),
+        ConstantValue::Integer(n) => integer_is(n, old_pool, was),
+        ConstantValue::Words(text) => words_are(bytes_of(pool, required_text(text)), old_pool, was),
     }
 }
 
@@ -130,24 +130,30 @@ fn is_generation(stream: &[u8], pool: &[u8], index: &[u16], name: &[u8]) -> bool
 }
 
 // One released constant against the last current one of its name; the values come first, since most are the same.
-fn check_constant(stream: &[u8], pool: &[u8], index: &[u16], old: &[u8], was: Constant) -> Verdict
+fn check_constant(
+    stream: &[u8],
+    pool: &[u8],
+    index: &[u16],
+    old_pool: &[u8],
+    was: Constant,
+) -> Verdict
     requires { ⌜ Indexed (now stream) (now pool) (now index) ⌝ }
     ensures { λ r.
         let cur : Rec = rec (now (stream .entry)) (now (pool .entry)) [] in
-        let q : Str = now (old .entry) in
+        let q : Str = now («old_pool» .entry) in
         ⌜ meaning (cur .pool) q r ≡ checkConstant (structList cur) (constantList cur) (constantOf q was) ⌝ }
 {
     let name = was.name;
-    let last = last_constant(stream, pool, index, bytes_of(old, name));
+    let last = last_constant(stream, pool, index, bytes_of(old_pool, name));
     let ConstantStep::AConstant(c, _) = last else {
         return Verdict::ConstantGone { name };
     };
     let held = value_of(was);
     let holds = value_of(c);
-    if same_value(pool, holds, old, held) {
+    if same_value(pool, holds, old_pool, held) {
         return Verdict::Passed;
     }
-    if is_generation(stream, pool, index, bytes_of(old, name)) {
+    if is_generation(stream, pool, index, bytes_of(old_pool, name)) {
         return Verdict::Passed;
     }
     Verdict::ConstantChanged {
@@ -162,21 +168,21 @@ fn check_placed(
     stream: &[u8],
     pool: &[u8],
     index: &[u16],
-    past: &[u8],
-    old: &[u8],
+    old_stream: &[u8],
+    old_pool: &[u8],
     table: &[u32],
 ) -> Verdict
     requires { ⌜ Indexed (now stream) (now pool) (now index) ⌝ }
     ensures { λ r.
         let cur : Rec = rec (now (stream .entry)) (now (pool .entry)) [] in
-        let rel : Rec = rec (now (past .entry)) (now (old .entry)) [] in
+        let rel : Rec = rec (now («old_stream» .entry)) (now («old_pool» .entry)) [] in
         ⌜ meaning (cur .pool) (rel .pool) r
         ≡ checkConstantsIn (structList cur) (constantList cur) (map (placedConstant (rel .stream) (rel .pool)) (now (table .entry))) ⌝ }
 {
     let mut i = 0;
     while i < table.len() {
-        let was = placed_constant(past, table[i]);
-        let verdict = check_constant(stream, pool, index, old, was);
+        let was = placed_constant(old_stream, table[i]);
+        let verdict = check_constant(stream, pool, index, old_pool, was);
         if let Verdict::Passed = verdict {
             i += 1;
         } else {
@@ -191,20 +197,20 @@ pub(crate) fn check_constants(
     stream: &[u8],
     pool: &[u8],
     index: &[u16],
-    past: &[u8],
-    old: &[u8],
+    old_stream: &[u8],
+    old_pool: &[u8],
     table: &mut [u32],
     scratch: &mut [u32],
 ) -> Verdict
-    requires { ⌜ (length (now past) ≤ 32768)
-        × Room (now past) (now table)
-        × Room (now past) (now scratch)
+    requires { ⌜ (length (now «old_stream») ≤ 32768)
+        × Room (now «old_stream») (now table)
+        × Room (now «old_stream») (now scratch)
         × Indexed (now stream) (now pool) (now index) ⌝ }
     ensures { λ r.
         let cur : Rec = rec (now (stream .entry)) (now (pool .entry)) [] in
-        let rel : Rec = rec (now (past .entry)) (now (old .entry)) [] in
+        let rel : Rec = rec (now («old_stream» .entry)) (now («old_pool» .entry)) [] in
         ⌜ meaning (cur .pool) (rel .pool) r ≡ checkConstants (structList cur) (constantList cur) (constantList rel) ⌝ }
 {
-    let n = constant_table(past, old, table, scratch);
-    check_placed(stream, pool, index, past, old, &table[..n])
+    let n = constant_table(old_stream, old_pool, table, scratch);
+    check_placed(stream, pool, index, old_stream, old_pool, &table[..n])
 }

@@ -43,10 +43,10 @@ ghost use Rattle.compare.specs.CoverTable.{Changes};
 ghost use Rattle.verdicts.specs.Meaning.{meaning};
 
 // A released field against the one of its name.
-fn check_kept(pool: &[u8], old: &[u8], owner: TypeName, was: Spot, is: Spot) -> Verdict
+fn check_kept(pool: &[u8], old_pool: &[u8], owner: TypeName, was: Spot, is: Spot) -> Verdict
     ensures { λ r.
         let p : Str = now (pool .entry) in
-        let q : Str = now (old .entry) in
+        let q : Str = now («old_pool» .entry) in
         ⌜ meaning p q r ≡ checkKept (nameOf q owner) (spotOf q was) (spotOf p is) ⌝ }
 {
     let name = was.name;
@@ -68,7 +68,7 @@ fn check_kept(pool: &[u8], old: &[u8], owner: TypeName, was: Spot, is: Spot) -> 
     }
     let reads = is.described;
     let read = was.described;
-    if same_description(pool, reads, old, read) {
+    if same_description(pool, reads, old_pool, read) {
         return Verdict::Passed;
     }
     Verdict::Redescribed {
@@ -107,7 +107,7 @@ fn check_place(
     sizes: &[u64],
     is: SpotCursor,
     table: &[u64],
-    old: &[u8],
+    old_pool: &[u8],
     owner: TypeName,
     was: Spot,
 ) -> Verdict
@@ -115,18 +115,26 @@ fn check_place(
         ⌜ Sound cur (now sizes) is × Near (cur .stream) (cur .pool) (now sizes) is (now table) ⌝ }
     ensures { λ r.
         let cur : Rec = rec (now (stream .entry)) (now (pool .entry)) (scalarsOf (now (rows .entry))) in
-        let q : Str = now (old .entry) in
+        let q : Str = now («old_pool» .entry) in
         ⌜ meaning (cur .pool) q r ≡ checkPlace (nameOf q owner) (placesFrom cur is) (spotOf q was) ⌝ }
 {
     if was.padding {
         return Verdict::Passed;
     }
     let name = was.name;
-    let found = find_near(rows, stream, pool, sizes, is, table, bytes_of(old, name));
+    let found = find_near(
+        rows,
+        stream,
+        pool,
+        sizes,
+        is,
+        table,
+        bytes_of(old_pool, name),
+    );
     let SpotStep::ASpot(x, _) = found else {
         return Verdict::FieldGone { owner, name };
     };
-    check_kept(pool, old, owner, was, x)
+    check_kept(pool, old_pool, owner, was, x)
 }
 
 // A released type against the current one of its name: what it is called, what is ahead of each, and the index of its entry.
@@ -143,31 +151,32 @@ fn check_places(
     stream: &[u8],
     pool: &[u8],
     sizes: &[u64],
-    past: &[u8],
-    old: &[u8],
-    widths: &[u64],
+    old_stream: &[u8],
+    old_pool: &[u8],
+    old_sizes: &[u64],
     table: &[u64],
     pair: Pairing,
 ) -> Verdict
     requires { let cur : Rec = rec (now stream) (now pool) (scalarsOf (now rows)) in
-        let rel : Rec = rec (now past) (now old) (scalarsOf (now rows)) in
+        let rel : Rec = rec (now «old_stream») (now «old_pool») (scalarsOf (now rows)) in
         ⌜ Sound cur (now sizes) (pair .is)
         × Near (cur .stream) (cur .pool) (now sizes) (pair .is) (now table)
-        × Sound rel (now widths) (pair .was) ⌝ }
+        × Sound rel (now «old_sizes») (pair .was) ⌝ }
     ensures { λ r.
         let cur : Rec = rec (now (stream .entry)) (now (pool .entry)) (scalarsOf (now (rows .entry))) in
-        let rel : Rec = rec (now (past .entry)) (now (old .entry)) (scalarsOf (now (rows .entry))) in
+        let rel : Rec = rec (now («old_stream» .entry)) (now («old_pool» .entry)) (scalarsOf (now (rows .entry))) in
         ⌜ meaning (cur .pool) (rel .pool) r
         ≡ checkPlaces (nameOf (rel .pool) (pair .owner)) (placesFrom cur (pair .is)) (placesFrom rel (pair .was)) ⌝ }
 {
     let mut cursor = pair.was;
     loop {
-        let SpotStep::ASpot(was, after) = next_spot(rows, past, old, widths, cursor) else {
+        let SpotStep::ASpot(was, after) = next_spot(rows, old_stream, old_pool, old_sizes, cursor)
+        else {
             return Verdict::Passed;
         };
         let is = pair.is;
         let owner = pair.owner;
-        let verdict = check_place(rows, stream, pool, sizes, is, table, old, owner, was);
+        let verdict = check_place(rows, stream, pool, sizes, is, table, old_pool, owner, was);
         if let Verdict::Passed = verdict {
             cursor = after;
         } else {
@@ -182,24 +191,34 @@ fn check_near(
     stream: &[u8],
     pool: &[u8],
     sizes: &[u64],
-    past: &[u8],
-    old: &[u8],
-    widths: &[u64],
+    old_stream: &[u8],
+    old_pool: &[u8],
+    old_sizes: &[u64],
     table: &mut [u64],
     pair: Pairing,
 ) -> Verdict
     requires { let cur : Rec = rec (now stream) (now pool) (scalarsOf (now rows)) in
-        let rel : Rec = rec (now past) (now old) (scalarsOf (now rows)) in
-        ⌜ Sound cur (now sizes) (pair .is) × Sound rel (now widths) (pair .was) × Clear (now table) × (1024 ≤ length (now table)) ⌝ }
+        let rel : Rec = rec (now «old_stream») (now «old_pool») (scalarsOf (now rows)) in
+        ⌜ Sound cur (now sizes) (pair .is) × Sound rel (now «old_sizes») (pair .was) × Clear (now table) × (1024 ≤ length (now table)) ⌝ }
     ensures { λ r.
         let cur : Rec = rec (now (stream .entry)) (now (pool .entry)) (scalarsOf (now (rows .entry))) in
-        let rel : Rec = rec (now (past .entry)) (now (old .entry)) (scalarsOf (now (rows .entry))) in
+        let rel : Rec = rec (now («old_stream» .entry)) (now («old_pool» .entry)) (scalarsOf (now (rows .entry))) in
         ⌜ meaning (cur .pool) (rel .pool) r
         ≡ checkPlaces (nameOf (rel .pool) (pair .owner)) (placesFrom cur (pair .is)) (placesFrom rel (pair .was)) ⌝ }
 {
     let is = pair.is;
     fill_near(stream, pool, sizes, is, table);
-    check_places(rows, stream, pool, sizes, past, old, widths, table, pair)
+    check_places(
+        rows,
+        stream,
+        pool,
+        sizes,
+        old_stream,
+        old_pool,
+        old_sizes,
+        table,
+        pair,
+    )
 }
 
 // The released fields of a type of many, by a table of its own.
@@ -208,17 +227,17 @@ fn check_many(
     stream: &[u8],
     pool: &[u8],
     sizes: &[u64],
-    past: &[u8],
-    old: &[u8],
-    widths: &[u64],
+    old_stream: &[u8],
+    old_pool: &[u8],
+    old_sizes: &[u64],
     pair: Pairing,
 ) -> Verdict
     requires { let cur : Rec = rec (now stream) (now pool) (scalarsOf (now rows)) in
-        let rel : Rec = rec (now past) (now old) (scalarsOf (now rows)) in
-        ⌜ Sound cur (now sizes) (pair .is) × Sound rel (now widths) (pair .was) ⌝ }
+        let rel : Rec = rec (now «old_stream») (now «old_pool») (scalarsOf (now rows)) in
+        ⌜ Sound cur (now sizes) (pair .is) × Sound rel (now «old_sizes») (pair .was) ⌝ }
     ensures { λ r.
         let cur : Rec = rec (now (stream .entry)) (now (pool .entry)) (scalarsOf (now (rows .entry))) in
-        let rel : Rec = rec (now (past .entry)) (now (old .entry)) (scalarsOf (now (rows .entry))) in
+        let rel : Rec = rec (now («old_stream» .entry)) (now («old_pool» .entry)) (scalarsOf (now (rows .entry))) in
         ⌜ meaning (cur .pool) (rel .pool) r
         ≡ checkPlaces (nameOf (rel .pool) (pair .owner)) (placesFrom cur (pair .is)) (placesFrom rel (pair .was)) ⌝ }
 {
@@ -228,9 +247,9 @@ fn check_many(
         stream,
         pool,
         sizes,
-        past,
-        old,
-        widths,
+        old_stream,
+        old_pool,
+        old_sizes,
         &mut table,
         pair,
     )
@@ -242,32 +261,41 @@ fn check_any(
     stream: &[u8],
     pool: &[u8],
     sizes: &[u64],
-    past: &[u8],
-    old: &[u8],
-    widths: &[u64],
+    old_stream: &[u8],
+    old_pool: &[u8],
+    old_sizes: &[u64],
     pair: Pairing,
 ) -> Verdict
     requires { let cur : Rec = rec (now stream) (now pool) (scalarsOf (now rows)) in
-        let rel : Rec = rec (now past) (now old) (scalarsOf (now rows)) in
-        ⌜ Sound cur (now sizes) (pair .is) × Sound rel (now widths) (pair .was) ⌝ }
+        let rel : Rec = rec (now «old_stream») (now «old_pool») (scalarsOf (now rows)) in
+        ⌜ Sound cur (now sizes) (pair .is) × Sound rel (now «old_sizes») (pair .was) ⌝ }
     ensures { λ r.
         let cur : Rec = rec (now (stream .entry)) (now (pool .entry)) (scalarsOf (now (rows .entry))) in
-        let rel : Rec = rec (now (past .entry)) (now (old .entry)) (scalarsOf (now (rows .entry))) in
+        let rel : Rec = rec (now («old_stream» .entry)) (now («old_pool» .entry)) (scalarsOf (now (rows .entry))) in
         ⌜ meaning (cur .pool) (rel .pool) r
         ≡ checkPlaces (nameOf (rel .pool) (pair .owner)) (placesFrom cur (pair .is)) (placesFrom rel (pair .was)) ⌝ }
 {
     let was = pair.was;
-    if are_many(past, was) {
-        return check_many(rows, stream, pool, sizes, past, old, widths, pair);
+    if are_many(old_stream, was) {
+        return check_many(
+            rows,
+            stream,
+            pool,
+            sizes,
+            old_stream,
+            old_pool,
+            old_sizes,
+            pair,
+        );
     }
     check_places(
         rows,
         stream,
         pool,
         sizes,
-        past,
-        old,
-        widths,
+        old_stream,
+        old_pool,
+        old_sizes,
         &sizes[..0],
         pair,
     )
@@ -279,28 +307,38 @@ pub(crate) fn note_rest(
     stream: &[u8],
     pool: &[u8],
     sizes: &[u64],
-    past: &[u8],
-    old: &[u8],
-    widths: &[u64],
+    old_stream: &[u8],
+    old_pool: &[u8],
+    old_sizes: &[u64],
     both: Both,
     cover: &mut [u32],
     i: usize,
 )
     requires { let cur : Rec = rec (now stream) (now pool) (scalarsOf (now rows)) in
-        let rel : Rec = rec (now past) (now old) (scalarsOf (now rows)) in
-        ⌜ Sound cur (now sizes) (both .is) × Sound rel (now widths) (both .was) × (i < length (now cover)) ⌝ }
+        let rel : Rec = rec (now «old_stream») (now «old_pool») (scalarsOf (now rows)) in
+        ⌜ Sound cur (now sizes) (both .is) × Sound rel (now «old_sizes») (both .was) × (i < length (now cover)) ⌝ }
     ensures { λ _.
         let cur : Rec = rec (now (stream .entry)) (now (pool .entry)) (scalarsOf (now (rows .entry))) in
-        let rel : Rec = rec (now (past .entry)) (now (old .entry)) (scalarsOf (now (rows .entry))) in
+        let rel : Rec = rec (now («old_stream» .entry)) (now («old_pool» .entry)) (scalarsOf (now (rows .entry))) in
         ⌜ now (cover .exit) ≡ set (now (cover .entry)) i (entryOf (eqPlaces (placesFrom cur (both .is)) (placesFrom rel (both .was)))) ⌝ }
 {
     let is = both.is;
     let was = both.was;
-    if both_bare(stream, is, past, was) {
+    if both_bare(stream, is, old_stream, was) {
         cover[i] = 0;
         return;
     }
-    if same_rest(rows, stream, pool, sizes, is, past, old, widths, was) {
+    if same_rest(
+        rows,
+        stream,
+        pool,
+        sizes,
+        is,
+        old_stream,
+        old_pool,
+        old_sizes,
+        was,
+    ) {
         cover[i] = 0;
     } else {
         cover[i] = 1;
@@ -313,38 +351,47 @@ fn check_changed(
     stream: &[u8],
     pool: &[u8],
     sizes: &[u64],
-    past: &[u8],
-    old: &[u8],
-    widths: &[u64],
+    old_stream: &[u8],
+    old_pool: &[u8],
+    old_sizes: &[u64],
     pair: Pairing,
     cover: &mut [u32],
 ) -> Verdict
     requires { let cur : Rec = rec (now stream) (now pool) (scalarsOf (now rows)) in
-        let rel : Rec = rec (now past) (now old) (scalarsOf (now rows)) in
-        ⌜ Sound cur (now sizes) (pair .is) × Sound rel (now widths) (pair .was) × (pair .index < length (now cover)) ⌝ }
+        let rel : Rec = rec (now «old_stream») (now «old_pool») (scalarsOf (now rows)) in
+        ⌜ Sound cur (now sizes) (pair .is) × Sound rel (now «old_sizes») (pair .was) × (pair .index < length (now cover)) ⌝ }
     ensures { λ r.
         let cur : Rec = rec (now (stream .entry)) (now (pool .entry)) (scalarsOf (now (rows .entry))) in
-        let rel : Rec = rec (now (past .entry)) (now (old .entry)) (scalarsOf (now (rows .entry))) in
+        let rel : Rec = rec (now («old_stream» .entry)) (now («old_pool» .entry)) (scalarsOf (now (rows .entry))) in
         ⌜ FieldsHeld cur rel (nameOf (rel .pool) (pair .owner)) (placesFrom cur (pair .is)) (placesFrom rel (pair .was)) (pair .index)
         (now (cover .entry)) (now (cover .exit)) r ⌝ }
 {
     let is = pair.is;
     let was = pair.was;
-    let both = pass_kept(stream, pool, sizes, is, past, old, widths, was);
+    let both = pass_kept(
+        stream,
+        pool,
+        sizes,
+        is,
+        old_stream,
+        old_pool,
+        old_sizes,
+        was,
+    );
     note_rest(
         rows,
         stream,
         pool,
         sizes,
-        past,
-        old,
-        widths,
+        old_stream,
+        old_pool,
+        old_sizes,
         both,
         cover,
         pair.index,
     );
     let rest = both.was;
-    if is_bare(past, rest) {
+    if is_bare(old_stream, rest) {
         return Verdict::Passed;
     }
     let owner = pair.owner;
@@ -354,7 +401,16 @@ fn check_changed(
         was: rest,
         index: pair.index,
     };
-    check_any(rows, stream, pool, sizes, past, old, widths, left)
+    check_any(
+        rows,
+        stream,
+        pool,
+        sizes,
+        old_stream,
+        old_pool,
+        old_sizes,
+        left,
+    )
 }
 
 // A released type and the current one of its name, by their handles, and the index of the current one.
@@ -370,49 +426,59 @@ fn check_layout(
     stream: &[u8],
     pool: &[u8],
     sizes: &[u64],
-    past: &[u8],
-    old: &[u8],
-    widths: &[u64],
+    old_stream: &[u8],
+    old_pool: &[u8],
+    old_sizes: &[u64],
     types: Handles,
     cover: &mut [u32],
 ) -> Verdict
     requires { let cur : Rec = rec (now stream) (now pool) (scalarsOf (now rows)) in
-        let rel : Rec = rec (now past) (now old) (scalarsOf (now rows)) in
+        let rel : Rec = rec (now «old_stream») (now «old_pool») (scalarsOf (now rows)) in
         ⌜ (Typed (cur .stream) (types .is) × SizesTable cur (now sizes) × Exact cur)
-        × (Typed (rel .stream) (types .was) × SizesTable rel (now widths) × Exact rel)
+        × (Typed (rel .stream) (types .was) × SizesTable rel (now «old_sizes») × Exact rel)
         × (types .index < length (now cover)) ⌝ }
     ensures { λ r.
         let cur : Rec = rec (now (stream .entry)) (now (pool .entry)) (scalarsOf (now (rows .entry))) in
-        let rel : Rec = rec (now (past .entry)) (now (old .entry)) (scalarsOf (now (rows .entry))) in
+        let rel : Rec = rec (now («old_stream» .entry)) (now («old_pool» .entry)) (scalarsOf (now (rows .entry))) in
         ⌜ FieldsHeld cur rel (typeName (rel .stream) (rel .pool) (types .was)) (layoutOf cur (types .is) .fields)
         (layoutOf rel (types .was) .fields) (types .index) (now (cover .entry)) (now (cover .exit)) r ⌝ }
 {
-    let was = first_spot(past, types.was);
+    let was = first_spot(old_stream, types.was);
     let is = first_spot(stream, types.is);
-    if is_bare(past, was) {
+    if is_bare(old_stream, was) {
         let both = Both { is, was };
         note_rest(
             rows,
             stream,
             pool,
             sizes,
-            past,
-            old,
-            widths,
+            old_stream,
+            old_pool,
+            old_sizes,
             both,
             cover,
             types.index,
         );
         return Verdict::Passed;
     }
-    let owner = type_name(past, types.was);
+    let owner = type_name(old_stream, types.was);
     let pair = Pairing {
         owner,
         is,
         was,
         index: types.index,
     };
-    check_changed(rows, stream, pool, sizes, past, old, widths, pair, cover)
+    check_changed(
+        rows,
+        stream,
+        pool,
+        sizes,
+        old_stream,
+        old_pool,
+        old_sizes,
+        pair,
+        cover,
+    )
 }
 
 // One released type, by its handle; its name is thought to stand near an index of the current types.
@@ -422,28 +488,28 @@ fn check_type(
     pool: &[u8],
     types: &[u32],
     sizes: &[u64],
-    past: &[u8],
-    old: &[u8],
-    widths: &[u64],
+    old_stream: &[u8],
+    old_pool: &[u8],
+    old_sizes: &[u64],
     other: u32,
     near: usize,
     cover: &mut [u32],
 ) -> Verdict
     requires { let cur : Rec = rec (now stream) (now pool) (scalarsOf (now rows)) in
-        let rel : Rec = rec (now past) (now old) (scalarsOf (now rows)) in
+        let rel : Rec = rec (now «old_stream») (now «old_pool») (scalarsOf (now rows)) in
         ⌜ Tables cur (now types) (now sizes)
-        × (Typed (rel .stream) other × SizesTable rel (now widths) × Exact rel)
+        × (Typed (rel .stream) other × SizesTable rel (now «old_sizes») × Exact rel)
         × (length (now types) ≤ length (now cover)) ⌝ }
     ensures { λ r.
         let cur : Rec = rec (now (stream .entry)) (now (pool .entry)) (scalarsOf (now (rows .entry))) in
-        let rel : Rec = rec (now (past .entry)) (now (old .entry)) (scalarsOf (now (rows .entry))) in
+        let rel : Rec = rec (now («old_stream» .entry)) (now («old_pool» .entry)) (scalarsOf (now (rows .entry))) in
         ⌜ (meaning (cur .pool) (rel .pool) r ≡ checkType (typesOf cur) (layoutOf rel other))
         × (r ≡ Verdict.Passed → TypeNoted cur rel (now (types .entry)) other (now (cover .entry)) (now (cover .exit))) ⌝ }
 {
-    let found = find_same(stream, pool, types, past, old, other, near);
+    let found = find_same(stream, pool, types, old_stream, old_pool, other, near);
     let TypeFound::At(i) = found else {
         return Verdict::TypeGone {
-            name: type_name(past, other),
+            name: type_name(old_stream, other),
         };
     };
     let handle = types[i];
@@ -452,7 +518,17 @@ fn check_type(
         was: other,
         index: i,
     };
-    check_layout(rows, stream, pool, sizes, past, old, widths, both, cover)
+    check_layout(
+        rows,
+        stream,
+        pool,
+        sizes,
+        old_stream,
+        old_pool,
+        old_sizes,
+        both,
+        cover,
+    )
 }
 
 // Puts 1 for the first entries of a table, as many as n.
@@ -475,34 +551,34 @@ pub(crate) fn check_fields(
     pool: &[u8],
     types: &[u32],
     sizes: &[u64],
-    past: &[u8],
-    old: &[u8],
-    shipped: &[u32],
-    widths: &[u64],
+    old_stream: &[u8],
+    old_pool: &[u8],
+    old_types: &[u32],
+    old_sizes: &[u64],
     cover: &mut [u32],
 ) -> Verdict
     requires { let cur : Rec = rec (now stream) (now pool) (scalarsOf (now rows)) in
-        let rel : Rec = rec (now past) (now old) (scalarsOf (now rows)) in
-        ⌜ Tables cur (now types) (now sizes) × Tables rel (now shipped) (now widths) × (length (now types) ≤ length (now cover)) ⌝ }
+        let rel : Rec = rec (now «old_stream») (now «old_pool») (scalarsOf (now rows)) in
+        ⌜ Tables cur (now types) (now sizes) × Tables rel (now «old_types») (now «old_sizes») × (length (now types) ≤ length (now cover)) ⌝ }
     ensures { λ r.
         let cur : Rec = rec (now (stream .entry)) (now (pool .entry)) (scalarsOf (now (rows .entry))) in
-        let rel : Rec = rec (now (past .entry)) (now (old .entry)) (scalarsOf (now (rows .entry))) in
+        let rel : Rec = rec (now («old_stream» .entry)) (now («old_pool» .entry)) (scalarsOf (now (rows .entry))) in
         ⌜ (meaning (cur .pool) (rel .pool) r ≡ checkFields (typesOf cur) (typesOf rel))
         × (r ≡ Verdict.Passed → Changes cur rel (now (types .entry)) (now (cover .exit))) ⌝ }
 {
     fill_ones(cover, types.len());
     let mut i = 0;
-    while i < shipped.len() {
+    while i < old_types.len() {
         let verdict = check_type(
             rows,
             stream,
             pool,
             types,
             sizes,
-            past,
-            old,
-            widths,
-            shipped[i],
+            old_stream,
+            old_pool,
+            old_sizes,
+            old_types[i],
             i,
             cover,
         );

@@ -34,7 +34,7 @@ ghost use Rattle.record.specs.Base.{Str, eqs};
 ghost use Rattle.record.specs.Stretch.{textOf};
 ghost use Rattle.record.specs.Scalars.{Scalar};
 ghost use Rattle.record.specs.Lists.{optOf, constantOf};
-ghost use Rattle.record.specs.Steps.{constantIn, structFound, versionsAt};
+ghost use Rattle.record.specs.Steps.{constantsAt, constantIn, structFound, versionsAt};
 ghost use Rattle.record.specs.Index.{Indexed};
 ghost use Rattle.record.specs.Owner.{withName};
 ghost use Rattle.record.specs.Reading.{Rec, rec};
@@ -195,24 +195,23 @@ fn check_against(
     stream: &[u8],
     pool: &[u8],
     types: &[u32],
-    past: &[u8],
-    old: &[u8],
+    old_stream: &[u8],
+    old_pool: &[u8],
     old_index: &[u16],
     cover: &[u32],
     n: Numbered,
 ) -> Verdict
-    requires { ⌜ Indexed (now past) (now old) (now «old_index») ⌝ }
+    requires { ⌜ Indexed (now «old_stream») (now «old_pool») (now «old_index») ⌝ }
     ensures { λ r.
-        let cur : Rec = rec (now (stream .entry)) (now (pool .entry)) [] in
-        let rel : Rec = rec (now (past .entry)) (now (old .entry)) [] in
-        let p : Str = cur .pool in
+        let p : Str = now (pool .entry) in
+        let q : Str = now («old_pool» .entry) in
         let name : Str = textOf p (n .root) in
-        ⌜ meaning p (rel .pool) r ≡ checkAgainst (textOf p (n .current)) (optOf (rel .pool) (n .copy)) (versionList cur)
-        (touchedBy (cur .stream) p (now (types .entry)) (now (cover .entry)) name) name
-        (textOf p (n .constant)) (n .is) (constantIn (textOf p (n .constant)) (constantList rel)) ⌝ }
+        ⌜ meaning p q r ≡ checkAgainst (textOf p (n .current)) (optOf q (n .copy)) (versionsAt (now (stream .entry)) p 0)
+        (touchedBy (now (stream .entry)) p (now (types .entry)) (now (cover .entry)) name) name
+        (textOf p (n .constant)) (n .is) (constantIn (textOf p (n .constant)) (constantsAt (now («old_stream» .entry)) q 0)) ⌝ }
 {
     let constant = n.constant;
-    let found = first_constant(past, old, old_index, bytes_of(pool, constant));
+    let found = first_constant(old_stream, old_pool, old_index, bytes_of(pool, constant));
     let ConstantStep::AConstant(was, _) = found else {
         return Verdict::Passed;
     };
@@ -232,16 +231,16 @@ fn check_slot(
     pool: &[u8],
     index: &[u16],
     types: &[u32],
-    past: &[u8],
-    old: &[u8],
+    old_stream: &[u8],
+    old_pool: &[u8],
     old_index: &[u16],
     cover: &[u32],
     slot: Slot,
 ) -> Verdict
-    requires { ⌜ Indexed (now stream) (now pool) (now index) × Indexed (now past) (now old) (now «old_index») ⌝ }
+    requires { ⌜ Indexed (now stream) (now pool) (now index) × Indexed (now «old_stream») (now «old_pool») (now «old_index») ⌝ }
     ensures { λ r.
         let cur : Rec = rec (now (stream .entry)) (now (pool .entry)) [] in
-        let rel : Rec = rec (now (past .entry)) (now (old .entry)) [] in
+        let rel : Rec = rec (now («old_stream» .entry)) (now («old_pool» .entry)) [] in
         ⌜ meaning (cur .pool) (rel .pool) r ≡ rootsChecked cur rel (slot .current) (slot .copy) (now (types .entry)) (now (cover .entry))
         (withName (structFound (cur .stream) (cur .pool) (slot .root)) []) ⌝ }
 {
@@ -263,7 +262,16 @@ fn check_slot(
         current,
         copy,
     };
-    check_against(stream, pool, types, past, old, old_index, cover, n)
+    check_against(
+        stream,
+        pool,
+        types,
+        old_stream,
+        old_pool,
+        old_index,
+        cover,
+        n,
+    )
 }
 
 // The slots for the roots, and the releases that a verdict names.
@@ -279,18 +287,18 @@ fn check_roots(
     pool: &[u8],
     index: &[u16],
     types: &[u32],
-    past: &[u8],
-    old: &[u8],
+    old_stream: &[u8],
+    old_pool: &[u8],
     old_index: &[u16],
     cover: &[u32],
     roots: Roots,
 ) -> Verdict
     requires { ⌜ InSlots (now stream) (now pool) (roots .slots)
         × Indexed (now stream) (now pool) (now index)
-        × Indexed (now past) (now old) (now «old_index») ⌝ }
+        × Indexed (now «old_stream») (now «old_pool») (now «old_index») ⌝ }
     ensures { λ r.
         let cur : Rec = rec (now (stream .entry)) (now (pool .entry)) [] in
-        let rel : Rec = rec (now (past .entry)) (now (old .entry)) [] in
+        let rel : Rec = rec (now («old_stream» .entry)) (now («old_pool» .entry)) [] in
         ⌜ meaning (cur .pool) (rel .pool) r
         ≡ rootsChecked cur rel (roots .current) (roots .copy) (now (types .entry)) (now (cover .entry)) (versioned (structList cur)) ⌝ }
 {
@@ -310,8 +318,8 @@ fn check_roots(
         pool,
         index,
         types,
-        past,
-        old,
+        old_stream,
+        old_pool,
         old_index,
         cover,
         slot,
@@ -329,8 +337,8 @@ fn check_roots(
         pool,
         index,
         types,
-        past,
-        old,
+        old_stream,
+        old_pool,
         old_index,
         cover,
         slot,
@@ -348,8 +356,8 @@ fn check_roots(
         pool,
         index,
         types,
-        past,
-        old,
+        old_stream,
+        old_pool,
         old_index,
         cover,
         slot,
@@ -362,18 +370,18 @@ fn check_filled(
     pool: &[u8],
     index: &[u16],
     types: &[u32],
-    past: &[u8],
-    old: &[u8],
+    old_stream: &[u8],
+    old_pool: &[u8],
     old_index: &[u16],
     cover: &[u32],
     roots: Roots,
 ) -> Verdict
     requires { ⌜ InSlots (now stream) (now pool) (roots .slots)
         × Indexed (now stream) (now pool) (now index)
-        × Indexed (now past) (now old) (now «old_index») ⌝ }
+        × Indexed (now «old_stream») (now «old_pool») (now «old_index») ⌝ }
     ensures { λ r.
         let cur : Rec = rec (now (stream .entry)) (now (pool .entry)) [] in
-        let rel : Rec = rec (now (past .entry)) (now (old .entry)) [] in
+        let rel : Rec = rec (now («old_stream» .entry)) (now («old_pool» .entry)) [] in
         ⌜ meaning (cur .pool) (rel .pool) r
         ≡ (meaning (cur .pool) (rel .pool) (firstUncovered (cur .stream) (now (types .entry)) (now (cover .entry)))
         then rootsChecked cur rel (roots .current) (roots .copy) (now (types .entry)) (now (cover .entry)) (versioned (structList cur))) ⌝ }
@@ -387,8 +395,8 @@ fn check_filled(
         pool,
         index,
         types,
-        past,
-        old,
+        old_stream,
+        old_pool,
         old_index,
         cover,
         roots,
@@ -402,8 +410,8 @@ pub(crate) fn check_generations(
     pool: &[u8],
     index: &[u16],
     types: &[u32],
-    past: &[u8],
-    old: &[u8],
+    old_stream: &[u8],
+    old_pool: &[u8],
     old_index: &[u16],
     marks: &mut [u8],
     cover: &mut [u32],
@@ -414,10 +422,10 @@ pub(crate) fn check_generations(
         × (length (now stream) ≤ length (now marks))
         × (length (now types) ≤ length (now cover))
         × Indexed (now stream) (now pool) (now index)
-        × Indexed (now past) (now old) (now «old_index») ⌝ }
+        × Indexed (now «old_stream») (now «old_pool») (now «old_index») ⌝ }
     ensures { λ r. ⌜ ((w : List Scalar)
         → (let cur : Rec = rec (now (stream .entry)) (now (pool .entry)) w in
-        let rel : Rec = rec (now (past .entry)) (now (old .entry)) w in
+        let rel : Rec = rec (now («old_stream» .entry)) (now («old_pool» .entry)) w in
         Changes cur rel (now (types .entry)) (now (cover .entry))
         → meaning (cur .pool) (rel .pool) r
         ≡ checkGenerations (textOf (cur .pool) current) (optOf (rel .pool) copy) (versionList cur) (typeLists cur) (constantList cur)
@@ -436,8 +444,8 @@ pub(crate) fn check_generations(
         pool,
         index,
         types,
-        past,
-        old,
+        old_stream,
+        old_pool,
         old_index,
         cover,
         roots,

@@ -99,19 +99,28 @@ fn next_kept(
     pool: &[u8],
     sizes: &[u64],
     seen: &mut [u8],
-    past: &[u8],
-    old: &[u8],
-    widths: &[u64],
+    old_stream: &[u8],
+    old_pool: &[u8],
+    old_sizes: &[u64],
     walk: Walk,
 ) -> AlikeStep
     requires { ⌜ Noted (now stream) (now pool) (now sizes) (walk .front) (now seen) (walk .at) (walk .offset) × (1024 ≤ length (now seen)) ⌝ }
     ensures { λ r.
         let cur : Rec = rec (now (stream .entry)) (now (pool .entry)) [] in
-        let rel : Rec = rec (now (past .entry)) (now (old .entry)) [] in
+        let rel : Rec = rec (now («old_stream» .entry)) (now («old_pool» .entry)) [] in
         ⌜ keptFrom (cur .stream) (cur .pool) (now (sizes .entry)) (walk .front) (now (seen .exit)) (walk .at)
-        (rel .stream) (rel .pool) (now (widths .entry)) (walk .to) (walk .offset) r ⌝ }
+        (rel .stream) (rel .pool) (now («old_sizes» .entry)) (walk .to) (walk .offset) r ⌝ }
 {
-    let step = next_alike(stream, pool, sizes, walk.at, past, old, widths, walk.to);
+    let step = next_alike(
+        stream,
+        pool,
+        sizes,
+        walk.at,
+        old_stream,
+        old_pool,
+        old_sizes,
+        walk.to,
+    );
     let AlikeStep::Alike(place, after, next, size) = step else {
         return AlikeStep::Differ;
     };
@@ -129,16 +138,16 @@ fn pass_kept_fields(
     pool: &[u8],
     sizes: &[u64],
     seen: &mut [u8],
-    past: &[u8],
-    old: &[u8],
-    widths: &[u64],
+    old_stream: &[u8],
+    old_pool: &[u8],
+    old_sizes: &[u64],
     from: Walk,
 ) -> Both
     requires { ⌜ Noted (now stream) (now pool) (now sizes) (from .front) (now seen) (from .at) (from .offset) × (1024 ≤ length (now seen)) ⌝ }
     ensures { λ r.
         let cur : Rec = rec (now (stream .entry)) (now (pool .entry)) [] in
-        let rel : Rec = rec (now (past .entry)) (now (old .entry)) [] in
-        ⌜ KeptPassed (cur .stream) (cur .pool) (now (sizes .entry)) (rel .stream) (rel .pool) (now (widths .entry))
+        let rel : Rec = rec (now («old_stream» .entry)) (now («old_pool» .entry)) [] in
+        ⌜ KeptPassed (cur .stream) (cur .pool) (now (sizes .entry)) (rel .stream) (rel .pool) (now («old_sizes» .entry))
         (from .front) (bodyAt (from .at) (from .offset)) (bodyAt (from .to) (from .offset)) r ⌝ }
 {
     let mut at = from.at;
@@ -152,7 +161,16 @@ fn pass_kept_fields(
             to,
             offset,
         };
-        let step = next_kept(stream, pool, sizes, seen, past, old, widths, walk);
+        let step = next_kept(
+            stream,
+            pool,
+            sizes,
+            seen,
+            old_stream,
+            old_pool,
+            old_sizes,
+            walk,
+        );
         let AlikeStep::Alike(_, after, next, size) = step else {
             return bodies_at(at, to, offset);
         };
@@ -168,15 +186,15 @@ pub(crate) fn pass_kept(
     pool: &[u8],
     sizes: &[u64],
     is: SpotCursor,
-    past: &[u8],
-    old: &[u8],
-    widths: &[u64],
+    old_stream: &[u8],
+    old_pool: &[u8],
+    old_sizes: &[u64],
     was: SpotCursor,
 ) -> Both
     ensures { λ r.
         let cur : Rec = rec (now (stream .entry)) (now (pool .entry)) [] in
-        let rel : Rec = rec (now (past .entry)) (now (old .entry)) [] in
-        ⌜ KeptPassed (cur .stream) (cur .pool) (now (sizes .entry)) (rel .stream) (rel .pool) (now (widths .entry)) is is was r ⌝ }
+        let rel : Rec = rec (now («old_stream» .entry)) (now («old_pool» .entry)) [] in
+        ⌜ KeptPassed (cur .stream) (cur .pool) (now (sizes .entry)) (rel .stream) (rel .pool) (now («old_sizes» .entry)) is is was r ⌝ }
 {
     let ahead = is.ahead;
     let Ahead::Body(k) = ahead else {
@@ -196,5 +214,14 @@ pub(crate) fn pass_kept(
         to: l.at,
         offset: is.offset,
     };
-    pass_kept_fields(stream, pool, sizes, &mut seen, past, old, widths, walk)
+    pass_kept_fields(
+        stream,
+        pool,
+        sizes,
+        &mut seen,
+        old_stream,
+        old_pool,
+        old_sizes,
+        walk,
+    )
 }
