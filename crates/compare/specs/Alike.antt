@@ -22,6 +22,10 @@ use Rattle.definition.specs.Fields.{eqPlaces}
 use Rattle.compare.specs.declared.alike.AlikeStep.{AlikeStep}
 use Rattle.compare.specs.declared.alike.AlikeStep.the-variants.{Differ, Alike}
 
+-- the fields of a record from a place on, at an offset
+abbrev pub bodyAt : ℕ → ℕ → SpotCursor
+bodyAt at offset = cursorAt (Body (place at)) offset
+
 -- the numbers of two fields
 pub record SameNumbers (f g : C.Field.Field) : Type 0 where
   pub count : numberOf (f .count) ≡ numberOf (g .count)
@@ -54,8 +58,10 @@ pub record Begins (r : Rec) (z : List ℕ) (r₀ : Rec) (y : List ℕ) (n : Str)
 
 -- the next fields from two places on, whatever their one offset
 pub record AlikeNext (s p : Str) (z : List ℕ) (at : ℕ) (b q : Str) (y : List ℕ) (to a k l size : ℕ) : Type 0 where
-  pub passed : (w : List Scalar) (offset e : ℕ) → e ≡ capped (offset + size) → Sound (rec s p w) z (cursorAt (Body (place at)) offset) → Sound (rec b q w) y (cursorAt (Body (place to)) offset)
-      → Begins (rec s p w) z (rec b q w) y (nameAt s p a) (cursorAt (Body (place at)) offset) (cursorAt (Body (place to)) offset) (cursorAt (Body (place k)) e) (cursorAt (Body (place l)) e)
+  pub passed : (w : List Scalar) (offset e : ℕ) → e ≡ capped (offset + size)
+      → Sound (rec s p w) z (bodyAt at offset)
+      → Sound (rec b q w) y (bodyAt to offset)
+      → Begins (rec s p w) z (rec b q w) y (nameAt s p a) (bodyAt at offset) (bodyAt to offset) (bodyAt k e) (bodyAt l e)
   pub sought : SoughtFrom s Keys 11 at (At a k)
   pub sized : size ≡ getD z (k / 33) 0
 
