@@ -16,7 +16,6 @@ use Rattle.record.specs.Lists.{optOf}
 use Rattle.record.specs.Schema.{Schema}
 use Rattle.record.specs.Steps.{constantsAt, aliasesAt, enumsAt, bitfieldsAt, structsAt, familiesAt, unstoredAt, versionsAt}
 use Rattle.record.specs.Keys.{pluginKeys}
-use Rattle.record.specs.Index.{IndexRoom, Indexed}
 use Rattle.record.specs.References.{typesAt}
 use Rattle.record.specs.Ends.{IndexedTo}
 use Rattle.record.specs.Reading.{Rec, rec, schemaOf}
@@ -25,8 +24,7 @@ use Rattle.record.specs.declared.text.Text.{Text}
 use Rattle.record.specs.declared.operands.OptText.{OptText}
 use Rattle.record.proofs.EndLaws.{constants-front, enums-front, bitfields-front}
 use Rattle.record.proofs.SchemaLaws.{schema-release, schema-unreleased, schema-constants, schema-aliases, schema-enums, schema-bitfields, schema-structs, schema-families, schema-unstored, schema-versions}
-use Rattle.record.specs.Read.{Exact}
-use Rattle.layout.specs.Room.{Room, SizesRoom}
+use Rattle.layout.specs.Room.{Room}
 use Rattle.layout.specs.Tables.{Tables}
 use Rattle.definition.specs.Verdicts as D
 use Rattle.definition.specs.Pass.{_then_, required}
@@ -52,7 +50,7 @@ use Rattle.compare.specs.CoverTable.{changedTypes, Changes}
 use Rattle.compare.specs.Required.{RequiredText}
 use Rattle.compare.specs.Heads.{HeadRelease, HeadUnreleased}
 use Rattle.compare.specs.Sought.{UnreleasedFrom}
-use Rattle.compare.specs.Passes.{Legible, Releases, Prepared, TypesLaid, LaidOut, ChangesNoted, Ran}
+use Rattle.compare.specs.Passes.{Releases, Prepared, TypesLaid, LaidOut, ChangesNoted, Ran}
 use Rattle.compare.specs.declared.compare.Facts.{Facts}
 use Rattle.compare.specs.declared.compare.Counts.{Counts}
 
@@ -70,16 +68,9 @@ module _ (r u : Str) (n : ℕ) (f : u ≡ take n r) where
 
 -- both records made ready --------------------------------------------------------------------------------------------------
 
--- what index_with_ends answers of streams that are short enough, with room enough
-pub prepared : (s p b q : Str) (w : List Scalar) (x₀ y₀ x y : List ℕ) (t : Text) (o : OptText) (is was : Ends) → Legible (rec s p w) → Legible (rec b q w) → Releases (rec s p w) (rec b q w) t o
-    → IndexRoom s x₀ → IndexRoom b y₀ → (length s ≤ 32768 → IndexRoom s x₀ → IndexedTo s p x is) → (length b ≤ 32768 → IndexRoom b y₀ → IndexedTo b q y was)
-    → Prepared (rec s p w) (rec b q w) x y (record { current = t; copy = o; is = is; was = was })
-prepared s p b q w x₀ y₀ x y t o is was c r g i j f h = record { releases = g; is = f (c .short) i; was = h (r .short) j }
-
--- what fill_tables answers there
-pub laid-one : (s p : Str) (w : List Scalar) (x t d z u y : List ℕ) (n : ℕ) → Legible (rec s p w) → Indexed s p x → Room s t → Room s d → SizesRoom s z
-    → (Indexed s p x → length s ≤ 32768 → Room s t → Room s d → SizesRoom s z → Exact (rec s p w) → Tables (rec s p w) (take n u) y) → Tables (rec s p w) (take n u) y
-laid-one s p w x t d z u y n c i a e k f = f i (c .short) a e k (c .exact)
+pub prepared : (s p b q : Str) (w : List Scalar) (x y : List ℕ) (t : Text) (o : OptText) (is was : Ends) → Releases (rec s p w) (rec b q w) t o
+    → IndexedTo s p x is → IndexedTo b q y was → Prepared (rec s p w) (rec b q w) x y (record { current = t; copy = o; is = is; was = was })
+prepared s p b q w x y t o is was g f h = record { releases = g; is = f; was = h }
 
 pub laid-both : (s p b q : Str) (w : List Scalar) (t z u y d : List ℕ) (n m : ℕ) → Tables (rec s p w) (take n t) z → Tables (rec b q w) (take m u) y → n ≤ length t → m ≤ length u → Room s d
     → LaidOut (rec s p w) (rec b q w) t z u y d (record { types = n; shipped = m })

@@ -1,4 +1,3 @@
-use Rattle.compare.proofs.CompareLaws.{laid-one}
 use borrow.Author.Needs.{needs}
 use Rattle.compare.proofs.compare.lay_one.Statement.{statement}
 use Rattle.compare.proofs.compare.lay_one.Tie as tie
@@ -7,7 +6,7 @@ use Rattle.compare.proofs.compare.lay_one.Lts as lts
 use Rattle.layout.proofs.tables.fill_tables.Reads as fill-tables-reads
 
 fill-tables-requires : tie.Need-fill-tables-requires
-fill-tables-requires c κs = search needs
+fill-tables-requires c κs = (search needs, search needs, search needs, search needs, search needs, search needs)
 
 same-length : tie.Need-same-length
 same-length c = search needs
@@ -19,7 +18,7 @@ same-length-3 : tie.Need-same-length-3
 same-length-3 c = search needs
 
 returns : tie.Need-returns
-returns c = (search laid-one, search needs)
+returns c = (search needs, search needs)
 
 pub lay-one-spec : {M : Type 1} → statement M
 lay-one-spec =

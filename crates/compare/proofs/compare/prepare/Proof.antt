@@ -7,10 +7,10 @@ use Rattle.compare.proofs.compare.prepare.Lts as lts
 use Rattle.record.proofs.ends.index_with_ends.Reads as index-with-ends-reads
 
 index-with-ends-requires : tie.Need-index-with-ends-requires
-index-with-ends-requires c κs = search needs
+index-with-ends-requires c κs = (search needs, search needs)
 
 index-with-ends-requires-2 : tie.Need-index-with-ends-requires-2
-index-with-ends-requires-2 c κs = search needs
+index-with-ends-requires-2 c κs = (search needs, search needs)
 
 same-length : tie.Need-same-length
 same-length c = search needs
