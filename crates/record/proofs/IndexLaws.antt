@@ -19,7 +19,7 @@ use Rattle.record.specs.Commands.{operands, wide, widths, widthWith, wid
 use Rattle.record.specs.Lists.{anything, listed, constants, unstored, aliases, enums, bitfields, structs, families}
 use Rattle.record.specs.Steps.{valuesAt, membersAt, fieldsAt, variantsAt, constantsAt, aliasesAt, enumsAt, bitfieldsAt, structsAt, familiesAt, unstoredAt, constantIn, aliasIn, enumIn, bitfieldIn, structIn, familyIn}
 use Rattle.record.specs.Seek.{afterAt, SoughtFrom}
-use Rattle.record.specs.Index.{mixed, hashOf, declaredName, declares, isNamed, isFlagged, counts, onto, declaring, declaredPlaces, keyAt, putAt, latest, Linked, IndexRoom, Chained, Indexed, hitIn, firstIn, linkBefore, Headless, FirstNamed, LastNamed, soughtAt, constantPlaced, unstoredPlaced, aliasPlaced, enumPlaced, bitfieldPlaced, structPlaced, familyPlaced, PlaceNamed, Declared, LastDeclared, Alone, Findable, Looked}
+use Rattle.record.specs.Index.{mixed, hashOf, declaredName, declares, isNamed, isFlagged, counts, onto, declaring, declaredPlaces, keyAt, putAt, latest, Linked, IndexRoom, Chained, Indexed, hitIn, firstIn, linkBefore, Headless, firstPlace, FirstNamed, LastNamed, soughtAt, constantPlaced, unstoredPlaced, aliasPlaced, enumPlaced, bitfieldPlaced, structPlaced, familyPlaced, PlaceNamed, Declared, LastDeclared, Alone, Findable, Looked}
 use Rattle.record.specs.declared.text.Text.{Text}
 use Rattle.record.specs.declared.command.Cursor.{Cursor}
 use Rattle.record.specs.declared.command.Command.{Command}
@@ -638,19 +638,43 @@ module _ {A : Type 0} (s p n : Str) (b : ℕ) (d : declares b ≡ true) (f : ℕ
   unfolding Finds hit
   found-in = along s Finds finds-stop finds-next
 
+-- the place of the first command of a number and a name is that of the first of its list
+pub first-placed : (s p n : Str) (b : ℕ) → PlaceNamed s p n b (soughtAt s (firstPlace s p b n))
+unfolding declaredPlaces hit declaredName declares constantIn aliasIn enumIn bitfieldIn structIn familyIn constantsAt aliasesAt enumsAt bitfieldsAt structsAt familiesAt constants aliases enums bitfields structs families valuesAt membersAt fieldsAt variantsAt
+first-placed s p n b = record {
+  constant = λ q. rw q (found-in s p n 2 refl _ _ (λ at rest. refl) (constantPlaced s p) refl (λ a k. refl) 0);
+  alias = λ q. rw q (found-in s p n 3 refl _ _ (λ at rest. refl) (aliasPlaced s p) refl (λ a k. refl) 0);
+  enum = λ q. rw q (found-in s p n 4 refl _ _ (λ at rest. refl) (enumPlaced s p) refl (λ a k. refl) 0);
+  bitfield = λ q. rw q (found-in s p n 6 refl _ _ (λ at rest. refl) (bitfieldPlaced s p) refl (λ a k. refl) 0);
+  struct = λ q. rw q (found-in s p n 8 refl _ _ (λ at rest. refl) (structPlaced s p) refl (λ a k. refl) 0);
+  family = λ q. rw q (found-in s p n 9 refl _ _ (λ at rest. refl) (familyPlaced s p) refl (λ a k. refl) 0);
+}
+
+-- what is found passes the test
+hit-passes : (t : ℕ → Bool) (l : List ℕ) (f q : ℕ) → (f ≡ suc q → t q ≡ true) → hitIn t l f ≡ suc q → t q ≡ true
+unfolding hitIn
+hit-passes t [] f q k e = k e
+hit-passes t (a ∷ l) f q k e = hit-passes t l (cond (t a) (suc a) f) q (go (t a) refl) e
+  where
+    go : (v : Bool) → t a ≡ v → cond v (suc a) f ≡ suc q → t q ≡ true
+    go true h z = let w : suc a ≡ suc q = z in let y : a ≡ q = omega arith in subst (λ (i : ℕ). t i ≡ true) y h
+    go false h z = k z
+
+-- a command has the number that it was found by
+pub first-number : (s p n : Str) (b q : ℕ) → firstPlace s p b n ≡ suc q → getD s q 0 ≡ b
+unfolding isNamed
+first-number s p n b q e = go (eqb (getD s q 0) b) refl (hit-passes (isNamed s p b n) (declaredPlaces s) 0 q (λ z. absurd (omega arith)) e)
+  where
+    go : (v : Bool) → eqb (getD s q 0) b ≡ v → (v && eqs (declaredName s p q) n) ≡ true → getD s q 0 ≡ b
+    go true h z = eqb-true (getD s q 0) b h
+    go false h z = absurd (false≢true z)
+
 module _ (s p : Str) (x : List ℕ) (b : ℕ) (n : Str) (found : ℕ) (g : FirstNamed s p x b n found) where
   placed-at : (r : Sought) → r ≡ soughtAt s found → Declared s p x b n r
-  unfolding declaredPlaces hit declaredName declares constantIn aliasIn enumIn bitfieldIn structIn familyIn constantsAt aliasesAt enumsAt bitfieldsAt structsAt familiesAt constants aliases enums bitfields structs families valuesAt membersAt fieldsAt variantsAt
-  placed-at r e = record {
-    named = λ i. let h : r ≡ soughtAt s (hitIn (isNamed s p b n) (declaredPlaces s) 0) = e ∙ ap (soughtAt s) (g .first i) in record {
-      constant = λ q. rw (h, q) (found-in s p n 2 refl _ _ (λ at rest. refl) (constantPlaced s p) refl (λ a k. refl) 0);
-      alias = λ q. rw (h, q) (found-in s p n 3 refl _ _ (λ at rest. refl) (aliasPlaced s p) refl (λ a k. refl) 0);
-      enum = λ q. rw (h, q) (found-in s p n 4 refl _ _ (λ at rest. refl) (enumPlaced s p) refl (λ a k. refl) 0);
-      bitfield = λ q. rw (h, q) (found-in s p n 6 refl _ _ (λ at rest. refl) (bitfieldPlaced s p) refl (λ a k. refl) 0);
-      struct = λ q. rw (h, q) (found-in s p n 8 refl _ _ (λ at rest. refl) (structPlaced s p) refl (λ a k. refl) 0);
-      family = λ q. rw (h, q) (found-in s p n 9 refl _ _ (λ at rest. refl) (familyPlaced s p) refl (λ a k. refl) 0);
-    };
-  }
+  placed-at r e = record { named = λ i. subst (PlaceNamed s p n b) (sym (there i)) (first-placed s p n b); first = there }
+    where
+      there : Indexed s p x → r ≡ soughtAt s (firstPlace s p b n)
+      there i = e ∙ ap (soughtAt s) (g .first i)
 
   pub declared-none : found ≡ 0 → Declared s p x b n Nowhere
   unfolding soughtAt

@@ -24,7 +24,7 @@ use Rattle.record.specs.Marks.{referenceAt, targetAt}
 use Rattle.record.specs.Leads.{LeadsTo}
 use Rattle.record.specs.Versioned.{structCommandsAt, commandFound, InSlot, InSlots}
 use Rattle.record.specs.Index.{IndexRoom, Indexed}
-use Rattle.record.specs.Ownership.{Within, Resolved, OwnerMarks, Known, OwnersMarked, EightClear, OwnerBy, MarkedName, NamedBy, Claims, OwnerIn, withStretch, stretchesIn, ownedBy, stretchOf, ownerAt, Answered, OwnerFound}
+use Rattle.record.specs.Ownership.{Within, Resolved, OwnerMarks, Known, RootsMarked, EightClear, OwnerBy, MarkedName, NamedBy, Claims, OwnerIn, withStretch, stretchesIn, ownedBy, stretchOf, ownerAt, Answered, OwnerFound}
 use Rattle.record.specs.declared.text.Text.{Text}
 use Rattle.record.specs.declared.operands.OptText.{OptText}
 use Rattle.record.specs.declared.kind.Kind.{Kind}
@@ -478,11 +478,11 @@ module _ (s p n : Str) where
 -- the call ---------------------------------------------------------------------------------------------------------------
 
 module _ (s p n : Str) (r : Owner) where
-  pub answered-lent : (before room after x : List ℕ) (roots : Versioned) → length s ≤ 32768 → length s ≤ length before → IndexRoom s room → (length s ≤ 32768 → IndexRoom s room → Indexed s p x) → OwnersMarked s p roots x before after
+  pub answered-lent : (room after x : List ℕ) (roots : Versioned) → length s ≤ 32768 → IndexRoom s room → (length s ≤ 32768 → IndexRoom s room → Indexed s p x) → RootsMarked s p roots x after
       → InSlots s p roots → (Known s p after x → InSlots s p roots → LeadsTo s p after n Unknown → Answered s p n r) → Answered s p n r
-  answered-lent before room after x roots h e i fill f slots a =
+  answered-lent room after x roots h i fill f slots a =
       let index = fill h i in
-      a (record { marks = f .within e slots index; index = index }) slots (leads-unknown s p after n)
+      a (record { marks = f .by slots index; index = index }) slots (leads-unknown s p after n)
 
   pub found-within : length s ≤ 32768 → Answered s p n r → OwnerFound 32768 s p n r
   found-within h a = record { within = λ l. a; beyond = λ l. absurd (omega arith) }

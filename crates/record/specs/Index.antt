@@ -178,9 +178,10 @@ pub record PlaceNamed (s p n : Str) (b : ℕ) (r : Sought) : Type 0 where
   pub struct : b ≡ 8 → structIn n (structsAt s p 0) ≡ structPlaced s p r
   pub family : b ≡ 9 → familyIn n (familiesAt s p 0) ≡ familyPlaced s p r
 
--- the answer is such a place, where the index is the record's
+-- the answer is such a place, that of the first command of the number and the name, where the index is the record's
 pub record Declared (s p : Str) (x : List ℕ) (b : ℕ) (n : Str) (r : Sought) : Type 0 where
   pub named : Indexed s p x → PlaceNamed s p n b r
+  pub first : Indexed s p x → r ≡ soughtAt s (firstPlace s p b n)
 
 -- an index by which names can be looked up: the record's, or an empty one, in whose place all commands are looked at
 pub record Findable (s p : Str) (x : List ℕ) : Type 0 where

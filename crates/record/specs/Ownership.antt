@@ -14,7 +14,7 @@ use Rattle.record.specs.Index.{Indexed}
 use Rattle.record.specs.Owner.{structInSlot, ownershipOrder, ownerOf, Edge, Leads}
 use Rattle.record.specs.References.{typesAt}
 use Rattle.record.specs.Versioned.{structCommandsAt, commandInSlot, InSlot, InSlots}
-use Rattle.record.specs.Marks.{targetAt, referenceAt, Full, Walked}
+use Rattle.record.specs.Marks.{targetAt, referenceAt, Visited, Walked}
 use Rattle.record.specs.Leads.{LeadsTo}
 use Rattle.record.specs.declared.text.Text.{Text}
 use Rattle.record.specs.declared.command as D
@@ -34,10 +34,10 @@ pub record Through (s p slot n : Str) : Type 0 where
   pub fills : structInSlot slot (structsAt s p 0) ≡ some root
   pub leads : Leads (typesAt s p) (root .name) n
 
--- a root's walk
+-- a root's walk: its own type was visited
 pub record Claimed (s p : Str) (mark : ℕ) (slot : Str) (before after : List ℕ) : Type 0 where
   pub walked : Walked s p mark (Through s p slot) before after
-  pub full : (root : Struct) → structInSlot slot (structsAt s p 0) ≡ some root → Full s p after (root .name)
+  pub visited : (root : Struct) → structInSlot slot (structsAt s p 0) ≡ some root → Visited s p after (root .name)
 
 -- the walk of what is taken for the root in a slot, where it is that root and the index is the record's
 pub record RootWalked (s p : Str) (x : List ℕ) (mark : ℕ) (filled : StructStep) (before after : List ℕ) : Type 0 where
@@ -67,7 +67,11 @@ pub record Known (s p : Str) (m x : List ℕ) : Type 0 where
   pub marks : OwnerMarks s p m
   pub index : Indexed s p x
 
--- marks that were set by roots and an index: the record's where there is room and both are the record's, and as they were where there is no room
+-- marks that were set by roots and an index: the record's, where both are the record's
+pub record RootsMarked (s p : Str) (roots : Versioned) (x after : List ℕ) : Type 0 where
+  pub by : InSlots s p roots → Indexed s p x → OwnerMarks s p after
+
+-- the same where there is room for them; they stay as they were where there is none
 pub record OwnersMarked (s p : Str) (roots : Versioned) (x before after : List ℕ) : Type 0 where
   pub within : length s ≤ length before → InSlots s p roots → Indexed s p x → OwnerMarks s p after
   pub beyond : length before < length s → after ≡ before

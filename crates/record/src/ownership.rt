@@ -5,7 +5,7 @@ use crate::le::byte_at;
 use crate::leads::Lead;
 use crate::leads::lead_to;
 use crate::lists::StructStep;
-use crate::marks::mark_owners;
+use crate::marks::mark_roots;
 use crate::marks::reference_at;
 use crate::operands::opt_text_at;
 use crate::references::has_slot;
@@ -21,7 +21,7 @@ ghost use Prim.Native.Nat.{_≤_, _<_};
 ghost use lib.ListN.{length};
 ghost use Rattle.record.specs.Base.{isText};
 ghost use Rattle.record.specs.Index.{IndexRoom};
-ghost use Rattle.record.specs.Marks.{referenceAt};
+ghost use Rattle.record.specs.Marks.{referenceAt, Clear};
 ghost use Rattle.record.specs.Leads.{LeadTable, LeadsTo};
 ghost use Rattle.record.specs.Versioned.{InSlots};
 ghost use Rattle.record.specs.declared.leads.Lead.the-variants.{AField};
@@ -189,14 +189,15 @@ pub fn owner_among(
     owner_by(stream, pool, roots, marks, index, lead, name)
 }
 
-// The owner of one name, on marks and an index that are lent for its walk.
+// The owner of one name, on marks that are clear and an index, which are lent for its walk.
 fn owner_lent(stream: &[u8], pool: &[u8], marks: &mut [u8], index: &mut [u16], name: &[u8]) -> Owner
-    requires { ⌜ (length (now stream) ≤ 32768) × (length (now stream) ≤ length (now marks)) × IndexRoom (now stream) (now index) ⌝ }
+    requires { ⌜ (length (now stream) ≤ 32768) × (length (now stream) ≤ length (now marks)) × Clear (now marks)
+        × IndexRoom (now stream) (now index) ⌝ }
     ensures { λ r. ⌜ Answered (now (stream .entry)) (now (pool .entry)) (now (name .entry)) r ⌝ }
 {
     fill_index(stream, pool, index);
     let roots = versioned_structs(stream, pool);
-    mark_owners(stream, pool, roots, index, marks);
+    mark_roots(stream, pool, roots, index, marks);
     owner_by(stream, pool, roots, marks, index, Lead::Unknown, name)
 }
 
