@@ -37,7 +37,7 @@ use Rattle.definition.specs.BitfieldReleases.{checkBitfieldReleases}
 use Rattle.definition.specs.Fields.{checkFields}
 use Rattle.definition.specs.Standalone.{checkStandalone}
 use Rattle.definition.specs.Generations.{checkGenerations}
-use Rattle.definition.specs.Unreleased.{checkUnreleased}
+use Rattle.definition.specs.Unreleased.{checkNothingReleased}
 use Rattle.definition.specs.Compare.{passList, allPasses, passAt, passes, firstOf, compare}
 use Rattle.definition.proofs.Compare.{passes-step, no-passes}
 use Rattle.verdicts.specs.Meaning.{meaning}
@@ -139,7 +139,7 @@ module _ (s p b q : Str) (w : List Scalar) (current : Text) (copy : OptText) (g 
   C = optOf q copy
 
   passes-are : allPasses (schemaOf (rec s p w)) (schemaOf (rec b q w))
-      ≡ cond (schemaOf (rec b q w) .unreleased) (checkUnreleased (structsAt b q 0) (constantsAt b q 0) (enumsAt b q 0) (bitfieldsAt b q 0) (aliasesAt b q 0) (familiesAt b q 0)) D.pass
+      ≡ cond (schemaOf (rec b q w) .unreleased) (checkNothingReleased (structsAt b q 0) (constantsAt b q 0) (enumsAt b q 0) (bitfieldsAt b q 0) (aliasesAt b q 0) (familiesAt b q 0)) D.pass
       ∷ checkReleaseOrder N C
       ∷ checkFirstReleases N C (constantsAt s p 0) (constantsAt b q 0) (enumsAt s p 0) (enumsAt b q 0) (pluginKeys (structsAt s p 0) (unstoredAt s p 0)) (pluginKeys (structsAt b q 0) (unstoredAt b q 0))
       ∷ checkConstants (structsAt s p 0) (constantsAt s p 0) (constantsAt b q 0)

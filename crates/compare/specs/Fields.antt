@@ -5,7 +5,7 @@ use mathlib.Core.Bool.{Bool, cond}
 use Prim.Native.Nat.{ℕ, _<_}
 use lib.ListN.{length, getD, set}
 use Rattle.record.specs.Base.{Str}
-use Rattle.record.specs.Shapes.{Place}
+use Rattle.record.specs.Shapes.{FieldLayout}
 use Rattle.record.specs.Reading.{Rec}
 use Rattle.layout.specs.Handles.{typeName, layoutOf}
 use Rattle.definition.specs.Fields.{eqPlaces, checkPlaces}
@@ -21,7 +21,7 @@ pub record Ones (n : ℕ) (m : List ℕ) : Type 0 where
   pub one : (i : ℕ) → i < n → getD m i 0 ≡ 1
 
 -- the fields of a released type were held to those of a current one: the verdict, and the table before and after its entry was put
-pub record FieldsHeld (cur rel : Rec) (owner : Str) (is was : List Place) (i : ℕ) (before after : List ℕ) (r : Verdict) : Type 0 where
+pub record FieldsHeld (cur rel : Rec) (owner : Str) (is was : List FieldLayout) (i : ℕ) (before after : List ℕ) (r : Verdict) : Type 0 where
   pub verdict : meaning (cur .pool) (rel .pool) r ≡ checkPlaces owner is was
   pub entry : after ≡ set before i (entryOf (eqPlaces is was))
 

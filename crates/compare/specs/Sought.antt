@@ -18,7 +18,7 @@ use Rattle.record.specs.declared.lists.MemberStep.{MemberStep}
 use Rattle.record.specs.declared.lists.BitfieldStep.{BitfieldStep}
 use Rattle.definition.specs.Pass.{ensure}
 use Rattle.verdicts.specs.Arguments.{valueMeant}
-use Rattle.definition.specs.Unreleased.{checkUnreleased}
+use Rattle.definition.specs.Unreleased.{checkNothingReleased}
 use Rattle.compare.specs.Shipped.{shippedOf}
 use Rattle.definition.specs.Enums.{numberIn}
 use Rattle.definition.specs.Bitfields.{spanIn}
@@ -35,7 +35,7 @@ pub record PassedIf (holds : Bool) (v r : Verdict) : Type 0 where
 -- the verdict on an unreleased copy
 pub record UnreleasedFrom (s : Str) (r : Verdict) : Type 0 where
   pub this : (p q : Str) → meaning p q r
-      ≡ checkUnreleased (structsAt s q 0) (constantsAt s q 0) (enumsAt s q 0) (bitfieldsAt s q 0) (aliasesAt s q 0) (familiesAt s q 0)
+      ≡ checkNothingReleased (structsAt s q 0) (constantsAt s q 0) (enumsAt s q 0) (bitfieldsAt s q 0) (aliasesAt s q 0) (familiesAt s q 0)
 
 -- a value is dated: the copy has it, or it names its own release, or its release is the current one
 pub record ValueDated (p : Str) (now : Text) (was : Shipped) (own : OptText) (release : Text) (r : Bool) : Type 0 where

@@ -13,7 +13,7 @@ use crate::heads::head_unreleased;
 use crate::release_order::check_release_order;
 use crate::required::required_text;
 use crate::standalone::check_standalone;
-use crate::unreleased::check_unreleased;
+use crate::unreleased::check_nothing_released;
 use layout::tables::fill_tables;
 use record::cut::upto;
 use record::ends::Ends;
@@ -694,7 +694,7 @@ pub(crate) fn compare(
         ⌜ meaning (cur .pool) (rel .pool) r ≡ compare (schemaOf cur) (schemaOf rel) ⌝ }
 {
     if head_unreleased(old_stream) {
-        return check_unreleased(old_stream);
+        return check_nothing_released(old_stream);
     }
     let current = required_text(head_release(stream));
     let copy = head_release(old_stream);

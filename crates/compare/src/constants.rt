@@ -27,7 +27,7 @@ ghost use Rattle.record.specs.Index.{Indexed};
 ghost use Rattle.record.specs.Reading.{Rec, rec};
 ghost use Rattle.layout.specs.Room.{Room};
 ghost use Rattle.layout.specs.Constants.{placedConstant};
-ghost use Rattle.definition.specs.Constants.{valueText};
+ghost use Rattle.definition.specs.Constants.{constantText};
 ghost use Rattle.verdicts.specs.Arguments.{valueMeant};
 ghost use Rattle.definition.specs.Constants.{heldByAny, isGeneration, checkConstant, checkConstantsIn, checkConstants};
 ghost use Rattle.compare.specs.Sought.{HoldsValue};
@@ -63,7 +63,7 @@ fn integer_reads(n: u64, text: &[u8]) -> bool
 
 // Whether an integer has the text of a value.
 fn integer_is(n: u64, pool: &[u8], value: ConstantValue) -> bool
-    ensures { λ r. ⌜ r ≡ eqs (signed n) (valueText (valueMeant (now (pool .entry)) value)) ⌝ }
+    ensures { λ r. ⌜ r ≡ eqs (signed n) (constantText (valueMeant (now (pool .entry)) value)) ⌝ }
 {
     match value {
         ConstantValue::Integer(m) => same_integers(n, m),
@@ -73,7 +73,7 @@ fn integer_is(n: u64, pool: &[u8], value: ConstantValue) -> bool
 
 // Whether these words are the text of a value.
 fn words_are(words: &[u8], pool: &[u8], value: ConstantValue) -> bool
-    ensures { λ r. ⌜ r ≡ eqs (now (words .entry)) (valueText (valueMeant (now (pool .entry)) value)) ⌝ }
+    ensures { λ r. ⌜ r ≡ eqs (now (words .entry)) (constantText (valueMeant (now (pool .entry)) value)) ⌝ }
 {
     match value {
         ConstantValue::Integer(n) => integer_reads(n, words),
@@ -83,7 +83,7 @@ fn words_are(words: &[u8], pool: &[u8], value: ConstantValue) -> bool
 
 // Whether a value that is now and one that was have the same text.
 fn same_value(pool: &[u8], is: ConstantValue, old_pool: &[u8], was: ConstantValue) -> bool
-    ensures { λ r. ⌜ r ≡ eqs (valueText (valueMeant (now (pool .entry)) is)) (valueText (valueMeant (now («old_pool» .entry)) was)) ⌝ }
+    ensures { λ r. ⌜ r ≡ eqs (constantText (valueMeant (now (pool .entry)) is)) (constantText (valueMeant (now («old_pool» .entry)) was)) ⌝ }
 {
     match is {
         ConstantValue::Integer(n) => integer_is(n, old_pool, was),

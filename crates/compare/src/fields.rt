@@ -33,7 +33,7 @@ ghost use Rattle.layout.specs.Handles.{typeName, layoutOf};
 ghost use Rattle.layout.specs.Names.{nameOf};
 ghost use Rattle.layout.specs.Table.{Typed};
 ghost use Rattle.layout.specs.FieldSizes.{SizesTable};
-ghost use Rattle.layout.specs.Spots.{spotOf, placesFrom, Sound};
+ghost use Rattle.layout.specs.Spots.{spotOf, placesFrom, SoundCursor};
 ghost use Rattle.layout.specs.Tables.{Tables};
 ghost use Rattle.definition.specs.Fields.{placeIn, checkKept, checkPlace, checkPlaces, checkType, checkFields, eqPlaces};
 ghost use Rattle.compare.specs.Layouts.{typesOf, spotFound};
@@ -90,7 +90,7 @@ fn find_near(
     name: &[u8],
 ) -> SpotStep
     requires { let cur : Rec = rec (now stream) (now pool) (scalarsOf (now rows)) in
-        ⌜ Sound cur (now sizes) from × Near (cur .stream) (cur .pool) (now sizes) from (now table) ⌝ }
+        ⌜ SoundCursor cur (now sizes) from × Near (cur .stream) (cur .pool) (now sizes) from (now table) ⌝ }
     ensures { λ r.
         let cur : Rec = rec (now (stream .entry)) (now (pool .entry)) (scalarsOf (now (rows .entry))) in
         ⌜ placeIn (now (name .entry)) (placesFrom cur from) ≡ spotFound (cur .pool) r ⌝ }
@@ -112,7 +112,7 @@ fn check_place(
     was: Spot,
 ) -> Verdict
     requires { let cur : Rec = rec (now stream) (now pool) (scalarsOf (now rows)) in
-        ⌜ Sound cur (now sizes) is × Near (cur .stream) (cur .pool) (now sizes) is (now table) ⌝ }
+        ⌜ SoundCursor cur (now sizes) is × Near (cur .stream) (cur .pool) (now sizes) is (now table) ⌝ }
     ensures { λ r.
         let cur : Rec = rec (now (stream .entry)) (now (pool .entry)) (scalarsOf (now (rows .entry))) in
         let q : Str = now («old_pool» .entry) in
@@ -159,9 +159,9 @@ fn check_places(
 ) -> Verdict
     requires { let cur : Rec = rec (now stream) (now pool) (scalarsOf (now rows)) in
         let rel : Rec = rec (now «old_stream») (now «old_pool») (scalarsOf (now rows)) in
-        ⌜ Sound cur (now sizes) (pair .is)
+        ⌜ SoundCursor cur (now sizes) (pair .is)
         × Near (cur .stream) (cur .pool) (now sizes) (pair .is) (now table)
-        × Sound rel (now «old_sizes») (pair .was) ⌝ }
+        × SoundCursor rel (now «old_sizes») (pair .was) ⌝ }
     ensures { λ r.
         let cur : Rec = rec (now (stream .entry)) (now (pool .entry)) (scalarsOf (now (rows .entry))) in
         let rel : Rec = rec (now («old_stream» .entry)) (now («old_pool» .entry)) (scalarsOf (now (rows .entry))) in
@@ -199,7 +199,7 @@ fn check_near(
 ) -> Verdict
     requires { let cur : Rec = rec (now stream) (now pool) (scalarsOf (now rows)) in
         let rel : Rec = rec (now «old_stream») (now «old_pool») (scalarsOf (now rows)) in
-        ⌜ Sound cur (now sizes) (pair .is) × Sound rel (now «old_sizes») (pair .was) × Clear (now table) × (1024 ≤ length (now table)) ⌝ }
+        ⌜ SoundCursor cur (now sizes) (pair .is) × SoundCursor rel (now «old_sizes») (pair .was) × Clear (now table) × (1024 ≤ length (now table)) ⌝ }
     ensures { λ r.
         let cur : Rec = rec (now (stream .entry)) (now (pool .entry)) (scalarsOf (now (rows .entry))) in
         let rel : Rec = rec (now («old_stream» .entry)) (now («old_pool» .entry)) (scalarsOf (now (rows .entry))) in
@@ -234,7 +234,7 @@ fn check_many(
 ) -> Verdict
     requires { let cur : Rec = rec (now stream) (now pool) (scalarsOf (now rows)) in
         let rel : Rec = rec (now «old_stream») (now «old_pool») (scalarsOf (now rows)) in
-        ⌜ Sound cur (now sizes) (pair .is) × Sound rel (now «old_sizes») (pair .was) ⌝ }
+        ⌜ SoundCursor cur (now sizes) (pair .is) × SoundCursor rel (now «old_sizes») (pair .was) ⌝ }
     ensures { λ r.
         let cur : Rec = rec (now (stream .entry)) (now (pool .entry)) (scalarsOf (now (rows .entry))) in
         let rel : Rec = rec (now («old_stream» .entry)) (now («old_pool» .entry)) (scalarsOf (now (rows .entry))) in
@@ -268,7 +268,7 @@ fn check_any(
 ) -> Verdict
     requires { let cur : Rec = rec (now stream) (now pool) (scalarsOf (now rows)) in
         let rel : Rec = rec (now «old_stream») (now «old_pool») (scalarsOf (now rows)) in
-        ⌜ Sound cur (now sizes) (pair .is) × Sound rel (now «old_sizes») (pair .was) ⌝ }
+        ⌜ SoundCursor cur (now sizes) (pair .is) × SoundCursor rel (now «old_sizes») (pair .was) ⌝ }
     ensures { λ r.
         let cur : Rec = rec (now (stream .entry)) (now (pool .entry)) (scalarsOf (now (rows .entry))) in
         let rel : Rec = rec (now («old_stream» .entry)) (now («old_pool» .entry)) (scalarsOf (now (rows .entry))) in
@@ -316,7 +316,7 @@ pub(crate) fn note_rest(
 )
     requires { let cur : Rec = rec (now stream) (now pool) (scalarsOf (now rows)) in
         let rel : Rec = rec (now «old_stream») (now «old_pool») (scalarsOf (now rows)) in
-        ⌜ Sound cur (now sizes) (both .is) × Sound rel (now «old_sizes») (both .was) × (i < length (now cover)) ⌝ }
+        ⌜ SoundCursor cur (now sizes) (both .is) × SoundCursor rel (now «old_sizes») (both .was) × (i < length (now cover)) ⌝ }
     ensures { λ _.
         let cur : Rec = rec (now (stream .entry)) (now (pool .entry)) (scalarsOf (now (rows .entry))) in
         let rel : Rec = rec (now («old_stream» .entry)) (now («old_pool» .entry)) (scalarsOf (now (rows .entry))) in
@@ -359,7 +359,7 @@ fn check_changed(
 ) -> Verdict
     requires { let cur : Rec = rec (now stream) (now pool) (scalarsOf (now rows)) in
         let rel : Rec = rec (now «old_stream») (now «old_pool») (scalarsOf (now rows)) in
-        ⌜ Sound cur (now sizes) (pair .is) × Sound rel (now «old_sizes») (pair .was) × (pair .index < length (now cover)) ⌝ }
+        ⌜ SoundCursor cur (now sizes) (pair .is) × SoundCursor rel (now «old_sizes») (pair .was) × (pair .index < length (now cover)) ⌝ }
     ensures { λ r.
         let cur : Rec = rec (now (stream .entry)) (now (pool .entry)) (scalarsOf (now (rows .entry))) in
         let rel : Rec = rec (now («old_stream» .entry)) (now («old_pool» .entry)) (scalarsOf (now (rows .entry))) in

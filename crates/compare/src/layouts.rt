@@ -27,7 +27,7 @@ ghost use Rattle.record.specs.Read.{Exact};
 ghost use Rattle.layout.specs.Handles.{layoutOf};
 ghost use Rattle.layout.specs.Table.{Typed};
 ghost use Rattle.layout.specs.FieldSizes.{SizesTable};
-ghost use Rattle.layout.specs.Spots.{spotOf, placesFrom, Sound};
+ghost use Rattle.layout.specs.Spots.{spotOf, placesFrom, SoundCursor};
 ghost use Rattle.definition.specs.Fields.{placeIn, eqPlace, eqPlaces};
 ghost use Rattle.compare.specs.Layouts.{spotFound};
 
@@ -133,7 +133,7 @@ pub(crate) fn same_rest(
 ) -> bool
     requires { let cur : Rec = rec (now stream) (now pool) (scalarsOf (now rows)) in
         let rel : Rec = rec (now «old_stream») (now «old_pool») (scalarsOf (now rows)) in
-        ⌜ Sound cur (now sizes) from × Sound rel (now «old_sizes») other ⌝ }
+        ⌜ SoundCursor cur (now sizes) from × SoundCursor rel (now «old_sizes») other ⌝ }
     ensures { λ r.
         let cur : Rec = rec (now (stream .entry)) (now (pool .entry)) (scalarsOf (now (rows .entry))) in
         let rel : Rec = rec (now («old_stream» .entry)) (now («old_pool» .entry)) (scalarsOf (now (rows .entry))) in
@@ -176,7 +176,7 @@ fn same_ahead(
 ) -> bool
     requires { let cur : Rec = rec (now stream) (now pool) (scalarsOf (now rows)) in
         let rel : Rec = rec (now «old_stream») (now «old_pool») (scalarsOf (now rows)) in
-        ⌜ Sound cur (now sizes) from × Sound rel (now «old_sizes») other ⌝ }
+        ⌜ SoundCursor cur (now sizes) from × SoundCursor rel (now «old_sizes») other ⌝ }
     ensures { λ r.
         let cur : Rec = rec (now (stream .entry)) (now (pool .entry)) (scalarsOf (now (rows .entry))) in
         let rel : Rec = rec (now («old_stream» .entry)) (now («old_pool» .entry)) (scalarsOf (now (rows .entry))) in
@@ -281,7 +281,7 @@ pub(crate) fn find_spot(
     name: &[u8],
 ) -> SpotStep
     requires { let cur : Rec = rec (now stream) (now pool) (scalarsOf (now rows)) in
-        ⌜ Sound cur (now sizes) from ⌝ }
+        ⌜ SoundCursor cur (now sizes) from ⌝ }
     ensures { λ r.
         let cur : Rec = rec (now (stream .entry)) (now (pool .entry)) (scalarsOf (now (rows .entry))) in
         ⌜ placeIn (now (name .entry)) (placesFrom cur from) ≡ spotFound (cur .pool) r ⌝ }

@@ -31,7 +31,7 @@ ghost use Rattle.record.specs.Base.{Str};
 ghost use Rattle.layout.specs.Names.{nameOf};
 ghost use Rattle.layout.specs.Table.{TypesTable};
 ghost use Rattle.layout.specs.FieldSizes.{SizesTable};
-ghost use Rattle.layout.specs.Spots.{placesFrom, Sound};
+ghost use Rattle.layout.specs.Spots.{placesFrom, SoundCursor};
 ghost use Rattle.layout.specs.Tables.{Tables};
 ghost use Rattle.compare.specs.Layouts.{typesOf};
 ghost use Rattle.definition.specs.Standalone.{variantNames, gained, checkShippedAll, checkStanding, checkFamily, checkStandalone};
@@ -53,7 +53,7 @@ fn gained(
 ) -> OptText
     requires { let cur : Rec = rec (now stream) (now pool) (scalarsOf (now rows)) in
         let rel : Rec = rec (now «old_stream») (now «old_pool») (scalarsOf (now rows)) in
-        ⌜ Sound cur (now sizes) is × Sound rel (now «old_sizes») was ⌝ }
+        ⌜ SoundCursor cur (now sizes) is × SoundCursor rel (now «old_sizes») was ⌝ }
     ensures { λ r.
         let cur : Rec = rec (now (stream .entry)) (now (pool .entry)) (scalarsOf (now (rows .entry))) in
         let rel : Rec = rec (now («old_stream» .entry)) (now («old_pool» .entry)) (scalarsOf (now (rows .entry))) in

@@ -16,7 +16,7 @@ use verdicts::verdict::Verdict;
 ghost use Rattle.compare.specs.Sought.{UnreleasedFrom};
 
 // Whether nothing is described. Any of the six lists describes a layout; plugin keys and version entries do not.
-pub fn check_unreleased(old_stream: &[u8]) -> Verdict
+pub fn check_nothing_released(old_stream: &[u8]) -> Verdict
     ensures { λ r. ⌜ UnreleasedFrom (now («old_stream» .entry)) r ⌝ }
 {
     let start = Cursor::new();

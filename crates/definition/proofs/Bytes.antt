@@ -20,7 +20,7 @@ use Rattle.definition.specs.Compare.{compare}
 use Rattle.layout.specs.Answer.{Answer, refusalOf, textOr}
 use Rattle.definition.specs.Answer.{verdictOf, answered, check}
 use Rattle.definition.specs.Chain.{Kinds, Names, Governed}
-use Rattle.definition.specs.Offers.{Offer, chain, lastOf, lastAccepted, Sound, All, NoneAccepted, Demand3}
+use Rattle.definition.specs.Offers.{Offer, chain, lastOf, lastAccepted, SchemaHas, All, NoneAccepted, Demand3}
 use Rattle.definition.proofs.Words.{word-large}
 use Rattle.definition.proofs.Chains.{step-of, Linked, Each, kept-all, still}
 
@@ -112,7 +112,7 @@ follow a (o ∷ os) s e = go (eqb (check (o .room) r a .number) 0) refl (λ t f.
         each-from f k u (List·Memᴰ·tail i) = let v = k u i in (v .0, List·Memᴰ·tail (v .1), v .2)
 
 -- a premise of the chain's records is one of their schemas
-each : (P : Schema → Type 0) {s : Schema} {rs : List Rec} {last : Rec} (f : Followed s rs last) → All (Sound P) rs → Each P (f .schemas)
+each : (P : Schema → Type 0) {s : Schema} {rs : List Rec} {last : Rec} (f : Followed s rs last) → All (SchemaHas P) rs → Each P (f .schemas)
 each P f gs u i = let v = f .from u i in gs (v .0) (v .1) u (v .2)
 
 -- demand 3 -----------------------------------------------------------------------------------------------------------------------------

@@ -10,7 +10,7 @@ use lib.Seq.{drop-cons}
 use Rattle.record.specs.Schema.{Schema}
 use Rattle.definition.specs.Verdicts.{Verdict, pass, stop}
 use Rattle.definition.specs.Pass.{_then_}
-use Rattle.definition.specs.Unreleased.{checkUnreleased}
+use Rattle.definition.specs.Unreleased.{checkNothingReleased}
 use Rattle.definition.specs.Compare.{passList, allPasses, passAt, passes, passCount, firstOf, compare}
 
 then-none : (a : Verdict) → (a then pass) ≡ a
@@ -41,7 +41,7 @@ module _ (cur rel : Schema) where
   no-passes k e h = let n : e - k ≡ 0 = omega arith in ap (λ (j : ℕ). firstOf (take j (drop k L))) n
 
   abbrev copy : Verdict
-  copy = checkUnreleased (rel .structs) (rel .constants) (rel .enums) (rel .bitfields) (rel .aliases) (rel .families)
+  copy = checkNothingReleased (rel .structs) (rel .constants) (rel .enums) (rel .bitfields) (rel .aliases) (rel .families)
 
   -- the comparison is the first violation among the passes that judge the pair
   pub compare-passes : compare cur rel ≡ passes 0 (passCount rel) cur rel

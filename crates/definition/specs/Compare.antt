@@ -9,7 +9,7 @@ use Rattle.record.specs.Owner.{typesIn}
 use Rattle.layout.specs.Layout.{types}
 use Rattle.definition.specs.Verdicts.{Verdict, pass}
 use Rattle.definition.specs.Pass.{_then_, required}
-use Rattle.definition.specs.Unreleased.{checkUnreleased}
+use Rattle.definition.specs.Unreleased.{checkNothingReleased}
 use Rattle.definition.specs.ReleaseOrder.{checkReleaseOrder}
 use Rattle.definition.specs.FirstReleases.{checkFirstReleases}
 use Rattle.definition.specs.Constants.{checkConstants}
@@ -39,7 +39,7 @@ passList cur rel =
 unfoldable pub allPasses : Schema → Schema → List Verdict
 allPasses cur rel =
     cond (rel .unreleased)
-    (checkUnreleased (rel .structs) (rel .constants) (rel .enums) (rel .bitfields) (rel .aliases) (rel .families))
+    (checkNothingReleased (rel .structs) (rel .constants) (rel .enums) (rel .bitfields) (rel .aliases) (rel .families))
     pass
     ∷ passList cur rel
 
@@ -64,5 +64,5 @@ passCount rel = cond (rel .unreleased) 1 10
 unfoldable pub compare : Schema → Schema → Verdict
 compare cur rel =
     cond (rel .unreleased)
-    (checkUnreleased (rel .structs) (rel .constants) (rel .enums) (rel .bitfields) (rel .aliases) (rel .families))
+    (checkNothingReleased (rel .structs) (rel .constants) (rel .enums) (rel .bitfields) (rel .aliases) (rel .families))
     (firstOf (passList cur rel))

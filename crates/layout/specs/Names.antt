@@ -16,8 +16,8 @@ use Rattle.layout.specs.Layout.{variantName}
 use Rattle.layout.specs.Handles.{nameAt, familyPart, placePart}
 use Rattle.layout.specs.declared.names.TypeName.{TypeName}
 
-unfoldable pub joined : Str → ℕ → Str → Str
-joined f k b = f ++ (take k (58 ∷ 58 ∷ []) ++ b)
+unfoldable pub composed : Str → ℕ → Str → Str
+composed f k b = f ++ (take k (58 ∷ 58 ∷ []) ++ b)
 
 -- the parts of a type's name: for a variant the family's name, both colons and its own; else the name and nothing
 unfoldable pub frontOf : Str → Str → ℕ → Str

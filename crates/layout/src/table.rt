@@ -21,7 +21,7 @@ ghost use Rattle.record.specs.Marks.{Clear};
 ghost use Rattle.layout.specs.Room.{Room};
 ghost use Rattle.layout.specs.Handles.{typeName};
 ghost use Rattle.layout.specs.Fronts.{Fronts};
-ghost use Rattle.layout.specs.Names.{joined, Parts, nameOf};
+ghost use Rattle.layout.specs.Names.{composed, Parts, nameOf};
 ghost use Rattle.layout.specs.Sort.{arranged, lasts};
 ghost use Rattle.layout.specs.Table.{TypesTable, FoundType};
 
@@ -175,7 +175,7 @@ fn find_parts(
     near: usize,
 ) -> TypeFound
     requires { ⌜ Parts (now f) k (now b) ⌝ }
-    ensures { λ r. ⌜ FoundType (now (stream .entry)) (now (pool .entry)) (now (types .entry)) (joined (now (f .entry)) k (now (b .entry))) r ⌝ }
+    ensures { λ r. ⌜ FoundType (now (stream .entry)) (now (pool .entry)) (now (types .entry)) (composed (now (f .entry)) k (now (b .entry))) r ⌝ }
 {
     let mut lo = 0;
     let mut hi = types.len();

@@ -74,8 +74,8 @@ unfoldable pub declaredPlaces : Str → List ℕ
 declaredPlaces s = onto (declaring s) (commandsAt s 0) []
 
 -- the number of the command at a place
-unfoldable pub keyAt : Str → Str → ℕ → ℕ
-keyAt s p at = hashOf (declaredName s p at)
+unfoldable pub hashAt : Str → Str → ℕ → ℕ
+hashAt s p at = hashOf (declaredName s p at)
 
 -- the first of these places that has a number, one more than it is; 0 where none has it
 unfoldable pub latest : (ℕ → ℕ) → ℕ → List ℕ → ℕ
@@ -89,7 +89,7 @@ Linked x key top (q ∷ l) = (q + 7 ≤ top) × (getD x (256 + q / 7) 0 ≡ late
 
 -- an index into which the command at a place was put, where it declares a name
 unfoldable pub putAt : Str → Str → List ℕ → ℕ → List ℕ
-putAt s p x at = cond (declaring s at) (set (set x (256 + at / 7) (getD x (keyAt s p at) 0)) (keyAt s p at) (at + 1)) x
+putAt s p x at = cond (declaring s at) (set (set x (256 + at / 7) (getD x (hashAt s p at) 0)) (hashAt s p at) (at + 1)) x
 
 -- how long an index has to be, by the length of the stream: a place for each number, and an entry for each seven bytes
 abbrev pub IndexRoom : Str → List ℕ → Type 0
@@ -102,7 +102,7 @@ pub record Chained (x : List ℕ) (key : ℕ → ℕ) (top : ℕ) (l : List ℕ)
 
 -- the index of a record
 pub record Indexed (s p : Str) (x : List ℕ) : Type 0 where
-  pub chained : Chained x (keyAt s p) (length s) (declaredPlaces s)
+  pub chained : Chained x (hashAt s p) (length s) (declaredPlaces s)
 
 -- the last of some places that passes a test, one more than it is, and otherwise what was known
 unfoldable pub hitIn : (ℕ → Bool) → List ℕ → ℕ → ℕ

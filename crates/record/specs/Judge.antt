@@ -122,14 +122,14 @@ parentAfter p b =
 
 -- the whole judgement -----------------------------------------------------------------------------------------------------
 
-abbrev pub moved : Cursor → ℕ → ℕ → Cursor
-moved c b w = record { at = c .at + w; last = b; parent = parentAfter (c .parent) b }
+abbrev pub advanced : Cursor → ℕ → ℕ → Cursor
+advanced c b w = record { at = c .at + w; last = b; parent = parentAfter (c .parent) b }
 
 -- a command without fault. 01: any byte after 0F is 3, at its own place
 unfoldable pub ready : Str → Cursor → ℕ → ℕ → Judged
 ready s c b w =
     cond (eqb b 15) (cond (eqb (c .at + w) (length s)) Done (Refused R.Misplaced (c .at + w)))
-    (Next (commandOf b (drop (c .at) s)) (moved c b w))
+    (Next (commandOf b (drop (c .at) s)) (advanced c b w))
 
 abbrev pub faulted : ℕ → Judged → Fault → Judged
 faulted at j Fine = j

@@ -39,9 +39,9 @@ unfoldable pub kindWords : List Str
 kindWords = map (λ (w : Word). w .spelt) words
 
 -- what the first entry that is spelt so means
-unfoldable pub meaning : List Word → Str → Kind
-meaning [] w = Other
-meaning (x ∷ xs) w = cond (eqs w (x .spelt)) (x .means) (meaning xs w)
+unfoldable pub kindAmong : List Word → Str → Kind
+kindAmong [] w = Other
+kindAmong (x ∷ xs) w = cond (eqs w (x .spelt)) (x .means) (kindAmong xs w)
 
 -- the entries of words of a length
 unfoldable pub ofLength : ℕ → List Word → List Word
@@ -50,7 +50,7 @@ ofLength n (x ∷ xs) = cond (eqb (length (x .spelt)) n) (x ∷ ofLength n xs) (
 
 -- 01: a kind is recognised by its whole word
 unfoldable pub kindOf : Str → Kind
-kindOf w = meaning words w
+kindOf w = kindAmong words w
 
 abbrev pub isPadding : Kind → Bool
 isPadding Scalar = false

@@ -152,11 +152,11 @@ ownerMeant p Nobody = none
 ownerMeant p (Owned t) = some (textOf p t)
 
 -- the answer: the owner's name is the definition's, and its stretch is that of the root's own command
-pub record Answered (s p n : Str) (r : Owner) : Type 0 where
+pub record IsOwner (s p n : Str) (r : Owner) : Type 0 where
   pub owner : ownerMeant p r ≡ ownerOf (typesAt s p) n
   pub stretch : r ≡ ownerAt s p n
 
 -- the same of a stream with no more bytes than there is room for; in a longer one nothing is owned
 pub record OwnerFound (room : ℕ) (s p n : Str) (r : Owner) : Type 0 where
-  pub within : length s ≤ room → Answered s p n r
+  pub within : length s ≤ room → IsOwner s p n r
   pub beyond : room < length s → r ≡ Nobody

@@ -14,7 +14,7 @@ use Rattle.record.specs.Schema.{Schema, Family}
 use Rattle.record.specs.Commands.{commandsAt, fieldAt}
 use Rattle.record.specs.Lists.{familyOf, numberOf}
 use Rattle.record.specs.Steps.{fieldsAt}
-use Rattle.record.specs.Shapes.{enumSize, sized, scalarSize, prefix}
+use Rattle.record.specs.Shapes.{enumSize, sized, scalarSize, famPrefix}
 use Rattle.record.specs.Reading.{Rec, Opened, opened, vast, schemaOf}
 use Rattle.record.specs.declared.command as D
 use Rattle.record.specs.declared.vast.TypeStep.{TypeStep}
@@ -29,7 +29,7 @@ openedFrom s p at = opened s p (commandsAt s at)
 abbrev pub openedOf : Str → Str → TypeStep → List Opened
 openedOf s p NoType = []
 openedOf s p (Plain at k) = record { place = at; fields = fieldsAt s p (k .at) } ∷ openedFrom s p (k .at)
-openedOf s p (Fronted at f k) = record { place = at; fields = prefix (familyOf p f [] []) ++ fieldsAt s p (k .at) } ∷ openedFrom s p (k .at)
+openedOf s p (Fronted at f k) = record { place = at; fields = famPrefix (familyOf p f [] []) ++ fieldsAt s p (k .at) } ∷ openedFrom s p (k .at)
 
 abbrev pub openedLeft : Str → TypeStep → ℕ
 openedLeft s NoType = 0

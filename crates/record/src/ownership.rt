@@ -25,7 +25,7 @@ ghost use Rattle.record.specs.Marks.{referenceAt, Clear};
 ghost use Rattle.record.specs.Leads.{LeadTable, LeadsTo};
 ghost use Rattle.record.specs.Versioned.{InSlots};
 ghost use Rattle.record.specs.declared.leads.Lead.the-variants.{AField};
-ghost use Rattle.record.specs.Ownership.{EightClear, MarkedName, Known, OwnerBy, Answered, OwnerFound};
+ghost use Rattle.record.specs.Ownership.{EightClear, MarkedName, Known, OwnerBy, IsOwner, OwnerFound};
 
 // The owner's name, as the stretch that the root's own command gives.
 pub enum Owner {
@@ -159,7 +159,7 @@ fn owner_by(
     lead: Lead,
     name: &[u8],
 ) -> Owner
-    ensures { λ r. ⌜ (Known (now (stream .entry)) (now (pool .entry)) (now (marks .entry)) (now (index .entry)) → InSlots (now (stream .entry)) (now (pool .entry)) roots → LeadsTo (now (stream .entry)) (now (pool .entry)) (now (marks .entry)) (now (name .entry)) lead → Answered (now (stream .entry)) (now (pool .entry)) (now (name .entry)) r) ⌝ }
+    ensures { λ r. ⌜ (Known (now (stream .entry)) (now (pool .entry)) (now (marks .entry)) (now (index .entry)) → InSlots (now (stream .entry)) (now (pool .entry)) roots → LeadsTo (now (stream .entry)) (now (pool .entry)) (now (marks .entry)) (now (name .entry)) lead → IsOwner (now (stream .entry)) (now (pool .entry)) (now (name .entry)) r) ⌝ }
 {
     let first = roots.metadata;
     if let Owner::Owned(t) = owner_in(stream, pool, marks, index, first, lead, name, 1) {
@@ -183,7 +183,7 @@ pub fn owner_among(
     leads: &[u16],
     name: &[u8],
 ) -> Owner
-    ensures { λ r. ⌜ (Known (now (stream .entry)) (now (pool .entry)) (now (marks .entry)) (now (index .entry)) → InSlots (now (stream .entry)) (now (pool .entry)) roots → LeadTable (now (stream .entry)) (now (pool .entry)) (now (marks .entry)) (now (leads .entry)) → Answered (now (stream .entry)) (now (pool .entry)) (now (name .entry)) r) ⌝ }
+    ensures { λ r. ⌜ (Known (now (stream .entry)) (now (pool .entry)) (now (marks .entry)) (now (index .entry)) → InSlots (now (stream .entry)) (now (pool .entry)) roots → LeadTable (now (stream .entry)) (now (pool .entry)) (now (marks .entry)) (now (leads .entry)) → IsOwner (now (stream .entry)) (now (pool .entry)) (now (name .entry)) r) ⌝ }
 {
     let lead = lead_to(stream, pool, index, leads, name);
     owner_by(stream, pool, roots, marks, index, lead, name)
@@ -193,7 +193,7 @@ pub fn owner_among(
 fn owner_lent(stream: &[u8], pool: &[u8], marks: &mut [u8], index: &mut [u16], name: &[u8]) -> Owner
     requires { ⌜ (length (now stream) ≤ 32768) × (length (now stream) ≤ length (now marks)) × Clear (now marks)
         × IndexRoom (now stream) (now index) ⌝ }
-    ensures { λ r. ⌜ Answered (now (stream .entry)) (now (pool .entry)) (now (name .entry)) r ⌝ }
+    ensures { λ r. ⌜ IsOwner (now (stream .entry)) (now (pool .entry)) (now (name .entry)) r ⌝ }
 {
     fill_index(stream, pool, index);
     let roots = versioned_structs(stream, pool);
@@ -204,7 +204,7 @@ fn owner_lent(stream: &[u8], pool: &[u8], marks: &mut [u8], index: &mut [u16], n
 // The same with tables for the longest stream.
 fn owner_long(stream: &[u8], pool: &[u8], name: &[u8]) -> Owner
     requires { ⌜ length (now stream) ≤ 32768 ⌝ }
-    ensures { λ r. ⌜ Answered (now (stream .entry)) (now (pool .entry)) (now (name .entry)) r ⌝ }
+    ensures { λ r. ⌜ IsOwner (now (stream .entry)) (now (pool .entry)) (now (name .entry)) r ⌝ }
 {
     let mut marks = [0u8; 32768];
     let mut index = [0u16; 4938];
@@ -214,7 +214,7 @@ fn owner_long(stream: &[u8], pool: &[u8], name: &[u8]) -> Owner
 // The same for a short stream, since clearing the tables for a long one takes longer than its answer.
 fn owner_short(stream: &[u8], pool: &[u8], name: &[u8]) -> Owner
     requires { ⌜ length (now stream) ≤ 2048 ⌝ }
-    ensures { λ r. ⌜ Answered (now (stream .entry)) (now (pool .entry)) (now (name .entry)) r ⌝ }
+    ensures { λ r. ⌜ IsOwner (now (stream .entry)) (now (pool .entry)) (now (name .entry)) r ⌝ }
 {
     let mut marks = [0u8; 2048];
     let mut index = [0u16; 549];

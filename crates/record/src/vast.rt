@@ -33,7 +33,7 @@ ghost use Rattle.record.specs.Schema.{Field};
 ghost use Rattle.record.specs.Commands.{widthOf, fieldAt};
 ghost use Rattle.record.specs.Lists.{familyOf};
 ghost use Rattle.record.specs.Steps.{fieldsAt};
-ghost use Rattle.record.specs.Shapes.{places, prefix, limit, capped};
+ghost use Rattle.record.specs.Shapes.{places, famPrefix, limit, capped};
 ghost use Rattle.record.specs.Reading.{Rec, rec, schemaOf, large};
 ghost use Rattle.record.specs.Vast.{OpenedFrom, frontEnd, firstVast, sumSizes, unitAt, numbersOf, extraAt, boundOf};
 
@@ -148,7 +148,7 @@ pub fn first_vast(rows: &[u8], stream: &[u8], pool: &[u8]) -> Vast
 fn family_ends_past(rows: &[u8], stream: &[u8], pool: &[u8], f: Family, from: Cursor) -> bool
     ensures { λ r.
         let cur : Rec = rec (now (stream .entry)) (now (pool .entry)) (scalarsOf (now (rows .entry))) in
-        let front : List Field = prefix (familyOf (cur .pool) f [] []) in
+        let front : List Field = famPrefix (familyOf (cur .pool) f [] []) in
         ⌜ r ≡ any large (places (schemaOf cur) 0 (front ++ fieldsAt (cur .stream) (cur .pool) (from .at))) ⌝ }
 {
     let start = front_end(rows, stream, pool, f);

@@ -13,7 +13,7 @@ use Rattle.record.specs.Describe.{describedAs}
 use Rattle.record.specs.Fill.{fronted}
 use Rattle.layout.specs.Names.{nameOf}
 use Rattle.definition.specs.Verdicts.{itemText, copyOf, standingOf, changeText}
-use Rattle.definition.specs.Constants.{valueText}
+use Rattle.definition.specs.Constants.{constantText}
 use Rattle.verdicts.specs.Arguments.{itemOf, valueMeant}
 use Rattle.verdicts.specs.declared.template.Arg.{Arg}
 use Rattle.verdicts.specs.declared.template.Arg.the-variants.{Nothing, Byte, Now, Was, Number, Signed, NowItem, WasCopy, NowValue, WasValue}
@@ -31,8 +31,8 @@ argOf new old (Number n) = decimal n
 argOf new old (Signed z) = signed z
 argOf new old (NowItem what) = itemText (itemOf new what)
 argOf new old (WasCopy release) = copyOf (optOf old release)
-argOf new old (NowValue value) = valueText (valueMeant new value)
-argOf new old (WasValue value) = valueText (valueMeant old value)
+argOf new old (NowValue value) = constantText (valueMeant new value)
+argOf new old (WasValue value) = constantText (valueMeant old value)
 argOf new old (NowType name) = nameOf new name
 argOf new old (WasType name) = nameOf old name
 argOf new old (NowShape d) = describedAs new d

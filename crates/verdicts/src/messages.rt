@@ -18,7 +18,7 @@ ghost use Rattle.record.specs.Stretch.{textOf};
 ghost use Rattle.record.specs.Lists.{optOf};
 ghost use Rattle.record.specs.Describe.{describedAs};
 ghost use Rattle.layout.specs.Names.{nameOf};
-ghost use Rattle.definition.specs.Constants.{valueText};
+ghost use Rattle.definition.specs.Constants.{constantText};
 ghost use Rattle.verdicts.specs.Arguments.{itemOf, valueMeant};
 ghost use Rattle.definition.specs.Verdicts as D;
 ghost use Rattle.definition.specs.Verdicts.{messageOf, described, nowUnreadable, beforeNaming, wasUnreadable, notLater, valueUndated, late, redated, backdated, constantGone, constantChanged, enumGone, renumbered, renamed, valueGone, bitFieldGone, memberRenamed, memberGone, bitMoved, widthChanged, bitsLate, bitsRedated, typeGone, fieldGone, moved, resized, redescribed, standingChanged, shippedFamilyChanged, uncovered, noConstant, noGeneration, unraised, unlisted, leapt, fell};
@@ -238,7 +238,7 @@ fn write_constant_changed(
     ensures { λ r.
         let pool : Str = now (pool .entry) in
         let old : Str = now (old .entry) in
-        let said : D.Verdict = constantChanged (textOf old name) (valueText (valueMeant old was)) (valueText (valueMeant pool is)) in
+        let said : D.Verdict = constantChanged (textOf old name) (constantText (valueMeant old was)) (constantText (valueMeant pool is)) in
         ⌜ Writes (now (out .entry)) (messageOf said) (now (out .exit)) r ⌝ }
 {
     write_three(

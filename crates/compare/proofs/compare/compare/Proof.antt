@@ -7,11 +7,11 @@ use Rattle.compare.proofs.compare.compare.Tie as tie
 head-unreleased-requires : tie.Need-head-unreleased-requires
 head-unreleased-requires c κs = search needs
 
-check-unreleased-requires : tie.Need-check-unreleased-requires
-check-unreleased-requires c κs = search needs
+check-nothing-released-requires : tie.Need-check-nothing-released-requires
+check-nothing-released-requires c κs = search needs
 
 returns : tie.Need-returns
-returns c = compared-unreleased (rec _ _ _) (rec _ _ _) _ (c .before .before .head-unreleased .ensures) _ _ (c .before .if1 .taken) (c .check-unreleased .ensures)
+returns c = compared-unreleased (rec _ _ _) (rec _ _ _) _ (c .before .before .head-unreleased .ensures) _ _ (c .before .if1 .taken) (c .check-nothing-released .ensures)
 
 head-release-requires : tie.Need-head-release-requires
 head-release-requires c κs = search needs
@@ -33,7 +33,7 @@ compare-spec =
     tie.close
     (tie.spec
     head-unreleased-requires
-    check-unreleased-requires
+    check-nothing-released-requires
     returns
     head-release-requires
     required-text-requires

@@ -1,7 +1,7 @@
 use Rattle.compare.proofs.UnreleasedLaws.{unreleased-laws}
 use borrow.Author.Needs.{needs}
-use Rattle.compare.proofs.unreleased.check_unreleased.Statement.{statement}
-use Rattle.compare.proofs.unreleased.check_unreleased.Tie as tie
+use Rattle.compare.proofs.unreleased.check_nothing_released.Statement.{statement}
+use Rattle.compare.proofs.unreleased.check_nothing_released.Tie as tie
 
 new-requires : tie.Need-new-requires
 new-requires c κs = search needs
@@ -81,8 +81,8 @@ enum-told-12 c = search needs
 returns-7 : tie.Need-returns-7
 returns-7 c = search unreleased-laws
 
-pub check-unreleased-spec : {M : Type 1} → statement M
-check-unreleased-spec =
+pub check-nothing-released-spec : {M : Type 1} → statement M
+check-nothing-released-spec =
     tie.close
     (tie.spec
     new-requires

@@ -1,7 +1,7 @@
 use Rattle.layout.proofs.NameLaws.{byte-laws}
 use borrow.Author.Needs.{needs}
-use Rattle.layout.proofs.names.joined_byte.Statement.{statement}
-use Rattle.layout.proofs.names.joined_byte.Tie as tie
+use Rattle.layout.proofs.names.composed_byte.Statement.{statement}
+use Rattle.layout.proofs.names.composed_byte.Tie as tie
 
 shared-slice-read-result : tie.Need-shared-slice-read-result
 shared-slice-read-result c = search needs
@@ -21,7 +21,7 @@ byte-at-requires c κs = search needs
 returns-3 : tie.Need-returns-3
 returns-3 c = search byte-laws
 
-pub joined-byte-spec : {M : Type 1} → statement M
-joined-byte-spec =
+pub composed-byte-spec : {M : Type 1} → statement M
+composed-byte-spec =
     tie.close
     (tie.spec shared-slice-read-result returns sub-j returns-2 byte-at-requires returns-3)
