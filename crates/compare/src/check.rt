@@ -56,8 +56,12 @@ pub fn check(
     if let Outcome::Refused(refusal, place) = read_record(Side::Current, &rows, stream, pool) {
         return refused(Side::Current, refusal, place);
     }
-    let released = read_record(Side::Released, &rows, old_stream, old_pool);
-    if let Outcome::Refused(refusal, place) = released {
+    if let Outcome::Refused(refusal, place) = read_record(
+        Side::Released,
+        &rows,
+        old_stream,
+        old_pool,
+    ) {
         return refused(Side::Released, refusal, place);
     }
     let verdict = compare(&rows, stream, pool, old_stream, old_pool);
