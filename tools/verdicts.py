@@ -113,8 +113,8 @@ KINDS = {
     'i64': Kind('ℕ', 'signed %s', 'u64', 'Arg::Signed(%s)', '%s'),
     'item/now': Kind('Item', 'itemText %s', 'Item', 'Arg::NowItem(%s)', '(itemOf {pool} %s)'),
     'copy/was': Kind('Option Str', 'copyOf %s', 'OptText', 'Arg::WasCopy(%s)', '(optOf {old} %s)'),
-    'value/now': Kind('Str', '%s', 'ConstantValue', 'Arg::NowValue(%s)', '(valueText (valueMeant {pool} %s))'),
-    'value/was': Kind('Str', '%s', 'ConstantValue', 'Arg::WasValue(%s)', '(valueText (valueMeant {old} %s))'),
+    'value/now': Kind('Str', '%s', 'ConstantValue', 'Arg::NowValue(%s)', '(constantText (valueMeant {pool} %s))'),
+    'value/was': Kind('Str', '%s', 'ConstantValue', 'Arg::WasValue(%s)', '(constantText (valueMeant {old} %s))'),
     'layout/now': Kind('Str', '%s', 'TypeName', 'Arg::NowType(%s)', '(nameOf {pool} %s)'),
     'layout/was': Kind('Str', '%s', 'TypeName', 'Arg::WasType(%s)', '(nameOf {old} %s)'),
     'described/now': Kind('Str', '%s', 'Description', 'Arg::NowShape(%s)', '(describedAs {pool} %s)'),
@@ -127,7 +127,7 @@ KINDS = {
 TYPES = {'Text': 'record::text', 'OptText': 'record::operands', 'Description': 'record::describe', 'TypeName': 'layout::names',
          'Item': 'crate::arguments', 'ConstantValue': 'crate::arguments'}
 MEANINGS = {'textOf': 'Rattle.record.specs.Stretch', 'optOf': 'Rattle.record.specs.Lists', 'describedAs': 'Rattle.record.specs.Describe',
-            'nameOf': 'Rattle.layout.specs.Names', 'valueText': 'Rattle.definition.specs.Constants',
+            'nameOf': 'Rattle.layout.specs.Names', 'constantText': 'Rattle.definition.specs.Constants',
             'itemOf': 'Rattle.verdicts.specs.Arguments', 'valueMeant': 'Rattle.verdicts.specs.Arguments'}
 
 

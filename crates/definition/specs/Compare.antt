@@ -32,7 +32,8 @@ passList cur rel =
     ∷ checkBitfieldReleases (required (cur .release)) (cur .bitfields) (rel .bitfields)
     ∷ checkFields (types cur) (types rel)
     ∷ checkStandalone (cur .families) (rel .families) (types cur) (types rel)
-    ∷ checkGenerations (required (cur .release)) (rel .release) (cur .versions) (typesIn cur) (cur .constants) (rel .constants) (changed (types cur) (types rel))
+    ∷ checkGenerations (required (cur .release)) (rel .release) (cur .versions) (typesIn cur) (cur .constants) (rel .constants)
+    (changed (types cur) (types rel))
     ∷ []
 
 -- 01's ten passes in their order: that on the unreleased copy finds nothing in a copy of a release

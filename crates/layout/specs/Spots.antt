@@ -109,6 +109,7 @@ pub record TypeSpots (s : Str) (h : ℕ) (c : SpotCursor) : Type 0 where
 -- the first field of a name from a cursor on is the first from another on, which is not further from the end
 pub record OthersPassed (s p : Str) (t : List ℕ) (n : Str) (c d : SpotCursor) : Type 0 where
   pub same : (w : List Scalar) → SoundCursor (rec s p w) t c
-      → find (λ (f : FieldLayout). eqs (f .name) n) (placesFrom (rec s p w) c) ≡ find (λ (f : FieldLayout). eqs (f .name) n) (placesFrom (rec s p w) d)
+      → find (λ (f : FieldLayout). eqs (f .name) n) (placesFrom (rec s p w) c)
+      ≡ find (λ (f : FieldLayout). eqs (f .name) n) (placesFrom (rec s p w) d)
   pub sound : (w : List Scalar) → SoundCursor (rec s p w) t c → SoundCursor (rec s p w) t d
   pub left : spotsLeft s d ≤ spotsLeft s c

@@ -1,4 +1,5 @@
--- The marks of a record's three roots, the code's way to Owner, and the owner that the calls answer as a stretch (01, What a check returns). Assumes nothing.
+-- The marks of a record's three roots, the code's way to Owner, and the owner that the calls answer as a stretch (01, What a
+-- check returns). Assumes nothing.
 use mathlib.Core.Path.{_≡_}
 use mathlib.Core.List.{List, [], _∷_}
 use mathlib.Core.Option.{Option, none, some}
@@ -120,7 +121,8 @@ pub record OwnerIn (s p : Str) (m : List ℕ) (n slot : Str) (mark : ℕ) (r : O
   pub owned : (t : Text) → r ≡ Owned t → Takes s p m n mark filled t
   pub nobody : r ≡ Nobody → (root : D.Struct.Struct) (after : Cursor) → filled ≡ AStruct root after → Claims s p m n mark root → ⊥
 
--- the same of what is taken for the root in a slot, where it is that root, the index is the record's, and what is said of the fields that refer to the name holds
+-- the answer of what is taken for the root in a slot, where it is that root, the index is the record's, and what is said of the
+-- fields that refer to the name holds
 pub record OwnerBy (s p : Str) (m x : List ℕ) (filled : StructStep) (lead : Lead) (n : Str) (mark : ℕ) (r : Owner) : Type 0 where
   pub by : (slot : Str) → InSlot s p slot filled → Indexed s p x → LeadsTo s p m n lead → OwnerIn s p m n slot mark r
 

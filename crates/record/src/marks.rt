@@ -15,6 +15,7 @@ use crate::text::bytes_of;
 use crate::versioned::Versioned;
 ghost use mathlib.Core.Path.{_≡_};
 ghost use Prim.Native.Nat.{_≤_, _<_};
+ghost use Rattle.record.specs.Base.{Str};
 ghost use lib.ListN.{length, getD};
 ghost use Rattle.record.specs.Lists.{optOf};
 ghost use Rattle.record.specs.Index.{Indexed, Declared};
@@ -33,7 +34,11 @@ struct Body {
 
 // The fields of the first family of a name that no structure has. A name that nobody declares has none: its place is where the stream ends.
 fn family_fields(stream: &[u8], pool: &[u8], index: &[u16], name: &[u8]) -> Body
-    ensures { λ r. ⌜ (Indexed (now (stream .entry)) (now (pool .entry)) (now (index .entry)) → Declared (now (stream .entry)) (now (pool .entry)) (now (index .entry)) 8 (now (name .entry)) Sought.Nowhere → IsBody (now (stream .entry)) (now (pool .entry)) (now (name .entry)) r) ⌝ }
+    ensures { λ r.
+        let s : Str = now (stream .entry) in
+        let p : Str = now (pool .entry) in
+        ⌜ (Indexed s p (now (index .entry)) → Declared s p (now (index .entry)) 8 (now (name .entry)) Sought.Nowhere
+        → IsBody s p (now (name .entry)) r) ⌝ }
 {
     if let Sought::At(place, after) = find_declared(stream, pool, index, 9, name) {
         return Body {
@@ -51,7 +56,10 @@ fn family_fields(stream: &[u8], pool: &[u8], index: &[u16], name: &[u8]) -> Body
 
 // The fields of the first structure of a name, else of the first family.
 fn type_fields(stream: &[u8], pool: &[u8], index: &[u16], name: &[u8]) -> Body
-    ensures { λ r. ⌜ (Indexed (now (stream .entry)) (now (pool .entry)) (now (index .entry)) → IsBody (now (stream .entry)) (now (pool .entry)) (now (name .entry)) r) ⌝ }
+    ensures { λ r.
+        let s : Str = now (stream .entry) in
+        let p : Str = now (pool .entry) in
+        ⌜ (Indexed s p (now (index .entry)) → IsBody s p (now (name .entry)) r) ⌝ }
 {
     let Sought::At(place, after) = find_declared(stream, pool, index, 8, name) else {
         return family_fields(stream, pool, index, name);
@@ -105,7 +113,10 @@ enum Target {
 
 // The fields of the type of a name, unless it is a structure with slot text: one look-up tells both.
 fn enter(stream: &[u8], pool: &[u8], index: &[u16], name: &[u8]) -> Target
-    ensures { λ r. ⌜ (Indexed (now (stream .entry)) (now (pool .entry)) (now (index .entry)) → entering (now (stream .entry)) (now (pool .entry)) (now (name .entry)) r) ⌝ }
+    ensures { λ r.
+        let s : Str = now (stream .entry) in
+        let p : Str = now (pool .entry) in
+        ⌜ (Indexed s p (now (index .entry)) → entering s p (now (name .entry)) r) ⌝ }
 {
     let Sought::At(place, after) = find_declared(stream, pool, index, 8, name) else {
         return Target::Fields(family_fields(stream, pool, index, name));
@@ -123,7 +134,10 @@ fn enter(stream: &[u8], pool: &[u8], index: &[u16], name: &[u8]) -> Target
 
 // What the field at a place leads to.
 fn target_at(stream: &[u8], pool: &[u8], index: &[u16], place: usize) -> Target
-    ensures { λ r. ⌜ (Indexed (now (stream .entry)) (now (pool .entry)) (now (index .entry)) → leadsTo (now (stream .entry)) (now (pool .entry)) place r) ⌝ }
+    ensures { λ r.
+        let s : Str = now (stream .entry) in
+        let p : Str = now (pool .entry) in
+        ⌜ (Indexed s p (now (index .entry)) → leadsTo s p place r) ⌝ }
 {
     let OptText::Given(name) = reference_at(stream, pool, place) else {
         return Target::Nothing;
@@ -144,7 +158,11 @@ fn is_visited(stream: &[u8], marks: &[u8], place: usize) -> bool
 // Visits a field that has no mark: marks it, and visits the type that it leads to.
 fn walk_field(stream: &[u8], pool: &[u8], index: &[u16], marks: &mut [u8], place: usize, mark: u8)
     requires { ⌜ Ready (now stream) (now marks) mark × (place < length (now stream)) × (getD (now stream) place 0 ≡ 11) ⌝ }
-    ensures { λ _. ⌜ Led (now (stream .entry)) (now (pool .entry)) (now (index .entry)) (now (marks .entry)) (now (marks .exit)) (FieldWalked (now (stream .entry)) (now (pool .entry)) mark place (now (marks .entry)) (now (marks .exit))) ⌝ }
+    ensures { λ _.
+        let s : Str = now (stream .entry) in
+        let p : Str = now (pool .entry) in
+        ⌜ Led s p (now (index .entry)) (now (marks .entry)) (now (marks .exit))
+        (FieldWalked s p mark place (now (marks .entry)) (now (marks .exit))) ⌝ }
 {
     if marks[place] != 0 {
         return;
@@ -159,7 +177,11 @@ fn walk_field(stream: &[u8], pool: &[u8], index: &[u16], marks: &mut [u8], place
 // Visits a type that was not visited: marks it, and visits its fields.
 fn walk_type(stream: &[u8], pool: &[u8], index: &[u16], marks: &mut [u8], body: Body, mark: u8)
     requires { ⌜ Ready (now stream) (now marks) mark ⌝ }
-    ensures { λ _. ⌜ Led (now (stream .entry)) (now (pool .entry)) (now (index .entry)) (now (marks .entry)) (now (marks .exit)) (BodyWalked (now (stream .entry)) (now (pool .entry)) mark body (now (marks .entry)) (now (marks .exit))) ⌝ }
+    ensures { λ _.
+        let s : Str = now (stream .entry) in
+        let p : Str = now (pool .entry) in
+        ⌜ Led s p (now (index .entry)) (now (marks .entry)) (now (marks .exit))
+        (BodyWalked s p mark body (now (marks .entry)) (now (marks .exit))) ⌝ }
 {
     let place = body.place;
     if is_visited(stream, marks, place) {

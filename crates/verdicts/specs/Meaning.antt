@@ -26,7 +26,8 @@ meaning pool old (Late what current names) = late (itemOf pool what) (textOf poo
 meaning pool old (Redated what was names) = redated (itemOf pool what) (textOf old was) (textOf pool names)
 meaning pool old (Backdated what copy current) = backdated (itemOf pool what) (optOf old copy) (textOf pool current)
 meaning pool old (ConstantGone name) = constantGone (textOf old name)
-meaning pool old (ConstantChanged name was is) = constantChanged (textOf old name) (constantText (valueMeant old was)) (constantText (valueMeant pool is))
+meaning pool old (ConstantChanged name was is) =
+    constantChanged (textOf old name) (constantText (valueMeant old was)) (constantText (valueMeant pool is))
 meaning pool old (EnumGone name) = enumGone (textOf old name)
 meaning pool old (Renumbered owner name was is) = renumbered (textOf old owner) (textOf old name) was is
 meaning pool old (Renamed owner name is) = renamed (textOf old owner) (textOf old name) (textOf pool is)
