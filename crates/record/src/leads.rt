@@ -10,6 +10,7 @@ use crate::operands::OptText;
 use crate::ownership::eight_clear;
 use crate::text::bytes_of;
 ghost use Prim.Native.Nat.{_<_};
+ghost use Rattle.record.specs.Base.{Str};
 ghost use Rattle.record.specs.Leads.{EntryNamed, IsLeast, PutLeast, PutLead, LeadsFilled, LeadGiven};
 
 // A place whose mark is no higher than that of any field with a mark that refers to a name, as far as it is known.
