@@ -1,8 +1,9 @@
 #!/usr/bin/env python3
 """dropped.py: drops the pass over bit-field releases from the definition in a copy of the repository, and sees that the prover notices in the code
-alone: the definition is proved still, since demand 3 does not speak of releases, and of compare's functions just `compare` and `check` are not
-proved. It is no must-fail edit, since those change one crate and look at that crate. Run from the repository's top, outside the gate; it takes
-as long as proving verdicts and compare (target/ is taken along, so that what lies below is not proved again)."""
+alone: the definition is proved still, since demand 3 does not speak of releases, and of compare's functions just those that run the passes by their
+numbers, and what calls them up to `check`, are not proved. It is no must-fail edit, since those change one crate and look at that crate. Run from
+the repository's top, outside the gate; it takes as long as proving verdicts and compare (target/ is taken along, so that what lies below is not
+proved again)."""
 import os
 import re
 import shutil
@@ -13,7 +14,9 @@ import tempfile
 PATH = 'crates/definition/specs/Compare.antt'
 OLD = '    ∷ checkBitfieldReleases (required (cur .release)) (cur .bitfields) (rel .bitfields)\n'
 NEW = '    ∷ pass\n'
-UNPROVED = ['compare::check::check', 'compare::compare::compare']
+RUNNERS = ['check_declared', 'check_laid', 'check_lent', 'check_long', 'check_passes', 'check_prepared', 'check_short', 'check_types', 'compare',
+           'run_declared', 'run_laid']
+UNPROVED = ['compare::check::check'] + ['compare::compare::' + name for name in RUNNERS]
 
 
 def said(work, *words):

@@ -61,6 +61,16 @@ fieldPlaced s at (AField e k) = FieldPlace s at e k
 '''
 
 
+def imports(path, names, end=''):
+    """Imports of one module, in lines of at most 150 characters."""
+    lines = [[]]
+    for name in names:
+        if len(path + '{%s}' % ', '.join(lines[-1] + [name]) + end) > 150:
+            lines.append([])
+        lines[-1].append(name)
+    return ''.join(path + '{%s}' % ', '.join(line) + end + '\n' for line in lines)
+
+
 def code():
     o = '''// The lists of a record, an element at a time: each function hands out the next element from a cursor on, with the cursor after it.
 // Written by tools/lists.py.
@@ -72,8 +82,10 @@ use crate::seek::seek;
 '''
     o += ''.join('use crate::command::%s;\n' % s for s in sorted({d['struct'] for d in LISTS} | {d['from'] for d in LISTS}))
     o += 'use crate::text::bytes_of;\nuse crate::text::same;\nghost use mathlib.Core.Path.{_≡_};\n'
-    o += 'ghost use Rattle.record.specs.Steps.{%s};\n' % ', '.join(
-        ', '.join([d['C'] + 'From'] + ([d['n'] + 'At', d['one'] + 'In', d['one'] + 'Found'] if d['named'] == 'walk' else [])) for d in LISTS)
+    o += 'ghost use Rattle.record.specs.Base.{Str};\n'
+    o += imports('ghost use Rattle.record.specs.Steps.', [d['C'] + 'From' for d in LISTS], ';')
+    o += imports('ghost use Rattle.record.specs.Steps.', [
+        name for d in LISTS if d['named'] == 'walk' for name in (d['n'] + 'At', d['one'] + 'In', d['one'] + 'Found')], ';')
     for d in LISTS:
         where = {'Anything': 'of the record from a cursor on', 'Nothing': 'of the list that goes on at a cursor',
                  'Keys': 'of the list that goes on at a cursor; plugin keys between the fields are passed over',
@@ -92,7 +104,10 @@ use crate::seek::seek;
             o += '''
 // The first %(words)s of that name from a cursor on.
 pub fn find_%(one)s(stream: &[u8], pool: &[u8], from: Cursor, name: &[u8]) -> %(step)s
-    ensures { λ r. ⌜ %(one)sIn (now (name .entry)) (%(n)sAt (now (stream .entry)) (now (pool .entry)) (from .at)) ≡ %(one)sFound (now (stream .entry)) (now (pool .entry)) r ⌝ }
+    ensures { λ r.
+        let s : Str = now (stream .entry) in
+        let p : Str = now (pool .entry) in
+        ⌜ %(one)sIn (now (name .entry)) (%(n)sAt s p (from .at)) ≡ %(one)sFound s p r ⌝ }
 {
     let mut cursor = from;
     loop {
@@ -116,20 +131,19 @@ use Rattle.record.specs.declared.lists.%(step)s.the-variants.{%(none)s, 
 
 
 def specs():
-    o = '''-- The lists of a record (01, Record commands) from a place on, the first of a name in each, and what a step along each answers. Written by tools/lists.py.
--- Assumes nothing.
+    o = '''-- The lists of a record (01, Record commands) from a place on, the first of a name in each, and what a step along each answers. Written by
+-- tools/lists.py. Assumes nothing.
 use mathlib.Core.Path.{_≡_}
 use mathlib.Core.List.{List, [], _∷_, List·Memᴰ}
 use mathlib.Core.Option.{Option, none, some}
 use Prim.Native.Nat.{ℕ, suc, _-_, _≤_}
 use lib.ListN.{length, getD, drop}
 use Rattle.record.specs.Base.{Str, eqs, find, first}
-use Rattle.record.specs.Schema.{%s}
-use Rattle.record.specs.Commands.{fieldAt, commandsAt}
-use Rattle.record.specs.Lists.{%s}
-use Rattle.record.specs.declared.command as D
+%(schema)suse Rattle.record.specs.Commands.{fieldAt, commandsAt}
+%(lists)suse Rattle.record.specs.declared.command as D
 use Rattle.record.specs.declared.command.Cursor.{Cursor}
-''' % (', '.join(sorted({d['model'] for d in LISTS})), ', '.join(sorted({d['of'] for d in LISTS} | {d['n'] for d in LISTS})))
+''' % dict(schema=imports('use Rattle.record.specs.Schema.', sorted({d['model'] for d in LISTS})),
+            lists=imports('use Rattle.record.specs.Lists.', sorted({d['of'] for d in LISTS} | {d['n'] for d in LISTS})))
     o += ''.join(declared(d) for d in LISTS)
     o += '\n-- the lists that begin at a place\n'
     for d in LISTS:

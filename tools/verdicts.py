@@ -113,8 +113,8 @@ KINDS = {
     'i64': Kind('ℕ', 'signed %s', 'u64', 'Arg::Signed(%s)', '%s'),
     'item/now': Kind('Item', 'itemText %s', 'Item', 'Arg::NowItem(%s)', '(itemOf {pool} %s)'),
     'copy/was': Kind('Option Str', 'copyOf %s', 'OptText', 'Arg::WasCopy(%s)', '(optOf {old} %s)'),
-    'value/now': Kind('Str', '%s', 'ConstantValue', 'Arg::NowValue(%s)', '(valueText (valueMeant {pool} %s))'),
-    'value/was': Kind('Str', '%s', 'ConstantValue', 'Arg::WasValue(%s)', '(valueText (valueMeant {old} %s))'),
+    'value/now': Kind('Str', '%s', 'ConstantValue', 'Arg::NowValue(%s)', '(constantText (valueMeant {pool} %s))'),
+    'value/was': Kind('Str', '%s', 'ConstantValue', 'Arg::WasValue(%s)', '(constantText (valueMeant {old} %s))'),
     'layout/now': Kind('Str', '%s', 'TypeName', 'Arg::NowType(%s)', '(nameOf {pool} %s)'),
     'layout/was': Kind('Str', '%s', 'TypeName', 'Arg::WasType(%s)', '(nameOf {old} %s)'),
     'described/now': Kind('Str', '%s', 'Description', 'Arg::NowShape(%s)', '(describedAs {pool} %s)'),
@@ -127,7 +127,7 @@ KINDS = {
 TYPES = {'Text': 'record::text', 'OptText': 'record::operands', 'Description': 'record::describe', 'TypeName': 'layout::names',
          'Item': 'crate::arguments', 'ConstantValue': 'crate::arguments'}
 MEANINGS = {'textOf': 'Rattle.record.specs.Stretch', 'optOf': 'Rattle.record.specs.Lists', 'describedAs': 'Rattle.record.specs.Describe',
-            'nameOf': 'Rattle.layout.specs.Names', 'valueText': 'Rattle.definition.specs.Constants',
+            'nameOf': 'Rattle.layout.specs.Names', 'constantText': 'Rattle.definition.specs.Constants',
             'itemOf': 'Rattle.verdicts.specs.Arguments', 'valueMeant': 'Rattle.verdicts.specs.Arguments'}
 
 
@@ -152,6 +152,25 @@ assert [r.number for r in TABLE] == list(range(11, 47))
 D = 'crates/definition/'
 C = 'crates/verdicts/'
 
+WIDTH = 150
+
+
+def wrapped(begin, pieces, between, end=''):
+    """The pieces, joined, in lines of at most WIDTH characters, each with the same beginning and end. A fixed text is not cut."""
+    lines = [begin + pieces[0]]
+    for piece in pieces[1:]:
+        if len(lines[-1] + between + piece + end) > WIDTH:
+            lines[-1] += end
+            lines.append(begin.replace(begin.lstrip(), '') + between.lstrip() + piece)
+        else:
+            lines[-1] += between + piece
+    return '\n'.join(lines) + end
+
+
+def indented(text, after):
+    """A text behind so many characters, on a line of its own where it is too wide."""
+    return (' ' if after + len(text) <= WIDTH else '\n    ') + text
+
 
 def definition():
     """specs/Verdicts.antt"""
@@ -166,7 +185,7 @@ use Rattle.record.specs.Fill.{joined}
 
 -- 01's word for each verdict
 pub data Word : Type 0 where
-  %s : Word
+%s
 
 -- and its number
 unfoldable pub wordNumber : Word → ℕ
@@ -209,14 +228,17 @@ standingOf false = bytes "not standalone"
 unfoldable pub changeText : Option Str → Str
 changeText none = bytes "changed"
 changeText (some f) = bytes "gained " ++ f
-''' % (' '.join(r.word for r in TABLE), ''.join('wordNumber %s = %d\n' % (r.word, r.number) for r in TABLE))
+''' % (wrapped('  ', [r.word for r in TABLE], ' ', ' : Word'), ''.join('wordNumber %s = %d\n' % (r.word, r.number) for r in TABLE))
     for r in TABLE:
         shown = [r.kinds[p[1:-1]].shown % p[1:-1] if p[0] == '{' else 'bytes "%s"' % p for p in r.pieces()]
+        named, stopped = ' '.join([r.name] + list(r.kinds)) + ' =', 'stop %s (joined (' % r.word
+        whole = '%s %s%s))' % (named, stopped, ' ∷ '.join(shown + ['[]']))
         o += '''
 -- %d
 unfoldable pub %s : %s
-%s = stop %s (joined (%s))
-''' % (r.number, r.name, ' → '.join([k.type for k in r.kinds.values()] + ['Verdict']), ' '.join([r.name] + list(r.kinds)), r.word, ' ∷ '.join(shown + ['[]']))
+%s
+''' % (r.number, r.name, ' → '.join([k.type for k in r.kinds.values()] + ['Verdict']),
+       whole if len(whole) <= WIDTH else named + '\n' + wrapped('    ' + stopped, shown + ['[]))'], ' ∷ '))
     open(D + 'specs/Verdicts.antt', 'w').write(o)
 
 
@@ -248,6 +270,12 @@ def constructor(r):
 def meant(r, pool, old):
     """The definition's verdict, over the two pools."""
     return ' '.join([r.name] + [k.meant.format(pool=pool, old=old) % n for n, k in r.kinds.items()])
+
+
+def pools(r):
+    """The lines of a contract that name the bytes of the pools that its message has texts of."""
+    words = re.findall(r'\w+', meant(r, 'pool', 'old'))
+    return ''.join('        let %s : Str = now (%s .entry) in\n' % (p, p) for p in ('pool', 'old') if p in words)
 
 
 def type_uses(more=()):
@@ -295,7 +323,9 @@ impl Verdict {
     open(C + 'src/verdict.rt', 'w').write(o + '        }\n    }\n}\n')
     o = '''// The messages of the verdicts, written from their templates: a byte below 32 is the number of an argument. Written by tools/verdicts.py.
 %s
+ghost use Rattle.record.specs.Base.{Str};
 %s
+ghost use Rattle.definition.specs.Verdicts as D;
 ghost use Rattle.definition.specs.Verdicts.{messageOf, %s};
 ghost use Rattle.verdicts.specs.Template.{Writes};
 ghost use Rattle.verdicts.specs.Meaning.{meaning};
@@ -305,16 +335,20 @@ ghost use Rattle.verdicts.specs.Meaning.{meaning};
         o += '''
 // %d
 fn %s(out: &mut [u8], %spool: &[u8], old: &[u8]) -> Written
-    ensures { λ r. ⌜ Writes (now (out .entry)) (messageOf (%s)) (now (out .exit)) r ⌝ }
+    ensures { λ r.
+%s        let said : D.Verdict = %s in
+        ⌜ Writes (now (out .entry)) (messageOf said) (now (out .exit)) r ⌝ }
 {
     %s(out, b"%s", %s, pool, old)
 }
-''' % (r.number, snake(r), ''.join('%s: %s, ' % (n, k.field) for n, k in r.kinds.items()), meant(r, '(now (pool .entry))', '(now (old .entry))'),
+''' % (r.number, snake(r), ''.join('%s: %s, ' % (n, k.field) for n, k in r.kinds.items()), pools(r), meant(r, 'pool', 'old'),
        writer(r), template(r), arguments(r))
     o += '''
 // Puts the message of a verdict at the front of out, if it fits.
 pub fn write_verdict(out: &mut [u8], v: Verdict, pool: &[u8], old: &[u8]) -> Written
-    ensures { λ r. ⌜ Writes (now (out .entry)) (messageOf (meaning (now (pool .entry)) (now (old .entry)) v)) (now (out .exit)) r ⌝ }
+    ensures { λ r.
+        let said : D.Verdict = meaning (now (pool .entry)) (now (old .entry)) v in
+        ⌜ Writes (now (out .entry)) (messageOf said) (now (out .exit)) r ⌝ }
 {
     match v {
         Verdict::Passed => Written::Whole(0),
@@ -357,7 +391,7 @@ meaning pool old Passed = D.pass
 abbrev pub numberFor : Verdict → ℕ
 numberFor Passed = 0
 %s''' % (meaning_uses(), ', '.join(r.name for r in TABLE), ', '.join(r.variant for r in TABLE),
-       ''.join('meaning pool old %s = %s\n' % (constructor(r), meant(r, 'pool', 'old')) for r in TABLE),
+       ''.join('meaning pool old %s =%s\n' % (constructor(r), indented(meant(r, 'pool', 'old'), len(constructor(r)) + 19)) for r in TABLE),
        ''.join('numberFor %s = %d\n' % (constructor(r), r.number) for r in TABLE))
     open(C + 'specs/Meaning.antt', 'w').write(o)
 

@@ -341,8 +341,8 @@ pub fn owned_fan(bytes: usize) -> Input {
     input
 }
 
-/// The deepest walk of ownership that a stream has room for: 992 fields, each but the first a reference of a new type to itself,
-/// so that all are under way at once. The root names no constant, for which there is no room, so the verdict is 41 after the walk.
+/// The deepest walk of ownership that a stream has room for, where types are not marked as visited: 992 fields, each but the first a reference of a
+/// new type to itself, so that all would be under way at once. The root names no constant, for which there is no room, so the verdict is 41 after the walk.
 pub fn deepest() -> Input {
     let scan = slotted("scan", "metadata");
     let mut deep = structure("t");

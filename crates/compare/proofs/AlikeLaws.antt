@@ -17,7 +17,7 @@ use Rattle.record.specs.Commands.{operands, wide, widths, widthWith, widthOf, p
 use Rattle.record.specs.Lists.{optOf, numberOf, fieldOf}
 use Rattle.record.specs.Seek.{SoughtFrom}
 use Rattle.record.specs.Kind.{kindOf, isPadding}
-use Rattle.record.specs.Shapes.{Place, shapeType, capped}
+use Rattle.record.specs.Shapes.{FieldLayout, shapeType, capped}
 use Rattle.record.specs.Reading.{rec}
 use Rattle.record.specs.declared.command as C
 use Rattle.record.specs.declared.command.Cursor.{Cursor}
@@ -30,7 +30,7 @@ use Rattle.record.proofs.Basics.{eqs-refl}
 use Rattle.record.proofs.CommandLaws.{text-same, number-same}
 use Rattle.record.proofs.SeekLaws.{sought-stands, sought-nearer}
 use Rattle.layout.specs.Handles.{nameAt}
-use Rattle.layout.specs.Spots.{placeAt, cursorAt, placesFrom, Sound}
+use Rattle.layout.specs.Spots.{placeAt, cursorAt, placesFrom, SoundCursor}
 use Rattle.layout.specs.declared.spots.Ahead.{Ahead}
 use Rattle.layout.specs.declared.spots.Ahead.the-variants.{Body}
 use Rattle.layout.specs.declared.spots.SpotCursor.{SpotCursor}
@@ -129,11 +129,11 @@ beq-self : (b : Bool) → Bool·beq b b ≡ true
 beq-self true = refl
 beq-self false = refl
 
-place-self : (x : Place) → eqPlace x x ≡ true
+place-self : (x : FieldLayout) → eqPlace x x ≡ true
 unfolding eqPlace
 place-self x = rw (eqs-refl (x .name), eq-eqb (x .offset) (x .offset) refl, eq-eqb (x .size) (x .size) refl, eqs-refl (x .described), beq-self (x .padding))
 
-heads-same : (x : Place) (l m : List Place) → eqPlaces (x ∷ l) (x ∷ m) ≡ eqPlaces l m
+heads-same : (x : FieldLayout) (l m : List FieldLayout) → eqPlaces (x ∷ l) (x ∷ m) ≡ eqPlaces l m
 unfolding eqPlaces
 heads-same x l m = ap (λ (t : Bool). t && eqPlaces l m) (place-self x)
 
@@ -153,7 +153,7 @@ module _ (s p : Str) (z : List ℕ) (at : ℕ) (b q : Str) (y : List ℕ) (to : 
         let g : isPadding (kindOf (textOf p (F .kind))) ≡ isPadding (kindOf (textOf q (G .kind))) = ap (λ (x : Field). isPadding (kindOf (x .kind))) e in
         λ x. record { name = n x; offset = offset; size = size; described = t x; padding = g x }
 
-    begins : (w : List Scalar) (offset end : ℕ) → end ≡ capped (offset + size) → Sound (rec s p w) z (cursorAt (Body (place at)) offset) → Sound (rec b q w) y (cursorAt (Body (place to)) offset)
+    begins : (w : List Scalar) (offset end : ℕ) → end ≡ capped (offset + size) → SoundCursor (rec s p w) z (cursorAt (Body (place at)) offset) → SoundCursor (rec b q w) y (cursorAt (Body (place to)) offset)
         → Begins (rec s p w) z (rec b q w) y (nameAt s p a) (cursorAt (Body (place at)) offset) (cursorAt (Body (place to)) offset) (cursorAt (Body (place k)) end) (cursorAt (Body (place k₀)) end)
     unfolding nameAt
     begins w offset end v d d₀ =
@@ -162,7 +162,7 @@ module _ (s p : Str) (z : List ℕ) (at : ℕ) (b q : Str) (y : List ℕ) (to : 
           named = refl;
           first = place-passed s p w z at offset r i a k m size end u v d;
           second = place-passed b q w y to offset r₀ i₀ a₀ k₀ m₀ size end u₀ v d₀
-              ∙ ap (λ (x : Place). x ∷ placesFrom (rec b q w) (cursorAt (Body (place k₀)) end)) (sym (one-place offset));
+              ∙ ap (λ (x : FieldLayout). x ∷ placesFrom (rec b q w) (cursorAt (Body (place k₀)) end)) (sym (one-place offset));
           sound = place-sound s p w z at offset r i a k m size end u v d;
           sound₀ = place-sound b q w y to offset r₀ i₀ a₀ k₀ m₀ size end u₀ v d₀;
         }
@@ -218,11 +218,11 @@ module _ (s p : Str) (z : List ℕ) (b q : Str) (y : List ℕ) (c c₀ : SpotCur
 pub alike-nearer : (s p : Str) (z : List ℕ) (at : ℕ) (b q : Str) (y : List ℕ) (to : ℕ) (t : AlikeStep) (a k l size : ℕ) → alikeFrom s p z at b q y to t → t ≡ Alike a k l size → length s - k < length s - at
 alike-nearer s p z at b q y to t a k l size f m = sought-nearer s Keys 11 at (At a k) (subst (λ (x : AlikeStep). alikeFrom s p z at b q y to x) m f .sought) a k refl
 
-module _ (s p : Str) (z : List ℕ) (b q : Str) (y : List ℕ) (c c₀ d d₀ : SpotCursor) (w : List Scalar) (f : Sound (rec s p w) z c) (f₀ : Sound (rec b q w) y c₀) (o : AlikePassed s p z b q y c c₀ d d₀) where
-  pub ahead-sound : Sound (rec s p w) z d
+module _ (s p : Str) (z : List ℕ) (b q : Str) (y : List ℕ) (c c₀ d d₀ : SpotCursor) (w : List Scalar) (f : SoundCursor (rec s p w) z c) (f₀ : SoundCursor (rec b q w) y c₀) (o : AlikePassed s p z b q y c c₀ d d₀) where
+  pub ahead-sound : SoundCursor (rec s p w) z d
   ahead-sound = o .sound w f f₀
 
-  pub ahead-sound₀ : Sound (rec b q w) y d₀
+  pub ahead-sound₀ : SoundCursor (rec b q w) y d₀
   ahead-sound₀ = o .sound₀ w f f₀
 
   pub ahead-same : (t : Bool) → t ≡ eqPlaces (placesFrom (rec s p w) d) (placesFrom (rec b q w) d₀) → t ≡ eqPlaces (placesFrom (rec s p w) c) (placesFrom (rec b q w) c₀)

@@ -24,7 +24,7 @@ use Rattle.record.proofs.ListLaws.{find-none, find-hit, find-miss}
 use Rattle.record.proofs.StepLaws.{members-over-now, members-now, bitfields-over-now, bitfields-now}
 use Rattle.definition.specs.Verdicts.{memberRenamed, memberGone, bitMoved}
 use Rattle.definition.specs.Pass.{_then_, ensure, onFound}
-use Rattle.definition.specs.Bitfields.{widthOf, spanIn, checkMember, checkMembers, checkBitfield, checkBitfields}
+use Rattle.definition.specs.Bitfields.{memberWidth, spanIn, checkMember, checkMembers, checkBitfield, checkBitfields}
 use Rattle.compare.specs.Sought.{spansOf, SpanFrom}
 use Rattle.verdicts.specs.Meaning.{meaning}
 use Rattle.verdicts.specs.declared.verdict.Verdict.{Verdict}
@@ -73,16 +73,16 @@ span-here bit wide s a = record { same = λ p. refl }
 module _ (bit wide : ℕ) (s : Str) (a at : ℕ) (r : MemberStep) (i : SpanOn bit wide s a at) (f : MembersFrom s at r) where
   pub span-none : r ≡ NoMember → SpanFrom bit wide s a NoMember
   unfolding spanIn
-  span-none m = record { this = λ p. i .same p ∙ find-none (λ (m : M.Member). eqb (m .bit) bit && eqb (widthOf m) wide) _ (members-over-now s at r f p m) }
+  span-none m = record { this = λ p. i .same p ∙ find-none (λ (m : M.Member). eqb (m .bit) bit && eqb (memberWidth m) wide) _ (members-over-now s at r f p m) }
 
   module _ (e : Member) (k : Cursor) (t : Bool) (m : r ≡ AMember e k) (h : t ≡ spansOf e bit wide) where
     pub span-hit : t ≡ true → SpanFrom bit wide s a (AMember e k)
-    unfolding spanIn spansOf widthOf
-    span-hit g = record { this = λ p. i .same p ∙ find-hit (λ (m : M.Member). eqb (m .bit) bit && eqb (widthOf m) wide) _ _ _ (members-now s at r f p e k m) (sym h ∙ g) }
+    unfolding spanIn spansOf memberWidth
+    span-hit g = record { this = λ p. i .same p ∙ find-hit (λ (m : M.Member). eqb (m .bit) bit && eqb (memberWidth m) wide) _ _ _ (members-now s at r f p e k m) (sym h ∙ g) }
 
     pub span-miss : t ≡ false → SpanOn bit wide s a (k .at)
-    unfolding spanIn spansOf widthOf
-    span-miss g = record { same = λ p. i .same p ∙ find-miss (λ (m : M.Member). eqb (m .bit) bit && eqb (widthOf m) wide) _ _ _ (members-now s at r f p e k m) (sym h ∙ g) }
+    unfolding spanIn spansOf memberWidth
+    span-miss g = record { same = λ p. i .same p ∙ find-miss (λ (m : M.Member). eqb (m .bit) bit && eqb (memberWidth m) wide) _ _ _ (members-now s at r f p e k m) (sym h ∙ g) }
 
 pub ruleset span-laws = (span-none, span-hit, span-miss)
 
@@ -112,17 +112,17 @@ module _ (s p q x : Str) (o : Text) (at d : ℕ) (w : Member) (r : MemberStep) (
 
     module _ (g : e .bit ≡ w .bit) (u : ℕ) (l : u ≡ orElse (numberOf (e .width)) 1) where
       pub member-wide : (u ≡ d → ⊥) → meaning p q (WidthChanged o (w .name) d u) ≡ checkMember (textOf q o) (membersAt s p at) (memberOf q w)
-      unfolding meaning checkMember onFound ensure _then_ widthOf
+      unfolding meaning checkMember onFound ensure _then_ memberWidth
       member-wide z = rw (named, m, eq-eqb (e .bit) (w .bit) g, ← c, ← l, ne-eqb u d z)
 
       pub member-same : u ≡ d → meaning p q Passed ≡ checkMember (textOf q o) (membersAt s p at) (memberOf q w)
-      unfolding meaning checkMember onFound ensure _then_ widthOf
+      unfolding meaning checkMember onFound ensure _then_ memberWidth
       member-same z = rw (named, m, eq-eqb (e .bit) (w .bit) g, ← c, ← l, eq-eqb u d z)
 
   pub member-unnamed : (v : Verdict) → r ≡ NoMember
       → ((x y : Str) → meaning x y v ≡ onFound (spanIn (w .bit) d (membersAt s x at)) (memberGone (textOf y o) (textOf y (w .name))) (λ (m : M.Member). memberRenamed (textOf y o) (textOf y (w .name)) (m .name)))
       → meaning p q v ≡ checkMember (textOf q o) (membersAt s p at) (memberOf q w)
-  unfolding checkMember onFound widthOf
+  unfolding checkMember onFound memberWidth
   member-unnamed v m z = rw (named, m, ← c) (z p q)
 
 pub ruleset member-laws = (member-moved, member-wide, member-same, member-unnamed)

@@ -18,6 +18,7 @@ use Rattle.layout.proofs.Readable.{reading-refused, reading-read, read-short}
 use Rattle.definition.specs.Answer.{verdictOf, answered, check}
 use Rattle.definition.specs.Compare.{compare}
 use Rattle.verdicts.specs.Meaning.{meaning}
+use Rattle.compare.specs.Passes.{Legible}
 use Rattle.verdicts.specs.declared.verdict.Verdict.{Verdict}
 
 module _ (s p b q rows : Str) (e : rows ≡ builtInRows) (o : Outcome) (h : Read Current (rec s p (scalarsOf rows)) o) where
@@ -39,8 +40,8 @@ module _ (s p b q rows : Str) (e : rows ≡ builtInRows) (o : Outcome) (h : Read
     check-released out x at r k a = rw (reading-read Current s p rows o e h m, reading-refused Released b q rows w e i x at k) (a out)
 
     module _ (n : w ≡ Readable) where
-      pub check-premise : (length s ≤ 32768) × Exact (rec s p (scalarsOf rows)) × (length b ≤ 32768) × Exact (rec b q (scalarsOf rows))
-      check-premise = (read-short Current s p rows o e h m, h .exact m, read-short Released b q rows w e i n, i .exact n)
+      pub check-premise : Legible (rec s p (scalarsOf rows)) × Legible (rec b q (scalarsOf rows))
+      check-premise = (record { short = read-short Current s p rows o e h m; exact = h .exact m }, record { short = read-short Released b q rows w e i n; exact = i .exact n })
 
       pub check-verdict : (out after : Str) (v : Verdict) (r : A.Answer) → meaning p q v ≡ compare (schemaOf (rec s p (scalarsOf rows))) (schemaOf (rec b q (scalarsOf rows)))
           → Answered out after (verdictOf (length out) (meaning p q v)) r → Answered out after (check (length out) cur rel) r

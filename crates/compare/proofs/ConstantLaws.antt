@@ -39,7 +39,7 @@ use Rattle.layout.specs.Room.{Room}
 use Rattle.layout.specs.Constants.{placedConstant, ConstantsTable}
 use Rattle.definition.specs.Verdicts as D
 use Rattle.definition.specs.Pass.{ensure, required, onFound}
-use Rattle.definition.specs.Constants.{valueText}
+use Rattle.definition.specs.Constants.{constantText}
 use Rattle.verdicts.specs.Arguments.{valueMeant}
 use Rattle.definition.specs.Constants.{lastConstant, holdsIn, heldByAny, isGeneration, checkConstant, checkConstantsIn, checkConstants}
 use Rattle.compare.specs.Required.{RequiredText}
@@ -84,29 +84,29 @@ turned a b = go (eqs a b) (eqs b a) refl refl
 module _ (p : Str) (v : ConstantValue) where
   -- the words of a constant
   module _ (o : OptText) (t : Text) (z : Str) (m : v ≡ Words o) (r : RequiredText o t) (y : z ≡ textOf p t) where
-    words-text : valueText (valueMeant p v) ≡ z
-    unfolding valueText required
+    words-text : constantText (valueMeant p v) ≡ z
+    unfolding constantText required
     words-text = rw m (sym (r .this p)) ∙ sym y
 
-    pub words-same : (x : Str) (b : Bool) → b ≡ eqs x z → b ≡ eqs x (valueText (valueMeant p v))
+    pub words-same : (x : Str) (b : Bool) → b ≡ eqs x z → b ≡ eqs x (constantText (valueMeant p v))
     words-same x b h = h ∙ ap (eqs x) (sym words-text)
 
-    pub words-with : (x : Str) (b : Bool) → b ≡ eqs z x → b ≡ eqs (valueText (valueMeant p v)) x
+    pub words-with : (x : Str) (b : Bool) → b ≡ eqs z x → b ≡ eqs (constantText (valueMeant p v)) x
     words-with x b h = h ∙ ap (λ (a : Str). eqs a x) (sym words-text)
 
   -- an integer of a constant
   module _ (n : ℕ) (m : v ≡ Integer n) where
-    integer-text : valueText (valueMeant p v) ≡ signed n
-    unfolding valueText
+    integer-text : constantText (valueMeant p v) ≡ signed n
+    unfolding constantText
     integer-text = rw m
 
-    pub integer-same : (x : Str) (b : Bool) → b ≡ eqs x (signed n) → b ≡ eqs x (valueText (valueMeant p v))
+    pub integer-same : (x : Str) (b : Bool) → b ≡ eqs x (signed n) → b ≡ eqs x (constantText (valueMeant p v))
     integer-same x b h = h ∙ ap (eqs x) (sym integer-text)
 
-    pub integer-turned : (x : Str) (b : Bool) → b ≡ eqs (signed n) x → b ≡ eqs x (valueText (valueMeant p v))
+    pub integer-turned : (x : Str) (b : Bool) → b ≡ eqs (signed n) x → b ≡ eqs x (constantText (valueMeant p v))
     integer-turned x b h = integer-same x b (h ∙ turned (signed n) x)
 
-    pub integer-with : (x : Str) (b : Bool) → b ≡ eqs (signed n) x → b ≡ eqs (valueText (valueMeant p v)) x
+    pub integer-with : (x : Str) (b : Bool) → b ≡ eqs (signed n) x → b ≡ eqs (constantText (valueMeant p v)) x
     integer-with x b h = h ∙ ap (λ (a : Str). eqs a x) (sym integer-text)
 
 pub ruleset other-value-laws = (words-same, integer-same, integer-turned)
@@ -188,9 +188,9 @@ module _ (s p q x : Str) (z : List ℕ) (w : C.Constant.Constant) (r : ConstantS
   constant-gone m = rw (found, m)
 
   module _ (c : C.Constant.Constant) (k : Cursor) (m : r ≡ AConstant c k) (u v : ConstantValue) (i : HoldsValue w u) (j : HoldsValue c v) (b : Bool)
-      (l : b ≡ eqs (valueText (valueMeant p v)) (valueText (valueMeant q u))) where
+      (l : b ≡ eqs (constantText (valueMeant p v)) (constantText (valueMeant q u))) where
     abbrev changed : D.Verdict
-    changed = D.constantChanged (textOf q (w .name)) (valueText (valueMeant q u)) (valueText (valueMeant p v))
+    changed = D.constantChanged (textOf q (w .name)) (constantText (valueMeant q u)) (constantText (valueMeant p v))
 
     in-parts : asked ≡ ensure (isGeneration (structsAt s p 0) (constantsAt s p 0) (textOf q (w .name)) || b) changed
     unfolding checkConstant onFound

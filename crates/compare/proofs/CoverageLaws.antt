@@ -18,7 +18,7 @@ use Rattle.record.specs.Owner.{ownerOf}
 use Rattle.record.specs.Leads.{LeadTable}
 use Rattle.record.specs.Versioned.{InSlots}
 use Rattle.record.specs.References.{typesAt}
-use Rattle.record.specs.Ownership.{Known, Answered, ownerMeant}
+use Rattle.record.specs.Ownership.{Known, IsOwner, ownerMeant}
 use Rattle.record.specs.declared.text.Text.{Text}
 use Rattle.record.specs.declared.versioned.Versioned.{Versioned}
 use Rattle.record.specs.declared.ownership.Owner.{Owner}
@@ -153,7 +153,7 @@ module _ (s p n : Str) (roots : Versioned) (marks index leads : List ℕ) (o : O
   unfolding coverMeant coverIn
   entry-alone t = rw (← e, t)
 
-  module _ (t : b ≡ false) (r : Owner) (a : Known s p marks index → InSlots s p roots → LeadTable s p marks leads → Answered s p n r) where
+  module _ (t : b ≡ false) (r : Owner) (a : Known s p marks index → InSlots s p roots → LeadTable s p marks leads → IsOwner s p n r) where
     owner-is : ownerMeant p r ≡ ownerOf (typesAt s p) n
     owner-is = a (o .known) (o .slots) (o .leads) .owner
 

@@ -12,7 +12,7 @@ use borrow.Author.Tests.{eq-eqb, ne-eqb, eqb-true, eqb-false}
 use Rattle.record.specs.Base.{Str, eqs}
 use Rattle.record.specs.Stretch.{textOf}
 use Rattle.record.specs.Scalars.{Scalar}
-use Rattle.record.specs.Shapes.{Place}
+use Rattle.record.specs.Shapes.{FieldLayout}
 use Rattle.record.specs.Describe.{describedAs}
 use Rattle.record.specs.Reading.{Rec, rec}
 use Rattle.record.specs.Read.{Exact}
@@ -21,7 +21,7 @@ use Rattle.layout.specs.Handles.{typeName, layoutOf}
 use Rattle.layout.specs.Names.{nameOf, stretchesOf}
 use Rattle.layout.specs.Table.{Typed, TypesTable, foundEnd, FoundType}
 use Rattle.layout.specs.FieldSizes.{SizesTable}
-use Rattle.layout.specs.Spots.{spotOf, placesFrom, Sound, SpotsFrom, TypeSpots}
+use Rattle.layout.specs.Spots.{spotOf, placesFrom, SoundCursor, SpotsFrom, TypeSpots}
 use Rattle.layout.specs.Tables.{Tables}
 use Rattle.layout.specs.declared.names.TypeName.{TypeName}
 use Rattle.layout.specs.declared.spots.Spot.{Spot}
@@ -41,7 +41,7 @@ use Rattle.definition.proofs.Same.{eqPlaces→eq}
 use Rattle.compare.proofs.LayoutLaws.{fields-same}
 use Rattle.compare.specs.Layouts.{typesOf, spotFound}
 use Rattle.compare.specs.Alike.{AlikePassed}
-use Rattle.compare.specs.Kept.{Kept}
+use Rattle.compare.specs.Kept.{PlacesKept}
 use Rattle.compare.specs.Fields.{entryOf, Ones, TypeNoted}
 use Rattle.compare.specs.CoverTable.{Changes}
 use Rattle.verdicts.specs.Meaning.{meaning}
@@ -72,7 +72,7 @@ module _ (p q : Str) (o : TypeName) (a x : Spot) where
 
 -- one field
 module _ (s p q : Str) (w : List Scalar) (c : SpotCursor) (o : TypeName) (a : Spot) where
-  abbrev is : List Place
+  abbrev is : List FieldLayout
   is = placesFrom (rec s p w) c
 
   pub place-padding : a .padding ≡ true → meaning p q Passed ≡ checkPlace (nameOf q o) is (spotOf q a)
@@ -93,14 +93,14 @@ module _ (s p q : Str) (w : List Scalar) (c : SpotCursor) (o : TypeName) (a : Sp
     place-there y k v m e = rw (n, named, m) e
 
 -- the fields of a type: those so far stand as they were
-pub record PlacesOn (r : Rec) (z : List ℕ) (n : Str) (is : List Place) (a c : SpotCursor) : Type 0 where
-  pub sound : Sound r z c
+pub record PlacesOn (r : Rec) (z : List ℕ) (n : Str) (is : List FieldLayout) (a c : SpotCursor) : Type 0 where
+  pub sound : SoundCursor r z c
   pub same : checkPlaces n is (placesFrom r a) ≡ checkPlaces n is (placesFrom r c)
 
-pub places-here : (r : Rec) (z : List ℕ) (n : Str) (is : List Place) (c : SpotCursor) → Sound r z c → PlacesOn r z n is c c
+pub places-here : (r : Rec) (z : List ℕ) (n : Str) (is : List FieldLayout) (c : SpotCursor) → SoundCursor r z c → PlacesOn r z n is c c
 places-here r z n is c d = record { sound = d; same = refl }
 
-module _ (p b q : Str) (w : List Scalar) (z : List ℕ) (n : Str) (is : List Place) (a c : SpotCursor) (i : PlacesOn (rec b q w) z n is a c) (r : SpotStep) (f : SpotsFrom (rec b q w) z c r) where
+module _ (p b q : Str) (w : List Scalar) (z : List ℕ) (n : Str) (is : List FieldLayout) (a c : SpotCursor) (i : PlacesOn (rec b q w) z n is a c) (r : SpotStep) (f : SpotsFrom (rec b q w) z c r) where
   pub places-end : r ≡ NoSpot → meaning p q Passed ≡ checkPlaces n is (placesFrom (rec b q w) a)
   unfolding checkPlaces
   places-end m = sym (i .same ∙ each-end _ _ p q (spots-over-now b q w z c r f (i .sound) m))
@@ -119,7 +119,7 @@ module _ (p b q : Str) (w : List Scalar) (z : List ℕ) (n : Str) (is : List Pla
     places-stop g = sym (i .same ∙ each-stop _ _ p q _ _ v (spots-now b q w z c r f x k m (i .sound)) h g)
 
 -- the cursor at the fields of a type is sound
-pub cursor-sound : (s p : Str) (w : List Scalar) (z : List ℕ) (h : ℕ) (c : SpotCursor) → Typed s h → SizesTable (rec s p w) z → Exact (rec s p w) → TypeSpots s h c → Sound (rec s p w) z c
+pub cursor-sound : (s p : Str) (w : List Scalar) (z : List ℕ) (h : ℕ) (c : SpotCursor) → Typed s h → SizesTable (rec s p w) z → Exact (rec s p w) → TypeSpots s h c → SoundCursor (rec s p w) z c
 cursor-sound s p w z h c y x e k = k .sound y p w z x e
 
 -- entries of a table that are put
@@ -154,8 +154,8 @@ pub ruleset note-laws = (noted-bare, noted-same, noted-other)
 
 -- fields that are passed over
 
-module _ (s p b q : Str) (w : List Scalar) (z y : List ℕ) (c c₀ d d₀ : SpotCursor) (f : Sound (rec s p w) z c) (f₀ : Sound (rec b q w) y c₀) where
-  pub rest-bare : (n : Str) (t : Bool) → Kept s p z c b q y c₀ d₀ → (t ≡ true → (q₀ : Str) (w₀ : List Scalar) → placesFrom (rec b q₀ w₀) d₀ ≡ []) → t ≡ true
+module _ (s p b q : Str) (w : List Scalar) (z y : List ℕ) (c c₀ d d₀ : SpotCursor) (f : SoundCursor (rec s p w) z c) (f₀ : SoundCursor (rec b q w) y c₀) where
+  pub rest-bare : (n : Str) (t : Bool) → PlacesKept s p z c b q y c₀ d₀ → (t ≡ true → (q₀ : Str) (w₀ : List Scalar) → placesFrom (rec b q₀ w₀) d₀ ≡ []) → t ≡ true
       → meaning p q Passed ≡ checkPlaces n (placesFrom (rec s p w) c) (placesFrom (rec b q w) c₀)
   unfolding checkPlaces
   rest-bare n t k g e = sym (k .same w f f₀ n ∙ each-end _ _ p q (g e q w))
@@ -239,13 +239,13 @@ pub record Visited (r r₀ : Rec) (t t₀ m : List ℕ) (k : ℕ) : Type 0 where
   state : (j : ℕ) → j < length t → (eqb (getD m j 0) 0 ≡ sameOf r r₀ t j)
       ⊎ ((getD m j 0 ≡ 1) × ((i : ℕ) → i < k → typeName (r₀ .stream) (r₀ .pool) (getD t₀ i 0) ≡ typeName (r .stream) (r .pool) (getD t j 0) → ⊥))
 
-same-either : (a b : List Place) → eqPlaces a b ≡ eqPlaces b a
+pub same-either : (a b : List FieldLayout) → eqPlaces a b ≡ eqPlaces b a
 same-either a b = go (eqPlaces a b) (eqPlaces b a) refl refl
   where
-    turned : (x y : List Place) → eqPlaces x y ≡ true → eqPlaces y x ≡ true
+    turned : (x y : List FieldLayout) → eqPlaces x y ≡ true → eqPlaces y x ≡ true
     turned x y h =
         let e : x ≡ y = eqPlaces→eq x y h in
-        subst (λ (v : List Place). eqPlaces v x ≡ true) e (subst (λ (v : List Place). eqPlaces x v ≡ true) (sym e) h)
+        subst (λ (v : List FieldLayout). eqPlaces v x ≡ true) e (subst (λ (v : List FieldLayout). eqPlaces x v ≡ true) (sym e) h)
 
     go : (u v : Bool) → eqPlaces a b ≡ u → eqPlaces b a ≡ v → u ≡ v
     go true true e f = refl
@@ -253,7 +253,7 @@ same-either a b = go (eqPlaces a b) (eqPlaces b a) refl refl
     go false true e f = sym e ∙ turned b a f
     go false false e f = refl
 
-entry-zero : (v : Bool) → eqb (entryOf v) 0 ≡ v
+pub entry-zero : (v : Bool) → eqb (entryOf v) 0 ≡ v
 entry-zero true = refl
 entry-zero false = refl
 

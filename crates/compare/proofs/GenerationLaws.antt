@@ -184,18 +184,16 @@ module _ (s p q now : Str) (copy : Option Str) (vs : List M.Version) (cs₀ : Li
   gives : generationOf (structsAt s p 0) (constantsAt s p 0) (textOf p root) ≡ heldAs p g
   gives = ap (generationOf (structsAt s p 0) (constantsAt s p 0)) (sym e) ∙ sym (h .this d)
 
-  pub generation-none : g ≡ G.NoGeneration
+  generation-none : g ≡ G.NoGeneration
       → meaning p q (NoConstant root) ≡ checkGeneration now copy vs (structsAt s p 0) (constantsAt s p 0) cs₀ (touchedBy s p t m) (textOf p root)
   unfolding meaning checkGeneration onFound
   generation-none i = rw (gives, i)
 
-  pub generation-held : (k : Text) (is : ℕ) (v : Verdict) → g ≡ G.Held k is
+  generation-held : (k : Text) (is : ℕ) (v : Verdict) → g ≡ G.Held k is
       → meaning p q v ≡ checkAgainst now copy vs (touchedBy s p t m (textOf p root)) (textOf p root) (textOf p k) is (constantIn (textOf p k) cs₀)
       → meaning p q v ≡ checkGeneration now copy vs (structsAt s p 0) (constantsAt s p 0) cs₀ (touchedBy s p t m) (textOf p root)
   unfolding checkGeneration onFound
   generation-held k is v i a = rw (gives, i) a
-
-pub ruleset generation-laws = (generation-none, generation-held)
 
 -- the roots ---------------------------------------------------------------------------------------------------------------
 
@@ -213,7 +211,7 @@ module _ (s p q now : Str) (copy : Option Str) (vs : List M.Version) (ss : List 
     unfolding meaning checkRoots withName each
     slot-none e = rw e
 
-    pub slot-root : (e : C.Struct.Struct) (k : Cursor) (v : Verdict) → r ≡ AStruct e k → meaning p q v ≡ checkGeneration now copy vs ss cs cs₀ touched (textOf p (e .name))
+    slot-root : (e : C.Struct.Struct) (k : Cursor) (v : Verdict) → r ≡ AStruct e k → meaning p q v ≡ checkGeneration now copy vs ss cs cs₀ touched (textOf p (e .name))
         → meaning p q v ≡ checkRoots now copy vs ss cs cs₀ touched (withName (structFound s p r) [])
     unfolding checkRoots withName each
     slot-root e k v f g = rw f (g ∙ sym (then-pass (checkGeneration now copy vs ss cs cs₀ touched (textOf p (e .name)))))
@@ -223,7 +221,23 @@ module _ (s p q now : Str) (copy : Option Str) (vs : List M.Version) (ss : List 
   slot-then none l = refl
   slot-then (some x) l = ap (λ (v : D.Verdict). v then all l) (sym (then-pass (checkGeneration now copy vs ss cs cs₀ touched (x .name))))
 
-pub ruleset slot-laws = (slot-none, slot-root)
+-- the root in a slot
+module _ (s p q now : Str) (copy : Option Str) (vs : List M.Version) (cs₀ : List Const) (t m : List ℕ) (r : StructStep) (e : C.Struct.Struct) (k : Cursor) (f : r ≡ AStruct e k)
+    (x : Str) (y : List ℕ) (g : Generation) (i : x ≡ textOf p (e .name)) (d : Indexed s p y) (h : HoldsGeneration s p y x g) where
+  pub slot-unheld : g ≡ G.NoGeneration
+      → meaning p q (NoConstant (e .name)) ≡ checkRoots now copy vs (structsAt s p 0) (constantsAt s p 0) cs₀ (touchedBy s p t m) (withName (structFound s p r) [])
+  slot-unheld j =
+      slot-root s p q now copy vs (structsAt s p 0) (constantsAt s p 0) cs₀ (touchedBy s p t m) r e k (NoConstant (e .name)) f
+      (generation-none s p q now copy vs cs₀ t m (e .name) x y g i d h j)
+
+  pub slot-held : (l : Text) (is : ℕ) (v : Verdict) → g ≡ G.Held l is
+      → meaning p q v ≡ checkAgainst now copy vs (touchedBy s p t m (textOf p (e .name))) (textOf p (e .name)) (textOf p l) is (constantIn (textOf p l) cs₀)
+      → meaning p q v ≡ checkRoots now copy vs (structsAt s p 0) (constantsAt s p 0) cs₀ (touchedBy s p t m) (withName (structFound s p r) [])
+  slot-held l is v j a =
+      slot-root s p q now copy vs (structsAt s p 0) (constantsAt s p 0) cs₀ (touchedBy s p t m) r e k v f
+      (generation-held s p q now copy vs cs₀ t m (e .name) x y g i d h l is v j a)
+
+pub ruleset slot-laws = (slot-none, slot-unheld, slot-held)
 
 module _ (s p q now : Str) (copy : Option Str) (vs : List M.Version) (cs cs₀ : List Const) (touched : Str → Option Str) (r : Versioned) (i : InSlots s p r) (a : Verdict) where
   abbrev among : List Str → D.Verdict

@@ -12,14 +12,14 @@ use lib.Seq.{getD-set-same, getD-set-other}
 use Rattle.record.specs.Base.{Str, eqs}
 use Rattle.record.specs.Scalars.{Scalar}
 use Rattle.record.specs.Commands.{place}
-use Rattle.record.specs.Shapes.{Place, capped}
+use Rattle.record.specs.Shapes.{FieldLayout, capped}
 use Rattle.record.specs.Reading.{rec}
 use Rattle.record.specs.declared.command.Cursor.{Cursor}
 use Rattle.record.specs.declared.seek.Sought.the-variants.{At}
 use Rattle.record.proofs.Basics.{eqs-refl, eqs→eq}
 use Rattle.record.proofs.ListLaws.{find-hit}
 use Rattle.layout.specs.Handles.{nameAt}
-use Rattle.layout.specs.Spots.{cursorAt, placesFrom, Sound, OthersPassed}
+use Rattle.layout.specs.Spots.{cursorAt, placesFrom, SoundCursor, OthersPassed}
 use Rattle.layout.specs.declared.spots.Ahead.{Ahead}
 use Rattle.layout.specs.declared.spots.Ahead.the-variants.{Body}
 use Rattle.layout.specs.declared.spots.SpotCursor.{SpotCursor}
@@ -30,14 +30,14 @@ use Rattle.definition.specs.Fields.{placeIn, checkKept, checkPlace, checkPlaces
 use Rattle.compare.proofs.AlikeLaws.{alike-here, alike-so-far, alike-on, alike-nearer}
 use Rattle.compare.specs.Near.{keyOf}
 use Rattle.compare.specs.Alike.{AlikePassed, AlikeNext, alikeFrom}
-use Rattle.compare.specs.Kept.{Kept, Noted, Noting, KeptNext, keptFrom}
+use Rattle.compare.specs.Kept.{PlacesKept, Noted, Noting, KeptNext, keptFrom}
 use Rattle.compare.specs.declared.alike.AlikeStep.{AlikeStep}
 use Rattle.compare.specs.declared.alike.AlikeStep.the-variants.{Alike}
 
 -- one field --------------------------------------------------------------------------------------------------------------------
 
 -- a field against itself
-kept-self : (n : Str) (x : Place) → checkKept n x x ≡ pass
+kept-self : (n : Str) (x : FieldLayout) → checkKept n x x ≡ pass
 unfolding checkKept ensure _then_
 kept-self n x = rw (eq-eqb (x .offset) (x .offset) refl, eq-eqb (x .size) (x .size) refl, eqs-refl (x .described))
 
@@ -47,11 +47,11 @@ ensure-passed true v e = refl
 ensure-passed false v e = e
 
 -- a field that is the first of its name
-first-kept : (n : Str) (is : List Place) (x : Place) → placeIn (x .name) is ≡ some x → checkPlace n is x ≡ pass
+first-kept : (n : Str) (is : List FieldLayout) (x : FieldLayout) → placeIn (x .name) is ≡ some x → checkPlace n is x ≡ pass
 unfolding checkPlace onFound
 first-kept n is x e = ensure-passed (x .padding) _ (rw e (kept-self n x))
 
-field-kept : (n : Str) (is l m : List Place) (x : Place) → l ≡ x ∷ m → placeIn (x .name) is ≡ some x → checkPlaces n is l ≡ checkPlaces n is m
+field-kept : (n : Str) (is l m : List FieldLayout) (x : FieldLayout) → l ≡ x ∷ m → placeIn (x .name) is ≡ some x → checkPlaces n is l ≡ checkPlaces n is m
 unfolding checkPlaces each _then_
 field-kept n is l m x e f = ap (each (checkPlace n is)) e ∙ ap (λ (v : Verdict). v then each (checkPlace n is) m) (first-kept n is x f)
 
@@ -105,7 +105,7 @@ module _ (s p : Str) (z : List ℕ) (c : SpotCursor) (t : List ℕ) (at : ℕ) (
       differ m d true x = absurd (d (ap keyOf (sym (eqs→eq n m x))))
 
   module _ (o : OthersPassed s p z n c (cursorAt (Body (place at)) offset)) where
-    kept-on : (e : ℕ) → e ≡ capped (offset + size) → Kept s p z c b q y (cursorAt (Body (place to)) offset) (cursorAt (Body (place l)) e)
+    kept-on : (e : ℕ) → e ≡ capped (offset + size) → PlacesKept s p z c b q y (cursorAt (Body (place to)) offset) (cursorAt (Body (place l)) e)
     unfolding placeIn
     kept-on e v =
         record {
@@ -114,7 +114,7 @@ module _ (s p : Str) (z : List ℕ) (c : SpotCursor) (t : List ℕ) (at : ℕ) (
               let x : h .field .name ≡ n = h .named ∙ sym g in
               field-kept m _ _ _ (h .field) (h .second)
               (ap (λ (k0 : Str). placeIn k0 (placesFrom (rec s p w) c)) x ∙ o .same w d
-              ∙ find-hit (λ (r : Place). eqs (r .name) n) _ (h .field) _ (h .first) (ap (λ (k0 : Str). eqs k0 n) x ∙ eqs-refl n));
+              ∙ find-hit (λ (r : FieldLayout). eqs (r .name) n) _ (h .field) _ (h .first) (ap (λ (k0 : Str). eqs k0 n) x ∙ eqs-refl n));
           sound = λ w d d₀. f .passed w offset e v (o .sound w d) d₀ .sound₀;
         }
 
@@ -134,10 +134,10 @@ pub record Keeping (s p : Str) (z : List ℕ) (c : SpotCursor) (o t : List ℕ) 
   pub noted : Noted s p z c t at offset
   pub room : 1024 ≤ length t
   pub long : length t ≡ length o
-  pub kept : Kept s p z c b q y d (cursorAt (Body (place to)) offset)
+  pub kept : PlacesKept s p z c b q y d (cursorAt (Body (place to)) offset)
   pub alike : AlikePassed s p z b q y f d (cursorAt (Body (place at)) offset) (cursorAt (Body (place to)) offset)
 
-pub kept-here : (s p : Str) (z : List ℕ) (c : SpotCursor) (b q : Str) (y : List ℕ) (d : SpotCursor) → Kept s p z c b q y d d
+pub kept-here : (s p : Str) (z : List ℕ) (c : SpotCursor) (b q : Str) (y : List ℕ) (d : SpotCursor) → PlacesKept s p z c b q y d d
 kept-here s p z c b q y d = record { same = λ w f g n. refl; sound = λ w f g. g }
 
 pub keeping-start : (s p : Str) (z : List ℕ) (c : SpotCursor) (t : List ℕ) (at : ℕ) (b q : Str) (y : List ℕ) (to offset : ℕ) → Noted s p z c t at offset → 1024 ≤ length t
@@ -151,7 +151,7 @@ module _ (s p : Str) (z : List ℕ) (c : SpotCursor) (o t : List ℕ) (v : SpotC
   pub keeping-room : 1024 ≤ length t
   keeping-room = i .room
 
-  pub keeping-end : (e : SpotCursor) → e ≡ cursorAt (Body (place to)) offset → Kept s p z c b q y d e
+  pub keeping-end : (e : SpotCursor) → e ≡ cursorAt (Body (place to)) offset → PlacesKept s p z c b q y d e
   keeping-end e m = rw m (i .kept)
 
   pub keeping-alike : (g e : SpotCursor) → g ≡ cursorAt (Body (place at)) offset → e ≡ cursorAt (Body (place to)) offset → AlikePassed s p z b q y v d g e
@@ -180,18 +180,18 @@ module _ (s p : Str) (z : List ℕ) (c : SpotCursor) (o t : List ℕ) (v : SpotC
 
 -- of a cursor at the record's fields only the place counts
 pub kept-body : (s p : Str) (z : List ℕ) (c : SpotCursor) (b q : Str) (y : List ℕ) (d e : SpotCursor) (l : Cursor) → d .ahead ≡ Body l → c .offset ≡ d .offset
-    → Kept s p z c b q y (cursorAt (Body (place (l .at))) (c .offset)) e → Kept s p z c b q y d e
+    → PlacesKept s p z c b q y (cursorAt (Body (place (l .at))) (c .offset)) e → PlacesKept s p z c b q y d e
 unfolding placesFrom
 kept-body s p z c b q y d e l m n o =
-    subst (λ (h : Ahead). Kept s p z c b q y (cursorAt h (d .offset)) e) (sym m)
-    (subst (λ (x : ℕ). Kept s p z c b q y (cursorAt (Body l) x) e) n
+    subst (λ (h : Ahead). PlacesKept s p z c b q y (cursorAt h (d .offset)) e) (sym m)
+    (subst (λ (x : ℕ). PlacesKept s p z c b q y (cursorAt (Body l) x) e) n
     (record {
       same = λ w f g. o .same w f (record { sizes = g .sizes; ends = g .ends });
       sound = λ w f g. o .sound w f (record { sizes = g .sizes; ends = g .ends });
     }))
 
-module _ (s p : Str) (z : List ℕ) (c : SpotCursor) (b q : Str) (y : List ℕ) (d e : SpotCursor) (w : List Scalar) (f : Sound (rec s p w) z c) (g : Sound (rec b q w) y d) (o : Kept s p z c b q y d e) where
-  pub kept-sound : Sound (rec b q w) y e
+module _ (s p : Str) (z : List ℕ) (c : SpotCursor) (b q : Str) (y : List ℕ) (d e : SpotCursor) (w : List Scalar) (f : SoundCursor (rec s p w) z c) (g : SoundCursor (rec b q w) y d) (o : PlacesKept s p z c b q y d e) where
+  pub kept-sound : SoundCursor (rec b q w) y e
   kept-sound = o .sound w f g
 
   pub kept-same : (n : Str) (v : Verdict) → v ≡ checkPlaces n (placesFrom (rec s p w) c) (placesFrom (rec b q w) e) → v ≡ checkPlaces n (placesFrom (rec s p w) c) (placesFrom (rec b q w) d)

@@ -11,7 +11,7 @@ use lib.Seq.{take-at}
 use Rattle.record.specs.Base.{Str, bytes, eqs, orElse, decimal}
 use Rattle.record.specs.Stretch.{textOf}
 use Rattle.record.specs.Scalars.{Scalar}
-use Rattle.record.specs.Shapes.{Place, places}
+use Rattle.record.specs.Shapes.{FieldLayout, places}
 use Rattle.record.specs.Seek.{SoughtFrom}
 use Rattle.record.specs.Fill.{fronted}
 use Rattle.record.specs.Write.{largest, Puts}
@@ -34,7 +34,7 @@ use Rattle.record.proofs.StepLaws.{fields-none, fields-over-now}
 use Rattle.record.proofs.WriterLaws.{puts-exact, puts-front}
 use Rattle.layout.specs.Handles.{layoutOf}
 use Rattle.layout.specs.Table.{Typed}
-use Rattle.layout.specs.Spots.{spotOf, fieldsAhead, placesFrom, spotsLeft, Sound, stepLeft, SpotsFrom, TypeSpots, OthersPassed}
+use Rattle.layout.specs.Spots.{spotOf, fieldsAhead, placesFrom, spotsLeft, SoundCursor, stepLeft, SpotsFrom, TypeSpots, OthersPassed}
 use Rattle.layout.specs.declared.spots.Spot.{Spot}
 use Rattle.layout.specs.declared.spots.Ahead.{Ahead}
 use Rattle.layout.specs.declared.spots.Ahead.the-variants.{Body}
@@ -101,20 +101,20 @@ not-true true h = absurd (h refl)
 not-true false h = refl
 
 module _ (p q : Str) (x y : Spot) where
-  abbrev is : Place
+  abbrev is : FieldLayout
   is = spotOf p x
 
-  abbrev was : Place
+  abbrev was : FieldLayout
   was = spotOf q y
 
   other : (is ≡ was → ⊥) → false ≡ eqPlace is was
   other h = not-true (eqPlace is was) (λ e. h (eqPlace→eq is was e))
 
   pub spot-moved : (x .offset ≡ y .offset → ⊥) → false ≡ eqPlace is was
-  spot-moved h = other (λ e. h (ap (λ (a : Place). a .offset) e))
+  spot-moved h = other (λ e. h (ap (λ (a : FieldLayout). a .offset) e))
 
   pub spot-resized : (x .size ≡ y .size → ⊥) → false ≡ eqPlace is was
-  spot-resized h = other (λ e. h (ap (λ (a : Place). a .size) e))
+  spot-resized h = other (λ e. h (ap (λ (a : FieldLayout). a .size) e))
 
   pub spot-repadded : not (Bool·beq (x .padding) (y .padding)) ≡ true → false ≡ eqPlace is was
   unfolding eqPlace
@@ -122,7 +122,7 @@ module _ (p q : Str) (x y : Spot) where
 
   module _ (u v : Str) (b : Bool) (f : u ≡ textOf p (x .name)) (g : v ≡ textOf q (y .name)) (h : b ≡ eqs u v) where
     pub spot-renamed : b ≡ false → false ≡ eqPlace is was
-    spot-renamed e = other (λ (i : is ≡ was). false≢true (sym e ∙ h ∙ ap (eqs u) (g ∙ sym (ap (λ (a : Place). a .name) i) ∙ sym f) ∙ eqs-refl u))
+    spot-renamed e = other (λ (i : is ≡ was). false≢true (sym e ∙ h ∙ ap (eqs u) (g ∙ sym (ap (λ (a : FieldLayout). a .name) i) ∙ sym f) ∙ eqs-refl u))
 
     pub spot-same : (t : Bool) → b ≡ true → x .offset ≡ y .offset → x .size ≡ y .size → not (Bool·beq (x .padding) (y .padding)) ≡ false
         → t ≡ eqs (describedAs p (x .described)) (describedAs q (y .described)) → t ≡ eqPlace is was
@@ -134,11 +134,11 @@ module _ (p q : Str) (x y : Spot) where
 
 -- the fields from two cursors on agree so far: they are the same where those still ahead are
 pub record Agreed (r r₀ : Rec) (z z₀ : List ℕ) (v v₀ c c₀ : SpotCursor) : Type 0 where
-  pub sound : Sound r z c
-  pub sound₀ : Sound r₀ z₀ c₀
+  pub sound : SoundCursor r z c
+  pub sound₀ : SoundCursor r₀ z₀ c₀
   pub same : eqPlaces (placesFrom r v) (placesFrom r₀ v₀) ≡ eqPlaces (placesFrom r c) (placesFrom r₀ c₀)
 
-pub agreed-start : (r r₀ : Rec) (z z₀ : List ℕ) (c c₀ : SpotCursor) → Sound r z c → Sound r₀ z₀ c₀ → Agreed r r₀ z z₀ c c₀ c c₀
+pub agreed-start : (r r₀ : Rec) (z z₀ : List ℕ) (c c₀ : SpotCursor) → SoundCursor r z c → SoundCursor r₀ z₀ c₀ → Agreed r r₀ z z₀ c c₀ c c₀
 agreed-start r r₀ z z₀ c c₀ d d₀ = record { sound = d; sound₀ = d₀; same = refl }
 
 module _ (s p b q : Str) (w : List Scalar) (z z₀ : List ℕ) (v v₀ c c₀ : SpotCursor) where
@@ -210,10 +210,10 @@ bare-same s p b q w h h₀ c c₀ t y y₀ k k₀ f e = fields-same s p b q w h 
 
 -- none of that name so far: the first is the first of those still ahead
 pub record PlaceOn (r : Rec) (z : List ℕ) (n : Str) (a c : SpotCursor) : Type 0 where
-  pub sound : Sound r z c
+  pub sound : SoundCursor r z c
   pub same : placeIn n (placesFrom r a) ≡ placeIn n (placesFrom r c)
 
-pub place-here : (r : Rec) (z : List ℕ) (n : Str) (c : SpotCursor) → Sound r z c → PlaceOn r z n c c
+pub place-here : (r : Rec) (z : List ℕ) (n : Str) (c : SpotCursor) → SoundCursor r z c → PlaceOn r z n c c
 place-here r z n c d = record { sound = d; same = refl }
 
 module _ (s p : Str) (w : List Scalar) (z : List ℕ) (n : Str) (a l c : SpotCursor) (j : PlaceOn (rec s p w) z n a l) (v : OthersPassed s p z n l c) (o : SpotStep) (f : SpotsFrom (rec s p w) z c o) where
@@ -226,17 +226,17 @@ module _ (s p : Str) (w : List Scalar) (z : List ℕ) (n : Str) (a l c : SpotCur
 
   pub place-none : o ≡ NoSpot → placeIn n (placesFrom (rec s p w) a) ≡ spotFound p NoSpot
   unfolding placeIn
-  place-none m = i .same ∙ find-none (λ (g : Place). eqs (g .name) n) _ (spots-over-now s p w z c o f (i .sound) m)
+  place-none m = i .same ∙ find-none (λ (g : FieldLayout). eqs (g .name) n) _ (spots-over-now s p w z c o f (i .sound) m)
 
   module _ (x : Spot) (k : SpotCursor) (m : o ≡ ASpot x k) (u : Str) (b : Bool) (g : u ≡ textOf p (x .name)) (h : b ≡ eqs u n) where
     pub place-hit : b ≡ true → placeIn n (placesFrom (rec s p w) a) ≡ spotFound p (ASpot x k)
     unfolding placeIn
-    place-hit e = i .same ∙ find-hit (λ (g : Place). eqs (g .name) n) _ _ _ (spots-now s p w z c o f x k m (i .sound)) (ap (λ (y : Str). eqs y n) (sym g) ∙ sym h ∙ e)
+    place-hit e = i .same ∙ find-hit (λ (g : FieldLayout). eqs (g .name) n) _ _ _ (spots-now s p w z c o f x k m (i .sound)) (ap (λ (y : Str). eqs y n) (sym g) ∙ sym h ∙ e)
 
     pub place-miss : b ≡ false → PlaceOn (rec s p w) z n a k
     unfolding placeIn
     place-miss e =
         record {
           sound = spots-sound s p w z c o f x k m (i .sound);
-          same = i .same ∙ find-miss (λ (g : Place). eqs (g .name) n) _ _ _ (spots-now s p w z c o f x k m (i .sound)) (ap (λ (y : Str). eqs y n) (sym g) ∙ sym h ∙ e);
+          same = i .same ∙ find-miss (λ (g : FieldLayout). eqs (g .name) n) _ _ _ (spots-now s p w z c o f x k m (i .sound)) (ap (λ (y : Str). eqs y n) (sym g) ∙ sym h ∙ e);
         }

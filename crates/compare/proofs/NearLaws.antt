@@ -21,7 +21,7 @@ use Rattle.record.specs.declared.seek.Sought.{Sought}
 use Rattle.record.specs.declared.seek.Sought.the-variants.{At}
 use Rattle.record.proofs.Basics.{eqs→eq}
 use Rattle.layout.specs.Handles.{nameAt}
-use Rattle.layout.specs.Spots.{cursorAt, placesFrom, Sound, OthersPassed}
+use Rattle.layout.specs.Spots.{cursorAt, placesFrom, SoundCursor, OthersPassed}
 use Rattle.layout.specs.declared.spots.Ahead.the-variants.{Body}
 use Rattle.layout.specs.declared.spots.SpotCursor.{SpotCursor}
 use Rattle.layout.specs.declared.spots.SpotStep.{SpotStep}
@@ -146,8 +146,8 @@ module _ (t : List ℕ) (c : SpotCursor) (n : Str) (k e : ℕ) (y : k ≡ keyOf 
             rw (j, i, q) (f .right n (λ m. h (q ∙ m)));
       }
 
-module _ (s p : Str) (w : List Scalar) (z : List ℕ) (c : SpotCursor) (t : List ℕ) (n : Str) (d : SpotCursor) (f : Sound (rec s p w) z c) (g : Near s p z c t) (h : NearSpot t c n d) where
-  pub near-sound : Sound (rec s p w) z d
+module _ (s p : Str) (w : List Scalar) (z : List ℕ) (c : SpotCursor) (t : List ℕ) (n : Str) (d : SpotCursor) (f : SoundCursor (rec s p w) z c) (g : Near s p z c t) (h : NearSpot t c n d) where
+  pub near-sound : SoundCursor (rec s p w) z d
   near-sound = h .passed s p z g .sound w f
 
   pub near-found : (r : SpotStep) → placeIn n (placesFrom (rec s p w) d) ≡ spotFound p r → placeIn n (placesFrom (rec s p w) c) ≡ spotFound p r

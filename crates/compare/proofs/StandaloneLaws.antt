@@ -8,7 +8,7 @@ use Rattle.record.specs.Base.{Str, isSome, mapOption}
 use Rattle.record.specs.Stretch.{textOf}
 use Rattle.record.specs.Scalars.{Scalar}
 use Rattle.record.specs.Schema as M
-use Rattle.record.specs.Shapes.{Place}
+use Rattle.record.specs.Shapes.{FieldLayout}
 use Rattle.record.specs.Commands.{start}
 use Rattle.record.specs.Lists.{optOf, familyOf}
 use Rattle.record.specs.Steps.{fieldsAt, variantsAt, familiesAt, VariantsFrom, FamiliesFrom, familyIn, familyFound}
@@ -31,7 +31,7 @@ use Rattle.layout.specs.Handles.{layoutOf}
 use Rattle.layout.specs.Names.{nameOf}
 use Rattle.layout.specs.Table.{Typed, TypesTable, FoundType}
 use Rattle.layout.specs.FieldSizes.{SizesTable}
-use Rattle.layout.specs.Spots.{placesFrom, Sound, SpotsFrom, TypeSpots}
+use Rattle.layout.specs.Spots.{placesFrom, SoundCursor, SpotsFrom, TypeSpots}
 use Rattle.layout.specs.declared.names.TypeName.{TypeName}
 use Rattle.layout.specs.declared.spots.Spot.{Spot}
 use Rattle.layout.specs.declared.spots.SpotCursor.{SpotCursor}
@@ -56,20 +56,20 @@ use Rattle.verdicts.proofs.Each.{each-end, each-on, each-stop}
 use Rattle.compare.proofs.FieldLaws.{found-typed}
 
 -- the field gained: all so far are known
-pub record GainedOn (r : Rec) (z : List ℕ) (was : List Place) (a c : SpotCursor) : Type 0 where
-  pub sound : Sound r z c
+pub record GainedOn (r : Rec) (z : List ℕ) (was : List FieldLayout) (a c : SpotCursor) : Type 0 where
+  pub sound : SoundCursor r z c
   pub same : gained (placesFrom r a) was ≡ gained (placesFrom r c) was
 
-pub gained-here : (r : Rec) (z : List ℕ) (was : List Place) (c : SpotCursor) → Sound r z c → GainedOn r z was c c
+pub gained-here : (r : Rec) (z : List ℕ) (was : List FieldLayout) (c : SpotCursor) → SoundCursor r z c → GainedOn r z was c c
 gained-here r z was c d = record { sound = d; same = refl }
 
-module _ (s p q : Str) (w : List Scalar) (z : List ℕ) (was : List Place) (a c : SpotCursor) (i : GainedOn (rec s p w) z was a c) (o : SpotStep) (f : SpotsFrom (rec s p w) z c o) where
-  abbrev new : Place → Bool
+module _ (s p q : Str) (w : List Scalar) (z : List ℕ) (was : List FieldLayout) (a c : SpotCursor) (i : GainedOn (rec s p w) z was a c) (o : SpotStep) (f : SpotsFrom (rec s p w) z c o) where
+  abbrev new : FieldLayout → Bool
   new x = not (isSome (placeIn (x .name) was))
 
   pub gained-none : o ≡ NoSpot → optOf p Absent ≡ gained (placesFrom (rec s p w) a) was
   unfolding gained mapOption
-  gained-none m = sym (i .same ∙ ap (mapOption (λ (x : Place). x .name)) (find-none new _ (spots-over-now s p w z c o f (i .sound) m)))
+  gained-none m = sym (i .same ∙ ap (mapOption (λ (x : FieldLayout). x .name)) (find-none new _ (spots-over-now s p w z c o f (i .sound) m)))
 
   module _ (x : Spot) (k : SpotCursor) (m : o ≡ ASpot x k) (u : Str) (g : u ≡ textOf p (x .name)) (r : SpotStep) (h : placeIn u was ≡ spotFound q r) where
     sought : placeIn (textOf p (x .name)) was ≡ spotFound q r
@@ -79,7 +79,7 @@ module _ (s p q : Str) (w : List Scalar) (z : List ℕ) (was : List Place) (a c 
     unfolding gained mapOption isSome
     gained-new e =
         sym (i .same
-        ∙ ap (mapOption (λ (y : Place). y .name)) (find-hit new _ _ _ (spots-now s p w z c o f x k m (i .sound)) (ap (λ y. not (isSome y)) (sought ∙ ap (spotFound q) e))))
+        ∙ ap (mapOption (λ (y : FieldLayout). y .name)) (find-hit new _ _ _ (spots-now s p w z c o f x k m (i .sound)) (ap (λ y. not (isSome y)) (sought ∙ ap (spotFound q) e))))
 
     pub gained-on : (y : Spot) (l : SpotCursor) → r ≡ ASpot y l → GainedOn (rec s p w) z was a k
     unfolding gained isSome
@@ -88,7 +88,7 @@ module _ (s p q : Str) (w : List Scalar) (z : List ℕ) (was : List Place) (a c 
           sound = spots-sound s p w z c o f x k m (i .sound);
           same =
               i .same
-              ∙ ap (mapOption (λ (y : Place). y .name)) (find-miss new _ _ _ (spots-now s p w z c o f x k m (i .sound)) (ap (λ y. not (isSome y)) (sought ∙ ap (spotFound q) e)));
+              ∙ ap (mapOption (λ (y : FieldLayout). y .name)) (find-miss new _ _ _ (spots-now s p w z c o f x k m (i .sound)) (ap (λ y. not (isSome y)) (sought ∙ ap (spotFound q) e)));
         }
 
 -- a layout in both records
@@ -142,10 +142,10 @@ module _ (s p b q : Str) (w : List Scalar) (n : TypeName) (r : Pair) where
 
   -- its cursors are sound
   module _ (h h₀ : ℕ) (m : r ≡ Both h h₀) (y : pairTyped s b r) (z : List ℕ) (c : SpotCursor) where
-    pub pair-sound : SizesTable R z → Exact R → TypeSpots s h c → Sound R z c
+    pub pair-sound : SizesTable R z → Exact R → TypeSpots s h c → SoundCursor R z c
     pair-sound x e k = k .sound (pair-now s b r h h₀ m y) p w z x e
 
-    pub pair-sound-then : SizesTable R₀ z → Exact R₀ → TypeSpots b h₀ c → Sound R₀ z c
+    pub pair-sound-then : SizesTable R₀ z → Exact R₀ → TypeSpots b h₀ c → SoundCursor R₀ z c
     pair-sound-then x e k = k .sound (pair-then s b r h h₀ m y) q w z x e
 
 -- what the pair says is what the name does

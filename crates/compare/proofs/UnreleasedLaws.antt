@@ -21,7 +21,7 @@ use Rattle.record.specs.declared.lists.FamilyStep.{FamilyStep}
 use Rattle.record.specs.declared.lists.FamilyStep.the-variants.{NoFamily, AFamily}
 use Rattle.record.proofs.StepLaws.{constants-now, constants-over-now, aliases-now, aliases-over-now, enums-now, enums-over-now, bitfields-now, bitfields-over-now, structs-now, structs-over-now, families-now, families-over-now}
 use Rattle.definition.specs.Pass.{ensure, empty}
-use Rattle.definition.specs.Unreleased.{checkUnreleased}
+use Rattle.definition.specs.Unreleased.{checkNothingReleased}
 use Rattle.compare.specs.Sought.{UnreleasedFrom}
 use Rattle.verdicts.specs.Meaning.{meaning}
 use Rattle.verdicts.specs.declared.verdict.Verdict.the-variants.{Passed, Described}
@@ -32,7 +32,7 @@ module _ (s : Str) (z : Cursor) (y : z ≡ start) where
 
   module _ (a : StructStep) (af : StructsFrom s (z .at) a) where
     pub struct-there : (e : D.Struct.Struct) (k : Cursor) → a ≡ AStruct e k → UnreleasedFrom s Described
-    unfolding meaning checkUnreleased ensure empty
+    unfolding meaning checkNothingReleased ensure empty
     struct-there e k m = record { this = λ p q. rw (whole structsAt q ∙ structs-now s (z .at) a af q e k m) }
 
     module _ (an : a ≡ NoStruct) (b : ConstantStep) (bf : ConstantsFrom s (z .at) b) where
@@ -40,7 +40,7 @@ module _ (s : Str) (z : Cursor) (y : z ≡ start) where
       no-structs q = whole structsAt q ∙ structs-over-now s (z .at) a af q an
 
       pub constant-there : (e : D.Constant.Constant) (k : Cursor) → b ≡ AConstant e k → UnreleasedFrom s Described
-      unfolding meaning checkUnreleased ensure empty
+      unfolding meaning checkNothingReleased ensure empty
       constant-there e k m = record { this = λ p q. rw (no-structs q, whole constantsAt q ∙ constants-now s (z .at) b bf q e k m) }
 
       module _ (bn : b ≡ NoConstant) (c : EnumStep) (cf : EnumsFrom s (z .at) c) where
@@ -48,7 +48,7 @@ module _ (s : Str) (z : Cursor) (y : z ≡ start) where
         no-constants q = whole constantsAt q ∙ constants-over-now s (z .at) b bf q bn
 
         pub enum-there : (e : D.Enum.Enum) (k : Cursor) → c ≡ AnEnum e k → UnreleasedFrom s Described
-        unfolding meaning checkUnreleased ensure empty
+        unfolding meaning checkNothingReleased ensure empty
         enum-there e k m = record { this = λ p q. rw (no-structs q, no-constants q, whole enumsAt q ∙ enums-now s (z .at) c cf q e k m) }
 
         module _ (cn : c ≡ NoEnum) (d : BitfieldStep) (df : BitfieldsFrom s (z .at) d) where
@@ -56,7 +56,7 @@ module _ (s : Str) (z : Cursor) (y : z ≡ start) where
           no-enums q = whole enumsAt q ∙ enums-over-now s (z .at) c cf q cn
 
           pub bitfield-there : (e : D.Bitfield.Bitfield) (k : Cursor) → d ≡ ABitfield e k → UnreleasedFrom s Described
-          unfolding meaning checkUnreleased ensure empty
+          unfolding meaning checkNothingReleased ensure empty
           bitfield-there e k m = record { this = λ p q. rw (no-structs q, no-constants q, no-enums q, whole bitfieldsAt q ∙ bitfields-now s (z .at) d df q e k m) }
 
           module _ (dn : d ≡ NoBitfield) (g : AliasStep) (gf : AliasesFrom s (z .at) g) where
@@ -64,7 +64,7 @@ module _ (s : Str) (z : Cursor) (y : z ≡ start) where
             no-bitfields q = whole bitfieldsAt q ∙ bitfields-over-now s (z .at) d df q dn
 
             pub alias-there : (e : D.TypeAlias.TypeAlias) (k : Cursor) → g ≡ AnAlias e k → UnreleasedFrom s Described
-            unfolding meaning checkUnreleased ensure empty
+            unfolding meaning checkNothingReleased ensure empty
             alias-there e k m = record { this = λ p q. rw (no-structs q, no-constants q, no-enums q, no-bitfields q, whole aliasesAt q ∙ aliases-now s (z .at) g gf q e k m) }
 
             module _ (gn : g ≡ NoAlias) (h : FamilyStep) (hf : FamiliesFrom s (z .at) h) where
@@ -72,11 +72,11 @@ module _ (s : Str) (z : Cursor) (y : z ≡ start) where
               no-aliases q = whole aliasesAt q ∙ aliases-over-now s (z .at) g gf q gn
 
               pub family-there : (e : D.Family.Family) (k : Cursor) → h ≡ AFamily e k → UnreleasedFrom s Described
-              unfolding meaning checkUnreleased ensure empty
+              unfolding meaning checkNothingReleased ensure empty
               family-there e k m = record { this = λ p q. rw (no-structs q, no-constants q, no-enums q, no-bitfields q, no-aliases q, whole familiesAt q ∙ families-now s (z .at) h hf q e k m) }
 
               pub none-there : h ≡ NoFamily → UnreleasedFrom s Passed
-              unfolding meaning checkUnreleased ensure empty
+              unfolding meaning checkNothingReleased ensure empty
               none-there m = record { this = λ p q. rw (no-structs q, no-constants q, no-enums q, no-bitfields q, no-aliases q, whole familiesAt q ∙ families-over-now s (z .at) h hf q m) }
 
 pub ruleset unreleased-laws = (struct-there, constant-there, enum-there, bitfield-there, alias-there, family-there, none-there)

@@ -1,4 +1,5 @@
--- The table of what covers each type, as the code fills it and reads it: its way to Coverage of definition, check_generations of layout.rs. Assumes nothing.
+-- The table of what covers each type, as the code fills it and reads it: its way to Coverage of definition, check_generations of layout.rs.
+-- Assumes nothing.
 use mathlib.Core.Path.{_≡_}
 use mathlib.Core.List.{List, [], _∷_}
 use mathlib.Core.Option.{Option, none, some}
@@ -88,7 +89,8 @@ pub record Changes (r r₀ : Rec) (t m : List ℕ) : Type 0 where
 -- each number but 0 has become the entry of its type's name
 pub record Entered (s p : Str) (t before m : List ℕ) : Type 0 where
   pub none : (i : ℕ) → i < length t → getD before i 0 ≡ 0 → getD m i 0 ≡ 0
-  pub found : (i : ℕ) → i < length t → (getD before i 0 ≡ 0 → ⊥) → coverMeant p (getD m i 0) ≡ coverIn (typesAt s p) (owning (typeName s p (getD t i 0)))
+  pub found : (i : ℕ) → i < length t → (getD before i 0 ≡ 0 → ⊥)
+      → coverMeant p (getD m i 0) ≡ coverIn (typesAt s p) (owning (typeName s p (getD t i 0)))
 
 -- an entry for each type of a record, against a released one
 pub record CoverTable (r r₀ : Rec) (t m : List ℕ) : Type 0 where

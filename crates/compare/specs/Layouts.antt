@@ -2,7 +2,7 @@
 use mathlib.Core.List.{List}
 use mathlib.Core.Option.{Option, none, some}
 use Rattle.record.specs.Base.{Str}
-use Rattle.record.specs.Shapes.{Place}
+use Rattle.record.specs.Shapes.{FieldLayout}
 use Rattle.record.specs.Reading.{Rec, schemaOf}
 use Rattle.layout.specs.Layout.{TypeLayout, types}
 use Rattle.layout.specs.Spots.{spotOf}
@@ -14,6 +14,6 @@ abbrev pub typesOf : Rec → List TypeLayout
 typesOf r = types (schemaOf r)
 
 -- the field alone
-abbrev pub spotFound : Str → SpotStep → Option Place
+abbrev pub spotFound : Str → SpotStep → Option FieldLayout
 spotFound p NoSpot = none
 spotFound p (ASpot x k) = some (spotOf p x)

@@ -1,4 +1,5 @@
--- What helpers of the passes answer, whatever the pools that they do not read: the definitions of definition, over the code's own values. Assumes nothing.
+-- What helpers of the passes answer, whatever the pools that they do not read: the definitions of definition, over the code's own values.
+-- Assumes nothing.
 use mathlib.Core.Path.{_≡_}
 use mathlib.Core.Bool.{Bool, _&&_, _||_}
 use Prim.Native.Nat.{ℕ}
@@ -6,7 +7,8 @@ use lib.Dec.{eqb}
 use Rattle.record.specs.Base.{Str, eqs, isSome, orElse}
 use Rattle.record.specs.Stretch.{textOf}
 use Rattle.record.specs.Lists.{optOf, numberOf, constantOf}
-use Rattle.record.specs.Steps.{constantsAt, aliasesAt, valuesAt, enumsAt, membersAt, bitfieldsAt, structsAt, familiesAt, valueFound, memberFound, bitfieldFound}
+use Rattle.record.specs.Steps.{constantsAt, aliasesAt, valuesAt, enumsAt, membersAt, bitfieldsAt, structsAt, familiesAt}
+use Rattle.record.specs.Steps.{valueFound, memberFound, bitfieldFound}
 use Rattle.record.specs.declared.text.Text.{Text}
 use Rattle.record.specs.declared.operands.OptText.{OptText}
 use Rattle.record.specs.declared.command.Constant.{Constant}
@@ -16,7 +18,7 @@ use Rattle.record.specs.declared.lists.MemberStep.{MemberStep}
 use Rattle.record.specs.declared.lists.BitfieldStep.{BitfieldStep}
 use Rattle.definition.specs.Pass.{ensure}
 use Rattle.verdicts.specs.Arguments.{valueMeant}
-use Rattle.definition.specs.Unreleased.{checkUnreleased}
+use Rattle.definition.specs.Unreleased.{checkNothingReleased}
 use Rattle.compare.specs.Shipped.{shippedOf}
 use Rattle.definition.specs.Enums.{numberIn}
 use Rattle.definition.specs.Bitfields.{spanIn}
@@ -32,7 +34,8 @@ pub record PassedIf (holds : Bool) (v r : Verdict) : Type 0 where
 
 -- the verdict on an unreleased copy
 pub record UnreleasedFrom (s : Str) (r : Verdict) : Type 0 where
-  pub this : (p q : Str) → meaning p q r ≡ checkUnreleased (structsAt s q 0) (constantsAt s q 0) (enumsAt s q 0) (bitfieldsAt s q 0) (aliasesAt s q 0) (familiesAt s q 0)
+  pub this : (p q : Str) → meaning p q r
+      ≡ checkNothingReleased (structsAt s q 0) (constantsAt s q 0) (enumsAt s q 0) (bitfieldsAt s q 0) (aliasesAt s q 0) (familiesAt s q 0)
 
 -- a value is dated: the copy has it, or it names its own release, or its release is the current one
 pub record ValueDated (p : Str) (now : Text) (was : Shipped) (own : OptText) (release : Text) (r : Bool) : Type 0 where

@@ -17,11 +17,12 @@ ghost use Prim.Native.Nat.{_+_, _≤_};
 ghost use mathlib.Core.Path.{_≡_};
 ghost use mathlib.Core.Bool.{true};
 ghost use mathlib.Core.Option.{none};
+ghost use mathlib.Core.List.{[]};
 ghost use lib.ListN.{length, drop};
-ghost use Rattle.record.specs.Commands.{fieldAt, place};
+ghost use Rattle.record.specs.Commands.{fieldAt};
 ghost use Rattle.record.specs.Lists.{fieldOf};
-ghost use Rattle.layout.specs.Spots.{cursorAt};
-ghost use Rattle.compare.specs.Alike.{SameTexts, SameNumbers, alikeFrom, AlikePassed};
+ghost use Rattle.record.specs.Reading.{Rec, rec};
+ghost use Rattle.compare.specs.Alike.{bodyAt, SameTexts, SameNumbers, alikeFrom, AlikePassed};
 
 // Whether all numbers of two fields are alike, by the bytes of their commands.
 fn alike_numbers(s: &[u8], t: &[u8]) -> bool
@@ -31,13 +32,19 @@ fn alike_numbers(s: &[u8], t: &[u8]) -> bool
 }
 
 // Whether all texts of two fields are alike, each in its pool.
-fn alike_texts(pool: &[u8], s: &[u8], old: &[u8], t: &[u8]) -> bool
-    ensures { λ r. ⌜ (r ≡ true → SameTexts (now (pool .entry)) (now (old .entry)) (fieldAt (now (s .entry))) (fieldAt (now (t .entry)))) ⌝ }
+fn alike_texts(pool: &[u8], s: &[u8], old_pool: &[u8], t: &[u8]) -> bool
+    ensures { λ r. ⌜ (r ≡ true → SameTexts (now (pool .entry)) (now («old_pool» .entry)) (fieldAt (now (s .entry))) (fieldAt (now (t .entry)))) ⌝ }
 {
-    if same(bytes_of(pool, text_at(s, 1)), bytes_of(old, text_at(t, 1))) {
-        if same(bytes_of(pool, text_at(s, 4)), bytes_of(old, text_at(t, 4))) {
-            if alike_words(pool, opt_text_at(s, 7), old, opt_text_at(t, 7)) {
-                return alike_words(pool, opt_text_at(s, 10), old, opt_text_at(t, 10));
+    if same(
+        bytes_of(pool, text_at(s, 1)),
+        bytes_of(old_pool, text_at(t, 1)),
+    ) {
+        if same(
+            bytes_of(pool, text_at(s, 4)),
+            bytes_of(old_pool, text_at(t, 4)),
+        ) {
+            if alike_words(pool, opt_text_at(s, 7), old_pool, opt_text_at(t, 7)) {
+                return alike_words(pool, opt_text_at(s, 10), old_pool, opt_text_at(t, 10));
             }
         }
     }
@@ -45,16 +52,26 @@ fn alike_texts(pool: &[u8], s: &[u8], old: &[u8], t: &[u8]) -> bool
 }
 
 // Whether the fields whose commands are at two places are alike. A field takes 33 bytes.
-fn alike_at(stream: &[u8], pool: &[u8], a: usize, past: &[u8], old: &[u8], b: usize) -> bool
-    requires { ⌜ (a + 33 ≤ length (now stream)) × (b + 33 ≤ length (now past)) ⌝ }
-    ensures { λ r. ⌜ (r ≡ true → fieldOf (now (pool .entry)) (fieldAt (drop a (now (stream .entry)))) none ≡ fieldOf (now (old .entry)) (fieldAt (drop b (now (past .entry)))) none) ⌝ }
+fn alike_at(
+    stream: &[u8],
+    pool: &[u8],
+    a: usize,
+    old_stream: &[u8],
+    old_pool: &[u8],
+    b: usize,
+) -> bool
+    requires { ⌜ (a + 33 ≤ length (now stream)) × (b + 33 ≤ length (now «old_stream»)) ⌝ }
+    ensures { λ r.
+        let cur : Rec = rec (now (stream .entry)) (now (pool .entry)) [] in
+        let rel : Rec = rec (now («old_stream» .entry)) (now («old_pool» .entry)) [] in
+        ⌜ (r ≡ true → fieldOf (cur .pool) (fieldAt (drop a (cur .stream))) none ≡ fieldOf (rel .pool) (fieldAt (drop b (rel .stream))) none) ⌝ }
 {
     let end = a + 33;
     let s = &stream[a..end];
     let last = b + 33;
-    let t = &past[b..last];
+    let t = &old_stream[b..last];
     if alike_numbers(s, t) {
-        return alike_texts(pool, s, old, t);
+        return alike_texts(pool, s, old_pool, t);
     }
     false
 }
@@ -71,24 +88,27 @@ pub(crate) fn next_alike(
     pool: &[u8],
     sizes: &[u64],
     at: usize,
-    past: &[u8],
-    old: &[u8],
-    widths: &[u64],
+    old_stream: &[u8],
+    old_pool: &[u8],
+    old_sizes: &[u64],
     to: usize,
 ) -> AlikeStep
-    ensures { λ r. ⌜ alikeFrom (now (stream .entry)) (now (pool .entry)) (now (sizes .entry)) at (now (past .entry)) (now (old .entry)) (now (widths .entry)) to r ⌝ }
+    ensures { λ r.
+        let cur : Rec = rec (now (stream .entry)) (now (pool .entry)) [] in
+        let rel : Rec = rec (now («old_stream» .entry)) (now («old_pool» .entry)) [] in
+        ⌜ alikeFrom (cur .stream) (cur .pool) (now (sizes .entry)) at (rel .stream) (rel .pool) (now («old_sizes» .entry)) to r ⌝ }
 {
     let Sought::At(a, after) = seek(stream, at, 11, Between::Keys) else {
         return AlikeStep::Differ;
     };
-    let Sought::At(b, next) = seek(past, to, 11, Between::Keys) else {
+    let Sought::At(b, next) = seek(old_stream, to, 11, Between::Keys) else {
         return AlikeStep::Differ;
     };
     let size = size_before(sizes, after);
-    if size != size_before(widths, next) {
+    if size != size_before(old_sizes, next) {
         return AlikeStep::Differ;
     }
-    if alike_at(stream, pool, a, past, old, b) {
+    if alike_at(stream, pool, a, old_stream, old_pool, b) {
         return AlikeStep::Alike(a, after, next, size);
     }
     AlikeStep::Differ
@@ -96,7 +116,7 @@ pub(crate) fn next_alike(
 
 // The fields of a record from a place on, at an offset.
 pub(crate) fn body_at(at: usize, offset: u64) -> SpotCursor
-    ensures { λ r. ⌜ r ≡ cursorAt (Ahead.Body (place at)) offset ⌝ }
+    ensures { λ r. ⌜ r ≡ bodyAt at offset ⌝ }
 {
     SpotCursor {
         ahead: Ahead::Body(Cursor::place(at)),
@@ -112,7 +132,7 @@ pub struct Both {
 
 // The fields of two records from two places on, at one offset.
 pub(crate) fn bodies_at(at: usize, to: usize, offset: u64) -> Both
-    ensures { λ r. ⌜ (r .is ≡ cursorAt (Ahead.Body (place at)) offset) × (r .was ≡ cursorAt (Ahead.Body (place to)) offset) ⌝ }
+    ensures { λ r. ⌜ (r .is ≡ bodyAt at offset) × (r .was ≡ bodyAt to offset) ⌝ }
 {
     Both {
         is: body_at(at, offset),
@@ -126,13 +146,17 @@ fn pass_places(
     pool: &[u8],
     sizes: &[u64],
     from: usize,
-    past: &[u8],
-    old: &[u8],
-    widths: &[u64],
+    old_stream: &[u8],
+    old_pool: &[u8],
+    old_sizes: &[u64],
     other: usize,
     start: u64,
 ) -> Both
-    ensures { λ r. ⌜ AlikePassed (now (stream .entry)) (now (pool .entry)) (now (sizes .entry)) (now (past .entry)) (now (old .entry)) (now (widths .entry)) (cursorAt (Ahead.Body (place from)) start) (cursorAt (Ahead.Body (place other)) start) (r .is) (r .was) ⌝ }
+    ensures { λ r.
+        let cur : Rec = rec (now (stream .entry)) (now (pool .entry)) [] in
+        let rel : Rec = rec (now («old_stream» .entry)) (now («old_pool» .entry)) [] in
+        ⌜ AlikePassed (cur .stream) (cur .pool) (now (sizes .entry)) (rel .stream) (rel .pool) (now («old_sizes» .entry))
+        (bodyAt from start) (bodyAt other start) (r .is) (r .was) ⌝ }
 {
     let mut at = from;
     let mut to = other;
@@ -143,9 +167,9 @@ fn pass_places(
             pool,
             sizes,
             at,
-            past,
-            old,
-            widths,
+            old_stream,
+            old_pool,
+            old_sizes,
             to,
         ) else {
             return bodies_at(at, to, offset);
@@ -156,18 +180,21 @@ fn pass_places(
     }
 }
 
-// The same from two cursors on; the front of a family is not passed over.
+// The fields from two cursors on without those at their fronts that are alike; before the front of a family none is passed over.
 pub(crate) fn pass_alike(
     stream: &[u8],
     pool: &[u8],
     sizes: &[u64],
     is: SpotCursor,
-    past: &[u8],
-    old: &[u8],
-    widths: &[u64],
+    old_stream: &[u8],
+    old_pool: &[u8],
+    old_sizes: &[u64],
     was: SpotCursor,
 ) -> Both
-    ensures { λ r. ⌜ AlikePassed (now (stream .entry)) (now (pool .entry)) (now (sizes .entry)) (now (past .entry)) (now (old .entry)) (now (widths .entry)) is was (r .is) (r .was) ⌝ }
+    ensures { λ r.
+        let cur : Rec = rec (now (stream .entry)) (now (pool .entry)) [] in
+        let rel : Rec = rec (now («old_stream» .entry)) (now («old_pool» .entry)) [] in
+        ⌜ AlikePassed (cur .stream) (cur .pool) (now (sizes .entry)) (rel .stream) (rel .pool) (now («old_sizes» .entry)) is was (r .is) (r .was) ⌝ }
 {
     let ahead = is.ahead;
     let Ahead::Body(k) = ahead else {
@@ -185,9 +212,9 @@ pub(crate) fn pass_alike(
         pool,
         sizes,
         k.at,
-        past,
-        old,
-        widths,
+        old_stream,
+        old_pool,
+        old_sizes,
         l.at,
         is.offset,
     )

@@ -13,15 +13,18 @@ use record::text::Text;
 use record::text::bytes_of;
 use verdicts::verdict::Verdict;
 ghost use mathlib.Core.Path.{_≡_};
+ghost use mathlib.Core.List.{[]};
 ghost use Rattle.record.specs.Base.{Str, orElse};
 ghost use Rattle.record.specs.Stretch.{textOf};
 ghost use Rattle.record.specs.Lists.{numberOf, bitfieldOf, memberOf};
 ghost use Rattle.record.specs.Schema as M;
-ghost use Rattle.record.specs.Steps.{bitfieldsAt, membersAt};
+ghost use Rattle.record.specs.Steps.{membersAt};
+ghost use Rattle.record.specs.Reading.{Rec, rec};
 ghost use Rattle.definition.specs.Verdicts.{memberRenamed, memberGone};
 ghost use Rattle.definition.specs.Pass.{onFound};
 ghost use Rattle.definition.specs.Bitfields.{spanIn, checkMember, checkMembers, checkBitfield, checkBitfields};
 ghost use Rattle.compare.specs.Sought.{spansOf, SpanFrom};
+ghost use Rattle.compare.specs.Records.{bitfieldList};
 ghost use Rattle.verdicts.specs.Meaning.{meaning};
 
 // A member's width: one bit where none is given.
@@ -63,7 +66,9 @@ fn find_span(stream: &[u8], from: Cursor, bit: u32, wide: u32) -> MemberStep
 
 // A released member that no member has the name of now, from a cursor on: one with its bits tells the new name.
 fn check_unnamed(stream: &[u8], is: Cursor, owner: Text, name: Text, bit: u32, wide: u32) -> Verdict
-    ensures { λ r. ⌜ ((p q : Str) → meaning p q r ≡ onFound (spanIn bit wide (membersAt (now (stream .entry)) p (is .at))) (memberGone (textOf q owner) (textOf q name)) (λ (m : M.Member). memberRenamed (textOf q owner) (textOf q name) (m .name))) ⌝ }
+    ensures { λ r. ⌜ ((p q : Str) → meaning p q r
+        ≡ onFound (spanIn bit wide (membersAt (now (stream .entry)) p (is .at))) (memberGone (textOf q owner) (textOf q name))
+        (λ (m : M.Member). memberRenamed (textOf q owner) (textOf q name) (m .name))) ⌝ }
 {
     let MemberStep::AMember(m, _) = find_span(stream, is, bit, wide) else {
         return Verdict::MemberGone { owner, name };
@@ -80,17 +85,20 @@ fn check_unnamed(stream: &[u8], is: Cursor, owner: Text, name: Text, bit: u32, w
 fn check_member(
     stream: &[u8],
     pool: &[u8],
-    old: &[u8],
+    old_pool: &[u8],
     is: Cursor,
     owner: Text,
     was: Member,
 ) -> Verdict
-    ensures { λ r. ⌜ meaning (now (pool .entry)) (now (old .entry)) r ≡ checkMember (textOf (now (old .entry)) owner) (membersAt (now (stream .entry)) (now (pool .entry)) (is .at)) (memberOf (now (old .entry)) was) ⌝ }
+    ensures { λ r.
+        let cur : Rec = rec (now (stream .entry)) (now (pool .entry)) [] in
+        let q : Str = now («old_pool» .entry) in
+        ⌜ meaning (cur .pool) q r ≡ checkMember (textOf q owner) (membersAt (cur .stream) (cur .pool) (is .at)) (memberOf q was) ⌝ }
 {
     let name = was.name;
     let given = was.width;
     let wide = width(given);
-    let named = find_member(stream, pool, is, bytes_of(old, name));
+    let named = find_member(stream, pool, is, bytes_of(old_pool, name));
     let MemberStep::AMember(m, _) = named else {
         return check_unnamed(stream, is, owner, name, was.bit, wide);
     };
@@ -119,20 +127,24 @@ fn check_member(
 fn check_members(
     stream: &[u8],
     pool: &[u8],
-    past: &[u8],
-    old: &[u8],
+    old_stream: &[u8],
+    old_pool: &[u8],
     is: Cursor,
     owner: Text,
     from: Cursor,
 ) -> Verdict
-    ensures { λ r. ⌜ meaning (now (pool .entry)) (now (old .entry)) r ≡ checkMembers (textOf (now (old .entry)) owner) (membersAt (now (stream .entry)) (now (pool .entry)) (is .at)) (membersAt (now (past .entry)) (now (old .entry)) (from .at)) ⌝ }
+    ensures { λ r.
+        let cur : Rec = rec (now (stream .entry)) (now (pool .entry)) [] in
+        let rel : Rec = rec (now («old_stream» .entry)) (now («old_pool» .entry)) [] in
+        ⌜ meaning (cur .pool) (rel .pool) r ≡ checkMembers (textOf (rel .pool) owner) (membersAt (cur .stream) (cur .pool) (is .at))
+        (membersAt (rel .stream) (rel .pool) (from .at)) ⌝ }
 {
     let mut cursor = from;
     loop {
-        let MemberStep::AMember(was, after) = next_member(past, cursor) else {
+        let MemberStep::AMember(was, after) = next_member(old_stream, cursor) else {
             return Verdict::Passed;
         };
-        let verdict = check_member(stream, pool, old, is, owner, was);
+        let verdict = check_member(stream, pool, old_pool, is, owner, was);
         if let Verdict::Passed = verdict {
             cursor = after;
         } else {
@@ -145,35 +157,42 @@ fn check_members(
 fn check_bitfield(
     stream: &[u8],
     pool: &[u8],
-    past: &[u8],
-    old: &[u8],
+    old_stream: &[u8],
+    old_pool: &[u8],
     was: Bitfield,
     from: Cursor,
 ) -> Verdict
-    ensures { λ r. ⌜ meaning (now (pool .entry)) (now (old .entry)) r ≡ checkBitfield (bitfieldsAt (now (stream .entry)) (now (pool .entry)) 0) (bitfieldOf (now (old .entry)) was (membersAt (now (past .entry)) (now (old .entry)) (from .at))) ⌝ }
+    ensures { λ r.
+        let cur : Rec = rec (now (stream .entry)) (now (pool .entry)) [] in
+        let rel : Rec = rec (now («old_stream» .entry)) (now («old_pool» .entry)) [] in
+        ⌜ meaning (cur .pool) (rel .pool) r
+        ≡ checkBitfield (bitfieldList cur) (bitfieldOf (rel .pool) was (membersAt (rel .stream) (rel .pool) (from .at))) ⌝ }
 {
     let name = was.name;
     let BitfieldStep::ABitfield(_, is) = find_bitfield(
         stream,
         pool,
         Cursor::new(),
-        bytes_of(old, name),
+        bytes_of(old_pool, name),
     ) else {
         return Verdict::BitFieldGone { name };
     };
-    check_members(stream, pool, past, old, is, name, from)
+    check_members(stream, pool, old_stream, old_pool, is, name, from)
 }
 
 // The first bit field or member of the release that does not stand as it was.
-pub fn check_bitfields(stream: &[u8], pool: &[u8], past: &[u8], old: &[u8]) -> Verdict
-    ensures { λ r. ⌜ meaning (now (pool .entry)) (now (old .entry)) r ≡ checkBitfields (bitfieldsAt (now (stream .entry)) (now (pool .entry)) 0) (bitfieldsAt (now (past .entry)) (now (old .entry)) 0) ⌝ }
+pub fn check_bitfields(stream: &[u8], pool: &[u8], old_stream: &[u8], old_pool: &[u8]) -> Verdict
+    ensures { λ r.
+        let cur : Rec = rec (now (stream .entry)) (now (pool .entry)) [] in
+        let rel : Rec = rec (now («old_stream» .entry)) (now («old_pool» .entry)) [] in
+        ⌜ meaning (cur .pool) (rel .pool) r ≡ checkBitfields (bitfieldList cur) (bitfieldList rel) ⌝ }
 {
     let mut cursor = Cursor::new();
     loop {
-        let BitfieldStep::ABitfield(was, after) = next_bitfield(past, cursor) else {
+        let BitfieldStep::ABitfield(was, after) = next_bitfield(old_stream, cursor) else {
             return Verdict::Passed;
         };
-        let verdict = check_bitfield(stream, pool, past, old, was, after);
+        let verdict = check_bitfield(stream, pool, old_stream, old_pool, was, after);
         if let Verdict::Passed = verdict {
             cursor = after;
         } else {

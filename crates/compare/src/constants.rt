@@ -19,17 +19,19 @@ ghost use mathlib.Core.Path.{_≡_};
 ghost use mathlib.Core.List.{[], map};
 ghost use Prim.Native.Nat.{_≤_};
 ghost use lib.ListN.{length};
-ghost use Rattle.record.specs.Base.{eqs, signed};
+ghost use Rattle.record.specs.Base.{Str, eqs, signed};
 ghost use Rattle.record.specs.Lists.{constantOf};
-ghost use Rattle.record.specs.Steps.{structsAt, constantsAt, structFound};
+ghost use Rattle.record.specs.Steps.{structFound};
 ghost use Rattle.record.specs.Owner.{withName};
 ghost use Rattle.record.specs.Index.{Indexed};
+ghost use Rattle.record.specs.Reading.{Rec, rec};
 ghost use Rattle.layout.specs.Room.{Room};
 ghost use Rattle.layout.specs.Constants.{placedConstant};
-ghost use Rattle.definition.specs.Constants.{valueText};
+ghost use Rattle.definition.specs.Constants.{constantText};
 ghost use Rattle.verdicts.specs.Arguments.{valueMeant};
 ghost use Rattle.definition.specs.Constants.{heldByAny, isGeneration, checkConstant, checkConstantsIn, checkConstants};
 ghost use Rattle.compare.specs.Sought.{HoldsValue};
+ghost use Rattle.compare.specs.Records.{constantList, structList};
 ghost use Rattle.verdicts.specs.Meaning.{meaning};
 
 // What a constant holds.
@@ -61,7 +63,7 @@ fn integer_reads(n: u64, text: &[u8]) -> bool
 
 // Whether an integer has the text of a value.
 fn integer_is(n: u64, pool: &[u8], value: ConstantValue) -> bool
-    ensures { λ r. ⌜ r ≡ eqs (signed n) (valueText (valueMeant (now (pool .entry)) value)) ⌝ }
+    ensures { λ r. ⌜ r ≡ eqs (signed n) (constantText (valueMeant (now (pool .entry)) value)) ⌝ }
 {
     match value {
         ConstantValue::Integer(m) => same_integers(n, m),
@@ -71,7 +73,7 @@ fn integer_is(n: u64, pool: &[u8], value: ConstantValue) -> bool
 
 // Whether these words are the text of a value.
 fn words_are(words: &[u8], pool: &[u8], value: ConstantValue) -> bool
-    ensures { λ r. ⌜ r ≡ eqs (now (words .entry)) (valueText (valueMeant (now (pool .entry)) value)) ⌝ }
+    ensures { λ r. ⌜ r ≡ eqs (now (words .entry)) (constantText (valueMeant (now (pool .entry)) value)) ⌝ }
 {
     match value {
         ConstantValue::Integer(n) => integer_reads(n, words),
@@ -80,19 +82,21 @@ fn words_are(words: &[u8], pool: &[u8], value: ConstantValue) -> bool
 }
 
 // Whether a value that is now and one that was have the same text.
-fn same_value(pool: &[u8], is: ConstantValue, old: &[u8], was: ConstantValue) -> bool
-    ensures { λ r. ⌜ r ≡ eqs (valueText (valueMeant (now (pool .entry)) is)) (valueText (valueMeant (now (old .entry)) was)) ⌝ }
+fn same_value(pool: &[u8], is: ConstantValue, old_pool: &[u8], was: ConstantValue) -> bool
+    ensures { λ r. ⌜ r ≡ eqs (constantText (valueMeant (now (pool .entry)) is)) (constantText (valueMeant (now («old_pool» .entry)) was)) ⌝ }
 {
     match is {
-        ConstantValue::Integer(n) => integer_is(n, old, was),
-        ConstantValue::Words(text) => words_are(bytes_of(pool, required_text(text)), old, was),
+        ConstantValue::Integer(n) => integer_is(n, old_pool, was),
+        ConstantValue::Words(text) => words_are(bytes_of(pool, required_text(text)), old_pool, was),
     }
 }
 
 // Whether the structure in a slot keeps its generation in the constant of that name.
 fn slot_holds(stream: &[u8], pool: &[u8], index: &[u16], slot: StructStep, name: &[u8]) -> bool
     requires { ⌜ Indexed (now stream) (now pool) (now index) ⌝ }
-    ensures { λ r. ⌜ r ≡ heldByAny (structsAt (now (stream .entry)) (now (pool .entry)) 0) (constantsAt (now (stream .entry)) (now (pool .entry)) 0) (withName (structFound (now (stream .entry)) (now (pool .entry)) slot) []) (now (name .entry)) ⌝ }
+    ensures { λ r.
+        let cur : Rec = rec (now (stream .entry)) (now (pool .entry)) [] in
+        ⌜ r ≡ heldByAny (structList cur) (constantList cur) (withName (structFound (cur .stream) (cur .pool) slot) []) (now (name .entry)) ⌝ }
 {
     let StructStep::AStruct(e, _) = slot else {
         return false;
@@ -108,7 +112,9 @@ fn slot_holds(stream: &[u8], pool: &[u8], index: &[u16], slot: StructStep, name:
 // Whether the constant of that name holds a generation: these are meant to change.
 fn is_generation(stream: &[u8], pool: &[u8], index: &[u16], name: &[u8]) -> bool
     requires { ⌜ Indexed (now stream) (now pool) (now index) ⌝ }
-    ensures { λ r. ⌜ r ≡ isGeneration (structsAt (now (stream .entry)) (now (pool .entry)) 0) (constantsAt (now (stream .entry)) (now (pool .entry)) 0) (now (name .entry)) ⌝ }
+    ensures { λ r.
+        let cur : Rec = rec (now (stream .entry)) (now (pool .entry)) [] in
+        ⌜ r ≡ isGeneration (structList cur) (constantList cur) (now (name .entry)) ⌝ }
 {
     let slots = versioned_structs(stream, pool);
     let info = slots.info;
@@ -124,21 +130,30 @@ fn is_generation(stream: &[u8], pool: &[u8], index: &[u16], name: &[u8]) -> bool
 }
 
 // One released constant against the last current one of its name; the values come first, since most are the same.
-fn check_constant(stream: &[u8], pool: &[u8], index: &[u16], old: &[u8], was: Constant) -> Verdict
+fn check_constant(
+    stream: &[u8],
+    pool: &[u8],
+    index: &[u16],
+    old_pool: &[u8],
+    was: Constant,
+) -> Verdict
     requires { ⌜ Indexed (now stream) (now pool) (now index) ⌝ }
-    ensures { λ r. ⌜ meaning (now (pool .entry)) (now (old .entry)) r ≡ checkConstant (structsAt (now (stream .entry)) (now (pool .entry)) 0) (constantsAt (now (stream .entry)) (now (pool .entry)) 0) (constantOf (now (old .entry)) was) ⌝ }
+    ensures { λ r.
+        let cur : Rec = rec (now (stream .entry)) (now (pool .entry)) [] in
+        let q : Str = now («old_pool» .entry) in
+        ⌜ meaning (cur .pool) q r ≡ checkConstant (structList cur) (constantList cur) (constantOf q was) ⌝ }
 {
     let name = was.name;
-    let last = last_constant(stream, pool, index, bytes_of(old, name));
+    let last = last_constant(stream, pool, index, bytes_of(old_pool, name));
     let ConstantStep::AConstant(c, _) = last else {
         return Verdict::ConstantGone { name };
     };
     let held = value_of(was);
     let holds = value_of(c);
-    if same_value(pool, holds, old, held) {
+    if same_value(pool, holds, old_pool, held) {
         return Verdict::Passed;
     }
-    if is_generation(stream, pool, index, bytes_of(old, name)) {
+    if is_generation(stream, pool, index, bytes_of(old_pool, name)) {
         return Verdict::Passed;
     }
     Verdict::ConstantChanged {
@@ -153,17 +168,21 @@ fn check_placed(
     stream: &[u8],
     pool: &[u8],
     index: &[u16],
-    past: &[u8],
-    old: &[u8],
+    old_stream: &[u8],
+    old_pool: &[u8],
     table: &[u32],
 ) -> Verdict
     requires { ⌜ Indexed (now stream) (now pool) (now index) ⌝ }
-    ensures { λ r. ⌜ meaning (now (pool .entry)) (now (old .entry)) r ≡ checkConstantsIn (structsAt (now (stream .entry)) (now (pool .entry)) 0) (constantsAt (now (stream .entry)) (now (pool .entry)) 0) (map (placedConstant (now (past .entry)) (now (old .entry))) (now (table .entry))) ⌝ }
+    ensures { λ r.
+        let cur : Rec = rec (now (stream .entry)) (now (pool .entry)) [] in
+        let rel : Rec = rec (now («old_stream» .entry)) (now («old_pool» .entry)) [] in
+        ⌜ meaning (cur .pool) (rel .pool) r
+        ≡ checkConstantsIn (structList cur) (constantList cur) (map (placedConstant (rel .stream) (rel .pool)) (now (table .entry))) ⌝ }
 {
     let mut i = 0;
     while i < table.len() {
-        let was = placed_constant(past, table[i]);
-        let verdict = check_constant(stream, pool, index, old, was);
+        let was = placed_constant(old_stream, table[i]);
+        let verdict = check_constant(stream, pool, index, old_pool, was);
         if let Verdict::Passed = verdict {
             i += 1;
         } else {
@@ -178,14 +197,20 @@ pub(crate) fn check_constants(
     stream: &[u8],
     pool: &[u8],
     index: &[u16],
-    past: &[u8],
-    old: &[u8],
+    old_stream: &[u8],
+    old_pool: &[u8],
     table: &mut [u32],
     scratch: &mut [u32],
 ) -> Verdict
-    requires { ⌜ (length (now past) ≤ 32768) × Room (now past) (now table) × Room (now past) (now scratch) × Indexed (now stream) (now pool) (now index) ⌝ }
-    ensures { λ r. ⌜ meaning (now (pool .entry)) (now (old .entry)) r ≡ checkConstants (structsAt (now (stream .entry)) (now (pool .entry)) 0) (constantsAt (now (stream .entry)) (now (pool .entry)) 0) (constantsAt (now (past .entry)) (now (old .entry)) 0) ⌝ }
+    requires { ⌜ (length (now «old_stream») ≤ 32768)
+        × Room (now «old_stream») (now table)
+        × Room (now «old_stream») (now scratch)
+        × Indexed (now stream) (now pool) (now index) ⌝ }
+    ensures { λ r.
+        let cur : Rec = rec (now (stream .entry)) (now (pool .entry)) [] in
+        let rel : Rec = rec (now («old_stream» .entry)) (now («old_pool» .entry)) [] in
+        ⌜ meaning (cur .pool) (rel .pool) r ≡ checkConstants (structList cur) (constantList cur) (constantList rel) ⌝ }
 {
-    let n = constant_table(past, old, table, scratch);
-    check_placed(stream, pool, index, past, old, &table[..n])
+    let n = constant_table(old_stream, old_pool, table, scratch);
+    check_placed(stream, pool, index, old_stream, old_pool, &table[..n])
 }

@@ -69,7 +69,7 @@ fn fill_entries(
     }
 }
 
-// The same without a table of leads.
+// Puts these entries without a table of leads.
 fn fill_few(
     stream: &[u8],
     pool: &[u8],
@@ -79,7 +79,9 @@ fn fill_few(
     index: &[u16],
     cover: &mut [u32],
 )
-    requires { ⌜ Known (now stream) (now pool) (now marks) (now index) × InSlots (now stream) (now pool) roots × (length (now types) ≤ length (now cover)) ⌝ }
+    requires { ⌜ Known (now stream) (now pool) (now marks) (now index)
+        × InSlots (now stream) (now pool) roots
+        × (length (now types) ≤ length (now cover)) ⌝ }
     ensures { λ _. ⌜ Entered (now (stream .entry)) (now (pool .entry)) (now (types .entry)) (now (cover .entry)) (now (cover .exit)) ⌝ }
 {
     fill_entries(
@@ -94,7 +96,7 @@ fn fill_few(
     );
 }
 
-// The same with one, which takes less time where many types changed. It has room for the types of a stream of 32,768 bytes.
+// Puts these entries by a table of leads, which takes less time where many types changed. It has room for the types of a stream of 32,768 bytes.
 fn fill_many(
     stream: &[u8],
     pool: &[u8],
@@ -104,7 +106,10 @@ fn fill_many(
     index: &[u16],
     cover: &mut [u32],
 )
-    requires { ⌜ Known (now stream) (now pool) (now marks) (now index) × InSlots (now stream) (now pool) roots × (length (now types) ≤ length (now cover)) × (length (now marks) ≤ 32768) ⌝ }
+    requires { ⌜ Known (now stream) (now pool) (now marks) (now index)
+        × InSlots (now stream) (now pool) roots
+        × (length (now types) ≤ length (now cover))
+        × (length (now marks) ≤ 32768) ⌝ }
     ensures { λ _. ⌜ Entered (now (stream .entry)) (now (pool .entry)) (now (types .entry)) (now (cover .entry)) (now (cover .exit)) ⌝ }
 {
     let mut leads = [0u16; 3277];
@@ -122,7 +127,9 @@ pub(crate) fn fill_cover(
     index: &[u16],
     cover: &mut [u32],
 )
-    requires { ⌜ Known (now stream) (now pool) (now marks) (now index) × InSlots (now stream) (now pool) roots × (length (now types) ≤ length (now cover)) ⌝ }
+    requires { ⌜ Known (now stream) (now pool) (now marks) (now index)
+        × InSlots (now stream) (now pool) roots
+        × (length (now types) ≤ length (now cover)) ⌝ }
     ensures { λ _. ⌜ Entered (now (stream .entry)) (now (pool .entry)) (now (types .entry)) (now (cover .entry)) (now (cover .exit)) ⌝ }
 {
     let n = count_changed(types, cover);

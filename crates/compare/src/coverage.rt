@@ -12,11 +12,13 @@ use record::text::Text;
 use record::text::same;
 use record::versioned::Versioned;
 ghost use mathlib.Core.Path.{_≡_};
+ghost use mathlib.Core.List.{[]};
 ghost use Rattle.record.specs.Base.{eqs};
-ghost use Rattle.record.specs.References.{typesAt};
+ghost use Rattle.record.specs.Reading.{Rec, rec};
 ghost use Rattle.layout.specs.Handles.{typeName};
 ghost use Rattle.definition.specs.Coverage.{owning};
 ghost use Rattle.compare.specs.CoverTable.{colonsFirst, oneFamily, coverIn, coverMeant, Packed, Owners, Knows};
+ghost use Rattle.compare.specs.Records.{typeLists};
 
 // Whether a text begins with two colons.
 fn colons_first(s: &[u8]) -> bool
@@ -61,7 +63,9 @@ fn one_family(g: u32, h: u32) -> bool
 
 // Whether two types have one name before the first "::": variants of one family do, and so it is asked of the handles first.
 fn same_owning(stream: &[u8], pool: &[u8], g: u32, h: u32) -> bool
-    ensures { λ r. ⌜ r ≡ eqs (owning (typeName (now (stream .entry)) (now (pool .entry)) g)) (owning (typeName (now (stream .entry)) (now (pool .entry)) h)) ⌝ }
+    ensures { λ r.
+        let cur : Rec = rec (now (stream .entry)) (now (pool .entry)) [] in
+        ⌜ r ≡ eqs (owning (typeName (cur .stream) (cur .pool) g)) (owning (typeName (cur .stream) (cur .pool) h)) ⌝ }
 {
     if one_family(g, h) {
         return true;
@@ -90,7 +94,10 @@ fn entry_named(
     leads: &[u16],
     name: &[u8],
 ) -> u32
-    ensures { λ r. ⌜ (Owners (now (stream .entry)) (now (pool .entry)) roots (now (marks .entry)) (now (index .entry)) (now (leads .entry)) → coverMeant (now (pool .entry)) r ≡ coverIn (typesAt (now (stream .entry)) (now (pool .entry))) (now (name .entry))) ⌝ }
+    ensures { λ r.
+        let cur : Rec = rec (now (stream .entry)) (now (pool .entry)) [] in
+        ⌜ (Owners (cur .stream) (cur .pool) roots (now (marks .entry)) (now (index .entry)) (now (leads .entry))
+        → coverMeant (cur .pool) r ≡ coverIn (typeLists cur) (now (name .entry))) ⌝ }
 {
     if stands_alone(stream, pool, index, name) {
         return 0;
@@ -111,7 +118,10 @@ fn entry_of(
     leads: &[u16],
     handle: u32,
 ) -> u32
-    ensures { λ r. ⌜ (Owners (now (stream .entry)) (now (pool .entry)) roots (now (marks .entry)) (now (index .entry)) (now (leads .entry)) → coverMeant (now (pool .entry)) r ≡ coverIn (typesAt (now (stream .entry)) (now (pool .entry))) (owning (typeName (now (stream .entry)) (now (pool .entry)) handle))) ⌝ }
+    ensures { λ r.
+        let cur : Rec = rec (now (stream .entry)) (now (pool .entry)) [] in
+        ⌜ (Owners (cur .stream) (cur .pool) roots (now (marks .entry)) (now (index .entry)) (now (leads .entry))
+        → coverMeant (cur .pool) r ≡ coverIn (typeLists cur) (owning (typeName (cur .stream) (cur .pool) handle))) ⌝ }
 {
     let mut name = [0u8; 512];
     let n = put_name(&mut name, 0, pool, type_name(stream, handle));
@@ -143,7 +153,11 @@ pub(crate) fn entry_after(
     last: Last,
     handle: u32,
 ) -> u32
-    ensures { λ r. ⌜ (Owners (now (stream .entry)) (now (pool .entry)) roots (now (marks .entry)) (now (index .entry)) (now (leads .entry)) → Knows (now (stream .entry)) (now (pool .entry)) last → coverMeant (now (pool .entry)) r ≡ coverIn (typesAt (now (stream .entry)) (now (pool .entry))) (owning (typeName (now (stream .entry)) (now (pool .entry)) handle))) ⌝ }
+    ensures { λ r.
+        let cur : Rec = rec (now (stream .entry)) (now (pool .entry)) [] in
+        ⌜ (Owners (cur .stream) (cur .pool) roots (now (marks .entry)) (now (index .entry)) (now (leads .entry))
+        → Knows (cur .stream) (cur .pool) last
+        → coverMeant (cur .pool) r ≡ coverIn (typeLists cur) (owning (typeName (cur .stream) (cur .pool) handle))) ⌝ }
 {
     let Last::Entry(before, entry) = last else {
         return entry_of(stream, pool, roots, marks, index, leads, handle);

@@ -12,12 +12,16 @@ use record::text::Text;
 use record::text::bytes_of;
 use verdicts::verdict::Verdict;
 ghost use mathlib.Core.Path.{_≡_};
+ghost use mathlib.Core.List.{[]};
 ghost use Rattle.record.specs.Stretch.{textOf};
 ghost use Rattle.record.specs.Lists.{enumOf, valueOf};
-ghost use Rattle.record.specs.Steps.{enumsAt, valuesAt};
+ghost use Rattle.record.specs.Steps.{valuesAt};
 ghost use Rattle.record.specs.Index.{Indexed};
+ghost use Rattle.record.specs.Reading.{Rec, rec};
+ghost use Rattle.record.specs.Base.{Str};
 ghost use Rattle.definition.specs.Enums.{checkValue, checkValues, checkEnum, checkEnums};
 ghost use Rattle.compare.specs.Sought.{NumberFrom};
+ghost use Rattle.compare.specs.Records.{enumList};
 ghost use Rattle.verdicts.specs.Meaning.{meaning};
 
 // The first value with that number from a cursor on.
@@ -40,15 +44,18 @@ fn find_number(stream: &[u8], from: Cursor, number: u64) -> ValueStep
 fn check_value(
     stream: &[u8],
     pool: &[u8],
-    old: &[u8],
+    old_pool: &[u8],
     is: Cursor,
     owner: Text,
     was: Value,
 ) -> Verdict
-    ensures { λ r. ⌜ meaning (now (pool .entry)) (now (old .entry)) r ≡ checkValue (textOf (now (old .entry)) owner) (valuesAt (now (stream .entry)) (now (pool .entry)) (is .at)) (valueOf (now (old .entry)) was) ⌝ }
+    ensures { λ r.
+        let cur : Rec = rec (now (stream .entry)) (now (pool .entry)) [] in
+        let q : Str = now («old_pool» .entry) in
+        ⌜ meaning (cur .pool) q r ≡ checkValue (textOf q owner) (valuesAt (cur .stream) (cur .pool) (is .at)) (valueOf q was) ⌝ }
 {
     let name = was.name;
-    let named = find_value(stream, pool, is, bytes_of(old, name));
+    let named = find_value(stream, pool, is, bytes_of(old_pool, name));
     if let ValueStep::AValue(v, _) = named {
         if v.value == was.value {
             return Verdict::Passed;
@@ -75,20 +82,24 @@ fn check_value(
 fn check_values(
     stream: &[u8],
     pool: &[u8],
-    past: &[u8],
-    old: &[u8],
+    old_stream: &[u8],
+    old_pool: &[u8],
     is: Cursor,
     owner: Text,
     from: Cursor,
 ) -> Verdict
-    ensures { λ r. ⌜ meaning (now (pool .entry)) (now (old .entry)) r ≡ checkValues (textOf (now (old .entry)) owner) (valuesAt (now (stream .entry)) (now (pool .entry)) (is .at)) (valuesAt (now (past .entry)) (now (old .entry)) (from .at)) ⌝ }
+    ensures { λ r.
+        let cur : Rec = rec (now (stream .entry)) (now (pool .entry)) [] in
+        let rel : Rec = rec (now («old_stream» .entry)) (now («old_pool» .entry)) [] in
+        ⌜ meaning (cur .pool) (rel .pool) r ≡ checkValues (textOf (rel .pool) owner) (valuesAt (cur .stream) (cur .pool) (is .at))
+        (valuesAt (rel .stream) (rel .pool) (from .at)) ⌝ }
 {
     let mut cursor = from;
     loop {
-        let ValueStep::AValue(was, after) = next_value(past, cursor) else {
+        let ValueStep::AValue(was, after) = next_value(old_stream, cursor) else {
             return Verdict::Passed;
         };
-        let verdict = check_value(stream, pool, old, is, owner, was);
+        let verdict = check_value(stream, pool, old_pool, is, owner, was);
         if let Verdict::Passed = verdict {
             cursor = after;
         } else {
@@ -102,22 +113,26 @@ fn check_enum(
     stream: &[u8],
     pool: &[u8],
     index: &[u16],
-    past: &[u8],
-    old: &[u8],
+    old_stream: &[u8],
+    old_pool: &[u8],
     was: Enum,
     from: Cursor,
 ) -> Verdict
     requires { ⌜ Indexed (now stream) (now pool) (now index) ⌝ }
-    ensures { λ r. ⌜ meaning (now (pool .entry)) (now (old .entry)) r ≡ checkEnum (enumsAt (now (stream .entry)) (now (pool .entry)) 0) (enumOf (now (old .entry)) was (valuesAt (now (past .entry)) (now (old .entry)) (from .at))) ⌝ }
+    ensures { λ r.
+        let cur : Rec = rec (now (stream .entry)) (now (pool .entry)) [] in
+        let rel : Rec = rec (now («old_stream» .entry)) (now («old_pool» .entry)) [] in
+        ⌜ meaning (cur .pool) (rel .pool) r
+        ≡ checkEnum (enumList cur) (enumOf (rel .pool) was (valuesAt (rel .stream) (rel .pool) (from .at))) ⌝ }
 {
-    let ValueStep::AValue(_, _) = next_value(past, from) else {
+    let ValueStep::AValue(_, _) = next_value(old_stream, from) else {
         return Verdict::Passed;
     };
     let name = was.name;
-    let EnumStep::AnEnum(_, is) = first_enum(stream, pool, index, bytes_of(old, name)) else {
+    let EnumStep::AnEnum(_, is) = first_enum(stream, pool, index, bytes_of(old_pool, name)) else {
         return Verdict::EnumGone { name };
     };
-    check_values(stream, pool, past, old, is, name, from)
+    check_values(stream, pool, old_stream, old_pool, is, name, from)
 }
 
 // The first enum or value of the release that does not stand as it was.
@@ -125,18 +140,21 @@ pub(crate) fn check_enums(
     stream: &[u8],
     pool: &[u8],
     index: &[u16],
-    past: &[u8],
-    old: &[u8],
+    old_stream: &[u8],
+    old_pool: &[u8],
 ) -> Verdict
     requires { ⌜ Indexed (now stream) (now pool) (now index) ⌝ }
-    ensures { λ r. ⌜ meaning (now (pool .entry)) (now (old .entry)) r ≡ checkEnums (enumsAt (now (stream .entry)) (now (pool .entry)) 0) (enumsAt (now (past .entry)) (now (old .entry)) 0) ⌝ }
+    ensures { λ r.
+        let cur : Rec = rec (now (stream .entry)) (now (pool .entry)) [] in
+        let rel : Rec = rec (now («old_stream» .entry)) (now («old_pool» .entry)) [] in
+        ⌜ meaning (cur .pool) (rel .pool) r ≡ checkEnums (enumList cur) (enumList rel) ⌝ }
 {
     let mut cursor = Cursor::new();
     loop {
-        let EnumStep::AnEnum(was, after) = next_enum(past, cursor) else {
+        let EnumStep::AnEnum(was, after) = next_enum(old_stream, cursor) else {
             return Verdict::Passed;
         };
-        let verdict = check_enum(stream, pool, index, past, old, was, after);
+        let verdict = check_enum(stream, pool, index, old_stream, old_pool, was, after);
         if let Verdict::Passed = verdict {
             cursor = after;
         } else {

@@ -1,5 +1,4 @@
 // The pass over the first releases of the plugin API: each says what the last release did. First releases compare as texts.
-// The index is the copy's.
 use crate::required::required_text;
 use crate::shipped::Shipped;
 use crate::shipped::constant_release;
@@ -31,16 +30,21 @@ use record::text::same;
 use verdicts::arguments::Item;
 use verdicts::verdict::Verdict;
 ghost use mathlib.Core.Path.{_≡_};
+ghost use mathlib.Core.List.{[]};
 ghost use Rattle.record.specs.Stretch.{textOf};
 ghost use Rattle.record.specs.Lists.{optOf, constantOf, enumOf, valueOf, keyOf};
-ghost use Rattle.record.specs.Steps.{constantsAt, enumsAt, valuesAt, structsAt, unstoredAt, enumFound};
+ghost use Rattle.record.specs.Steps.{valuesAt, enumFound};
 ghost use Rattle.record.specs.Index.{Indexed};
 ghost use Rattle.record.specs.Ends.{EndsOf};
-ghost use Rattle.record.specs.Keys.{pluginKeys};
+ghost use Rattle.record.specs.Reading.{Rec, rec};
+ghost use Rattle.record.specs.Base.{Str};
 ghost use Rattle.verdicts.specs.Arguments.{itemOf};
 ghost use Rattle.compare.specs.Shipped.{shippedOf};
-ghost use Rattle.definition.specs.FirstReleases.{checkArrival, checkConstantArrival, checkConstantArrivals, checkValueArrival, checkValueArrivals, checkEnumArrival, checkEnumArrivals, checkKeyArrival, checkKeyArrivals, checkFirstReleases};
+ghost use Rattle.definition.specs.FirstReleases.{checkArrival, checkConstantArrival, checkConstantArrivals, checkValueArrival};
+ghost use Rattle.definition.specs.FirstReleases.{checkValueArrivals, checkEnumArrival, checkEnumArrivals, checkKeyArrival};
+ghost use Rattle.definition.specs.FirstReleases.{checkKeyArrivals, checkFirstReleases};
 ghost use Rattle.compare.specs.Sought.{PassedIf, ValueDated};
+ghost use Rattle.compare.specs.Records.{constantList, enumList, keyList};
 ghost use Rattle.verdicts.specs.Meaning.{meaning};
 
 // Nothing where the test holds, else this verdict.
@@ -56,14 +60,17 @@ fn passed_if(holds: bool, otherwise: Verdict) -> Verdict
 // One item, the release that it names, and what the copy says of it.
 fn check_arrival(
     pool: &[u8],
-    old: &[u8],
+    old_pool: &[u8],
     current: Text,
     copy: OptText,
     what: Item,
     names: Text,
     was: Shipped,
 ) -> Verdict
-    ensures { λ r. ⌜ meaning (now (pool .entry)) (now (old .entry)) r ≡ checkArrival (textOf (now (pool .entry)) current) (optOf (now (old .entry)) copy) (itemOf (now (pool .entry)) what) (textOf (now (pool .entry)) names) (shippedOf (now (old .entry)) was) ⌝ }
+    ensures { λ r.
+        let p : Str = now (pool .entry) in
+        let q : Str = now («old_pool» .entry) in
+        ⌜ meaning p q r ≡ checkArrival (textOf p current) (optOf q copy) (itemOf p what) (textOf p names) (shippedOf q was) ⌝ }
 {
     match was {
         Shipped::Absent => passed_if(
@@ -75,7 +82,7 @@ fn check_arrival(
             },
         ),
         Shipped::Named(release) => passed_if(
-            same(bytes_of(pool, names), bytes_of(old, release)),
+            same(bytes_of(pool, names), bytes_of(old_pool, release)),
             Verdict::Redated {
                 what,
                 was: release,
@@ -96,15 +103,18 @@ fn check_arrival(
 // One constant. One outside the plugin API or without a first release is passed over.
 fn check_constant_arrival(
     pool: &[u8],
-    past: &[u8],
-    old: &[u8],
-    index: &[u16],
+    old_stream: &[u8],
+    old_pool: &[u8],
+    old_index: &[u16],
     current: Text,
     copy: OptText,
     is: Constant,
 ) -> Verdict
-    requires { ⌜ Indexed (now past) (now old) (now index) ⌝ }
-    ensures { λ r. ⌜ meaning (now (pool .entry)) (now (old .entry)) r ≡ checkConstantArrival (textOf (now (pool .entry)) current) (optOf (now (old .entry)) copy) (constantsAt (now (past .entry)) (now (old .entry)) 0) (constantOf (now (pool .entry)) is) ⌝ }
+    requires { ⌜ Indexed (now «old_stream») (now «old_pool») (now «old_index») ⌝ }
+    ensures { λ r.
+        let p : Str = now (pool .entry) in
+        let rel : Rec = rec (now («old_stream» .entry)) (now («old_pool» .entry)) [] in
+        ⌜ meaning p (rel .pool) r ≡ checkConstantArrival (textOf p current) (optOf (rel .pool) copy) (constantList rel) (constantOf p is) ⌝ }
 {
     if !is.ora_api {
         return Verdict::Passed;
@@ -114,29 +124,49 @@ fn check_constant_arrival(
         return Verdict::Passed;
     };
     let name = is.name;
-    let was = constant_release(past, old, index, bytes_of(pool, name));
-    check_arrival(pool, old, current, copy, Item::Constant(name), names, was)
+    let was = constant_release(old_stream, old_pool, old_index, bytes_of(pool, name));
+    check_arrival(
+        pool,
+        old_pool,
+        current,
+        copy,
+        Item::Constant(name),
+        names,
+        was,
+    )
 }
 
 // The current constants.
 fn check_constant_arrivals(
     stream: &[u8],
     pool: &[u8],
-    past: &[u8],
-    old: &[u8],
-    index: &[u16],
+    old_stream: &[u8],
+    old_pool: &[u8],
+    old_index: &[u16],
     current: Text,
     copy: OptText,
 ) -> Verdict
-    requires { ⌜ Indexed (now past) (now old) (now index) ⌝ }
-    ensures { λ r. ⌜ meaning (now (pool .entry)) (now (old .entry)) r ≡ checkConstantArrivals (textOf (now (pool .entry)) current) (optOf (now (old .entry)) copy) (constantsAt (now (stream .entry)) (now (pool .entry)) 0) (constantsAt (now (past .entry)) (now (old .entry)) 0) ⌝ }
+    requires { ⌜ Indexed (now «old_stream») (now «old_pool») (now «old_index») ⌝ }
+    ensures { λ r.
+        let cur : Rec = rec (now (stream .entry)) (now (pool .entry)) [] in
+        let rel : Rec = rec (now («old_stream» .entry)) (now («old_pool» .entry)) [] in
+        ⌜ meaning (cur .pool) (rel .pool) r
+        ≡ checkConstantArrivals (textOf (cur .pool) current) (optOf (rel .pool) copy) (constantList cur) (constantList rel) ⌝ }
 {
     let mut cursor = Cursor::new();
     loop {
         let ConstantStep::AConstant(is, after) = next_constant(stream, cursor) else {
             return Verdict::Passed;
         };
-        let verdict = check_constant_arrival(pool, past, old, index, current, copy, is);
+        let verdict = check_constant_arrival(
+            pool,
+            old_stream,
+            old_pool,
+            old_index,
+            current,
+            copy,
+            is,
+        );
         if let Verdict::Passed = verdict {
             cursor = after;
         } else {
@@ -164,15 +194,20 @@ fn is_dated(pool: &[u8], current: Text, was: Shipped, own: OptText, release: Tex
 // One value of an enum, against the copy's enum as it was looked up.
 fn check_value_arrival(
     pool: &[u8],
-    past: &[u8],
-    old: &[u8],
+    old_stream: &[u8],
+    old_pool: &[u8],
     current: Text,
     copy: OptText,
     parent: Enum,
     was: EnumStep,
     is: Value,
 ) -> Verdict
-    ensures { λ r. ⌜ meaning (now (pool .entry)) (now (old .entry)) r ≡ checkValueArrival (textOf (now (pool .entry)) current) (optOf (now (old .entry)) copy) (textOf (now (pool .entry)) (parent .name)) (optOf (now (pool .entry)) (parent .«first_release»)) (enumFound (now (past .entry)) (now (old .entry)) was) (valueOf (now (pool .entry)) is) ⌝ }
+    ensures { λ r.
+        let p : Str = now (pool .entry) in
+        let rel : Rec = rec (now («old_stream» .entry)) (now («old_pool» .entry)) [] in
+        ⌜ meaning p (rel .pool) r
+        ≡ checkValueArrival (textOf p current) (optOf (rel .pool) copy) (textOf p (parent .name)) (optOf p (parent .«first_release»))
+        (enumFound (rel .stream) (rel .pool) was) (valueOf p is) ⌝ }
 {
     let own = is.first_release;
     let since = parent.first_release;
@@ -181,11 +216,11 @@ fn check_value_arrival(
     };
     let owner = parent.name;
     let name = is.name;
-    let then = value_release(past, old, was, bytes_of(pool, name));
+    let then = value_release(old_stream, old_pool, was, bytes_of(pool, name));
     if is_dated(pool, current, then, own, release) {
         return check_arrival(
             pool,
-            old,
+            old_pool,
             current,
             copy,
             Item::Within(owner, name),
@@ -205,22 +240,37 @@ fn check_value_arrival(
 fn check_value_arrivals(
     stream: &[u8],
     pool: &[u8],
-    past: &[u8],
-    old: &[u8],
+    old_stream: &[u8],
+    old_pool: &[u8],
     current: Text,
     copy: OptText,
     parent: Enum,
     was: EnumStep,
     from: Cursor,
 ) -> Verdict
-    ensures { λ r. ⌜ meaning (now (pool .entry)) (now (old .entry)) r ≡ checkValueArrivals (textOf (now (pool .entry)) current) (optOf (now (old .entry)) copy) (textOf (now (pool .entry)) (parent .name)) (optOf (now (pool .entry)) (parent .«first_release»)) (enumFound (now (past .entry)) (now (old .entry)) was) (valuesAt (now (stream .entry)) (now (pool .entry)) (from .at)) ⌝ }
+    ensures { λ r.
+        let cur : Rec = rec (now (stream .entry)) (now (pool .entry)) [] in
+        let rel : Rec = rec (now («old_stream» .entry)) (now («old_pool» .entry)) [] in
+        ⌜ meaning (cur .pool) (rel .pool) r
+        ≡ checkValueArrivals (textOf (cur .pool) current) (optOf (rel .pool) copy) (textOf (cur .pool) (parent .name))
+        (optOf (cur .pool) (parent .«first_release»)) (enumFound (rel .stream) (rel .pool) was)
+        (valuesAt (cur .stream) (cur .pool) (from .at)) ⌝ }
 {
     let mut cursor = from;
     loop {
         let ValueStep::AValue(is, after) = next_value(stream, cursor) else {
             return Verdict::Passed;
         };
-        let verdict = check_value_arrival(pool, past, old, current, copy, parent, was, is);
+        let verdict = check_value_arrival(
+            pool,
+            old_stream,
+            old_pool,
+            current,
+            copy,
+            parent,
+            was,
+            is,
+        );
         if let Verdict::Passed = verdict {
             cursor = after;
         } else {
@@ -233,16 +283,20 @@ fn check_value_arrivals(
 fn check_enum_arrival(
     stream: &[u8],
     pool: &[u8],
-    past: &[u8],
-    old: &[u8],
-    index: &[u16],
+    old_stream: &[u8],
+    old_pool: &[u8],
+    old_index: &[u16],
     current: Text,
     copy: OptText,
     is: Enum,
     from: Cursor,
 ) -> Verdict
-    requires { ⌜ Indexed (now past) (now old) (now index) ⌝ }
-    ensures { λ r. ⌜ meaning (now (pool .entry)) (now (old .entry)) r ≡ checkEnumArrival (textOf (now (pool .entry)) current) (optOf (now (old .entry)) copy) (enumsAt (now (past .entry)) (now (old .entry)) 0) (enumOf (now (pool .entry)) is (valuesAt (now (stream .entry)) (now (pool .entry)) (from .at))) ⌝ }
+    requires { ⌜ Indexed (now «old_stream») (now «old_pool») (now «old_index») ⌝ }
+    ensures { λ r.
+        let cur : Rec = rec (now (stream .entry)) (now (pool .entry)) [] in
+        let rel : Rec = rec (now («old_stream» .entry)) (now («old_pool» .entry)) [] in
+        ⌜ meaning (cur .pool) (rel .pool) r ≡ checkEnumArrival (textOf (cur .pool) current) (optOf (rel .pool) copy) (enumList rel)
+        (enumOf (cur .pool) is (valuesAt (cur .stream) (cur .pool) (from .at))) ⌝ }
 {
     if !is.ora_api {
         return Verdict::Passed;
@@ -252,10 +306,10 @@ fn check_enum_arrival(
         return Verdict::Passed;
     };
     let name = is.name;
-    let was = api_enum(past, old, index, bytes_of(pool, name));
+    let was = api_enum(old_stream, old_pool, old_index, bytes_of(pool, name));
     let verdict = check_arrival(
         pool,
-        old,
+        old_pool,
         current,
         copy,
         Item::Enum(name),
@@ -263,7 +317,17 @@ fn check_enum_arrival(
         enum_release(was),
     );
     if let Verdict::Passed = verdict {
-        return check_value_arrivals(stream, pool, past, old, current, copy, is, was, from);
+        return check_value_arrivals(
+            stream,
+            pool,
+            old_stream,
+            old_pool,
+            current,
+            copy,
+            is,
+            was,
+            from,
+        );
     }
     verdict
 }
@@ -272,21 +336,35 @@ fn check_enum_arrival(
 fn check_enum_arrivals(
     stream: &[u8],
     pool: &[u8],
-    past: &[u8],
-    old: &[u8],
-    index: &[u16],
+    old_stream: &[u8],
+    old_pool: &[u8],
+    old_index: &[u16],
     current: Text,
     copy: OptText,
 ) -> Verdict
-    requires { ⌜ Indexed (now past) (now old) (now index) ⌝ }
-    ensures { λ r. ⌜ meaning (now (pool .entry)) (now (old .entry)) r ≡ checkEnumArrivals (textOf (now (pool .entry)) current) (optOf (now (old .entry)) copy) (enumsAt (now (stream .entry)) (now (pool .entry)) 0) (enumsAt (now (past .entry)) (now (old .entry)) 0) ⌝ }
+    requires { ⌜ Indexed (now «old_stream») (now «old_pool») (now «old_index») ⌝ }
+    ensures { λ r.
+        let cur : Rec = rec (now (stream .entry)) (now (pool .entry)) [] in
+        let rel : Rec = rec (now («old_stream» .entry)) (now («old_pool» .entry)) [] in
+        ⌜ meaning (cur .pool) (rel .pool) r
+        ≡ checkEnumArrivals (textOf (cur .pool) current) (optOf (rel .pool) copy) (enumList cur) (enumList rel) ⌝ }
 {
     let mut cursor = Cursor::new();
     loop {
         let EnumStep::AnEnum(is, after) = next_enum(stream, cursor) else {
             return Verdict::Passed;
         };
-        let verdict = check_enum_arrival(stream, pool, past, old, index, current, copy, is, after);
+        let verdict = check_enum_arrival(
+            stream,
+            pool,
+            old_stream,
+            old_pool,
+            old_index,
+            current,
+            copy,
+            is,
+            after,
+        );
         if let Verdict::Passed = verdict {
             cursor = after;
         } else {
@@ -298,42 +376,49 @@ fn check_enum_arrivals(
 // One plugin key.
 fn check_key_arrival(
     pool: &[u8],
-    past: &[u8],
-    old: &[u8],
-    index: &[u16],
+    old_stream: &[u8],
+    old_pool: &[u8],
+    old_index: &[u16],
     current: Text,
     copy: OptText,
     is: PluginKey,
 ) -> Verdict
-    requires { ⌜ Indexed (now past) (now old) (now index) ⌝ }
-    ensures { λ r. ⌜ meaning (now (pool .entry)) (now (old .entry)) r ≡ checkKeyArrival (textOf (now (pool .entry)) current) (optOf (now (old .entry)) copy) (pluginKeys (structsAt (now (past .entry)) (now (old .entry)) 0) (unstoredAt (now (past .entry)) (now (old .entry)) 0)) (keyOf (now (pool .entry)) is) ⌝ }
+    requires { ⌜ Indexed (now «old_stream») (now «old_pool») (now «old_index») ⌝ }
+    ensures { λ r.
+        let p : Str = now (pool .entry) in
+        let rel : Rec = rec (now («old_stream» .entry)) (now («old_pool» .entry)) [] in
+        ⌜ meaning p (rel .pool) r ≡ checkKeyArrival (textOf p current) (optOf (rel .pool) copy) (keyList rel) (keyOf p is) ⌝ }
 {
     let first = is.first_release;
     let names = required_text(first);
     let name = is.name;
-    let was = key_release(past, old, index, bytes_of(pool, name));
-    check_arrival(pool, old, current, copy, Item::Key(name), names, was)
+    let was = key_release(old_stream, old_pool, old_index, bytes_of(pool, name));
+    check_arrival(pool, old_pool, current, copy, Item::Key(name), names, was)
 }
 
 // The current plugin keys.
 fn check_key_arrivals(
     stream: &[u8],
     pool: &[u8],
-    past: &[u8],
-    old: &[u8],
-    index: &[u16],
+    old_stream: &[u8],
+    old_pool: &[u8],
+    old_index: &[u16],
     current: Text,
     copy: OptText,
 ) -> Verdict
-    requires { ⌜ Indexed (now past) (now old) (now index) ⌝ }
-    ensures { λ r. ⌜ meaning (now (pool .entry)) (now (old .entry)) r ≡ checkKeyArrivals (textOf (now (pool .entry)) current) (optOf (now (old .entry)) copy) (pluginKeys (structsAt (now (stream .entry)) (now (pool .entry)) 0) (unstoredAt (now (stream .entry)) (now (pool .entry)) 0)) (pluginKeys (structsAt (now (past .entry)) (now (old .entry)) 0) (unstoredAt (now (past .entry)) (now (old .entry)) 0)) ⌝ }
+    requires { ⌜ Indexed (now «old_stream») (now «old_pool») (now «old_index») ⌝ }
+    ensures { λ r.
+        let cur : Rec = rec (now (stream .entry)) (now (pool .entry)) [] in
+        let rel : Rec = rec (now («old_stream» .entry)) (now («old_pool» .entry)) [] in
+        ⌜ meaning (cur .pool) (rel .pool) r
+        ≡ checkKeyArrivals (textOf (cur .pool) current) (optOf (rel .pool) copy) (keyList cur) (keyList rel) ⌝ }
 {
     let mut at = first_key();
     loop {
         let PluginKeyStep::APluginKey(is, rest) = next_plugin_key(stream, at) else {
             return Verdict::Passed;
         };
-        let verdict = check_key_arrival(pool, past, old, index, current, copy, is);
+        let verdict = check_key_arrival(pool, old_stream, old_pool, old_index, current, copy, is);
         if let Verdict::Passed = verdict {
             at = rest;
         } else {
@@ -347,25 +432,38 @@ pub(crate) fn check_first_releases(
     stream: &[u8],
     pool: &[u8],
     ends: Ends,
-    past: &[u8],
-    old: &[u8],
-    index: &[u16],
+    old_stream: &[u8],
+    old_pool: &[u8],
+    old_index: &[u16],
     current: Text,
     copy: OptText,
 ) -> Verdict
-    requires { ⌜ EndsOf (now stream) ends × Indexed (now past) (now old) (now index) ⌝ }
-    ensures { λ r. ⌜ meaning (now (pool .entry)) (now (old .entry)) r ≡ checkFirstReleases (textOf (now (pool .entry)) current) (optOf (now (old .entry)) copy) (constantsAt (now (stream .entry)) (now (pool .entry)) 0) (constantsAt (now (past .entry)) (now (old .entry)) 0) (enumsAt (now (stream .entry)) (now (pool .entry)) 0) (enumsAt (now (past .entry)) (now (old .entry)) 0) (pluginKeys (structsAt (now (stream .entry)) (now (pool .entry)) 0) (unstoredAt (now (stream .entry)) (now (pool .entry)) 0)) (pluginKeys (structsAt (now (past .entry)) (now (old .entry)) 0) (unstoredAt (now (past .entry)) (now (old .entry)) 0)) ⌝ }
+    requires { ⌜ EndsOf (now stream) ends × Indexed (now «old_stream») (now «old_pool») (now «old_index») ⌝ }
+    ensures { λ r.
+        let cur : Rec = rec (now (stream .entry)) (now (pool .entry)) [] in
+        let rel : Rec = rec (now («old_stream» .entry)) (now («old_pool» .entry)) [] in
+        ⌜ meaning (cur .pool) (rel .pool) r
+        ≡ checkFirstReleases (textOf (cur .pool) current) (optOf (rel .pool) copy) (constantList cur) (constantList rel) (enumList cur)
+        (enumList rel) (keyList cur) (keyList rel) ⌝ }
 {
     let first = upto(stream, ends.constants);
-    let constants = check_constant_arrivals(first, pool, past, old, index, current, copy);
+    let constants = check_constant_arrivals(
+        first,
+        pool,
+        old_stream,
+        old_pool,
+        old_index,
+        current,
+        copy,
+    );
     let Verdict::Passed = constants else {
         return constants;
     };
     let second = upto(stream, ends.enums);
-    let enums = check_enum_arrivals(second, pool, past, old, index, current, copy);
+    let enums = check_enum_arrivals(second, pool, old_stream, old_pool, old_index, current, copy);
     let Verdict::Passed = enums else {
         return enums;
     };
     let third = upto(stream, ends.keys);
-    check_key_arrivals(third, pool, past, old, index, current, copy)
+    check_key_arrivals(third, pool, old_stream, old_pool, old_index, current, copy)
 }

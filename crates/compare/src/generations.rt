@@ -27,22 +27,24 @@ ghost use Prim.Native.Nat.{_≤_};
 ghost use mathlib.Core.Path.{_≡_};
 ghost use mathlib.Core.List.{List, []};
 ghost use mathlib.Core.Bool.{_&&_};
+ghost use mathlib.Core.Option.{Option};
 ghost use lib.Dec.{eqb};
 ghost use lib.ListN.{length};
 ghost use Rattle.record.specs.Base.{Str, eqs};
 ghost use Rattle.record.specs.Stretch.{textOf};
 ghost use Rattle.record.specs.Scalars.{Scalar};
 ghost use Rattle.record.specs.Lists.{optOf, constantOf};
-ghost use Rattle.record.specs.Steps.{constantsAt, constantIn, structsAt, structFound, versionsAt};
+ghost use Rattle.record.specs.Steps.{constantsAt, constantIn, structFound, versionsAt};
 ghost use Rattle.record.specs.Index.{Indexed};
 ghost use Rattle.record.specs.Owner.{withName};
-ghost use Rattle.record.specs.References.{typesAt};
-ghost use Rattle.record.specs.Reading.{rec};
+ghost use Rattle.record.specs.Reading.{Rec, rec};
 ghost use Rattle.record.specs.Versioned.{versioned, InSlots};
 ghost use Rattle.layout.specs.Table.{TypesTable};
 ghost use Rattle.definition.specs.Pass.{_then_};
-ghost use Rattle.definition.specs.Generations.{isListed, checkStill, checkRise, checkFrom, checkAgainst, checkGeneration, checkRoots, checkGenerations};
+ghost use Rattle.definition.specs.Generations.{isListed, checkStill, checkRise, checkFrom, checkAgainst, checkGenerations};
+ghost use Rattle.compare.specs.Generations.{rootsChecked};
 ghost use Rattle.compare.specs.CoverTable.{changedTypes, Changes, firstUncovered, touchedBy};
+ghost use Rattle.compare.specs.Records.{constantList, structList, versionList, typeLists};
 ghost use Rattle.verdicts.specs.Meaning.{meaning};
 
 // Whether a version entry is of this structure and number.
@@ -82,7 +84,11 @@ fn check_still(
     constant: Text,
     was: u32,
 ) -> Verdict
-    ensures { λ r. ⌜ ((q : Str) → meaning (now (pool .entry)) q r ≡ checkStill (touchedBy (now (stream .entry)) (now (pool .entry)) (now (types .entry)) (now (cover .entry)) (textOf (now (pool .entry)) root)) (textOf (now (pool .entry)) root) (textOf (now (pool .entry)) constant) was) ⌝ }
+    ensures { λ r.
+        let cur : Rec = rec (now (stream .entry)) (now (pool .entry)) [] in
+        let touched : Str → Option Str = touchedBy (cur .stream) (cur .pool) (now (types .entry)) (now (cover .entry)) in
+        ⌜ ((q : Str) → meaning (cur .pool) q r
+        ≡ checkStill (touched (textOf (cur .pool) root)) (textOf (cur .pool) root) (textOf (cur .pool) constant) was) ⌝ }
 {
     let touched = first_touched(pool, types, cover, bytes_of(pool, root));
     let Touched::Changed(handle) = touched else {
@@ -98,21 +104,35 @@ fn check_still(
     }
 }
 
+// A root with its number now, and the releases that a verdict on it names.
+pub struct Numbered {
+    pub root: Text,
+    pub constant: Text,
+    pub is: u32,
+    pub current: Text,
+    pub copy: OptText,
+}
+
 // The number of a root before and now.
 fn check_rise(
     stream: &[u8],
     pool: &[u8],
     types: &[u32],
     cover: &[u32],
-    root: Text,
-    constant: Text,
+    n: Numbered,
     was: u32,
-    is: u32,
-    current: Text,
-    copy: OptText,
 ) -> Verdict
-    ensures { λ r. ⌜ ((q : Str) → meaning (now (pool .entry)) q r ≡ checkRise (textOf (now (pool .entry)) current) (optOf q copy) (versionsAt (now (stream .entry)) (now (pool .entry)) 0) (touchedBy (now (stream .entry)) (now (pool .entry)) (now (types .entry)) (now (cover .entry)) (textOf (now (pool .entry)) root)) (textOf (now (pool .entry)) root) (textOf (now (pool .entry)) constant) was is) ⌝ }
+    ensures { λ r.
+        let cur : Rec = rec (now (stream .entry)) (now (pool .entry)) [] in
+        let name : Str = textOf (cur .pool) (n .root) in
+        let touched : Option Str = touchedBy (cur .stream) (cur .pool) (now (types .entry)) (now (cover .entry)) name in
+        ⌜ ((q : Str) → meaning (cur .pool) q r
+        ≡ checkRise (textOf (cur .pool) (n .current)) (optOf q (n .copy)) (versionList cur) touched name
+        (textOf (cur .pool) (n .constant)) was (n .is)) ⌝ }
 {
+    let constant = n.constant;
+    let root = n.root;
+    let is = n.is;
     if is < was {
         return Verdict::Fell { constant, was, is };
     }
@@ -120,6 +140,8 @@ fn check_rise(
         return check_still(stream, pool, types, cover, root, constant, was);
     }
     if is - was != 1 {
+        let copy = n.copy;
+        let current = n.current;
         return Verdict::Leapt {
             constant,
             was,
@@ -144,36 +166,28 @@ fn check_from(
     pool: &[u8],
     types: &[u32],
     cover: &[u32],
-    root: Text,
-    constant: Text,
-    is: u32,
+    n: Numbered,
     was: Constant,
-    current: Text,
-    copy: OptText,
 ) -> Verdict
-    ensures { λ r. ⌜ ((q : Str) → meaning (now (pool .entry)) q r ≡ checkFrom (textOf (now (pool .entry)) current) (optOf q copy) (versionsAt (now (stream .entry)) (now (pool .entry)) 0) (touchedBy (now (stream .entry)) (now (pool .entry)) (now (types .entry)) (now (cover .entry)) (textOf (now (pool .entry)) root)) (textOf (now (pool .entry)) root) (textOf (now (pool .entry)) constant) is (constantOf q was .value)) ⌝ }
+    ensures { λ r.
+        let cur : Rec = rec (now (stream .entry)) (now (pool .entry)) [] in
+        let name : Str = textOf (cur .pool) (n .root) in
+        let touched : Option Str = touchedBy (cur .stream) (cur .pool) (now (types .entry)) (now (cover .entry)) name in
+        ⌜ ((q : Str) → meaning (cur .pool) q r
+        ≡ checkFrom (textOf (cur .pool) (n .current)) (optOf q (n .copy)) (versionList cur) touched name
+        (textOf (cur .pool) (n .constant)) (n .is) (constantOf q was .value)) ⌝ }
 {
     if was.is_text {
         return Verdict::Passed;
     }
     if 4294967296 <= was.integer {
+        let constant = n.constant;
         return Verdict::NoGeneration {
             constant,
             was: was.integer,
         };
     }
-    check_rise(
-        stream,
-        pool,
-        types,
-        cover,
-        root,
-        constant,
-        was.integer as u32,
-        is,
-        current,
-        copy,
-    )
+    check_rise(stream, pool, types, cover, n, was.integer as u32)
 }
 
 // The number of a root against the released constant of the same name, if there is one.
@@ -181,72 +195,34 @@ fn check_against(
     stream: &[u8],
     pool: &[u8],
     types: &[u32],
-    past: &[u8],
-    old: &[u8],
+    old_stream: &[u8],
+    old_pool: &[u8],
     old_index: &[u16],
     cover: &[u32],
-    root: Text,
-    constant: Text,
-    is: u32,
-    current: Text,
-    copy: OptText,
+    n: Numbered,
 ) -> Verdict
-    requires { ⌜ Indexed (now past) (now old) (now «old_index») ⌝ }
-    ensures { λ r. ⌜ meaning (now (pool .entry)) (now (old .entry)) r ≡ checkAgainst (textOf (now (pool .entry)) current) (optOf (now (old .entry)) copy) (versionsAt (now (stream .entry)) (now (pool .entry)) 0) (touchedBy (now (stream .entry)) (now (pool .entry)) (now (types .entry)) (now (cover .entry)) (textOf (now (pool .entry)) root)) (textOf (now (pool .entry)) root) (textOf (now (pool .entry)) constant) is (constantIn (textOf (now (pool .entry)) constant) (constantsAt (now (past .entry)) (now (old .entry)) 0)) ⌝ }
+    requires { ⌜ Indexed (now «old_stream») (now «old_pool») (now «old_index») ⌝ }
+    ensures { λ r.
+        let p : Str = now (pool .entry) in
+        let q : Str = now («old_pool» .entry) in
+        let name : Str = textOf p (n .root) in
+        ⌜ meaning p q r ≡ checkAgainst (textOf p (n .current)) (optOf q (n .copy)) (versionsAt (now (stream .entry)) p 0)
+        (touchedBy (now (stream .entry)) p (now (types .entry)) (now (cover .entry)) name) name
+        (textOf p (n .constant)) (n .is) (constantIn (textOf p (n .constant)) (constantsAt (now («old_stream» .entry)) q 0)) ⌝ }
 {
-    let found = first_constant(past, old, old_index, bytes_of(pool, constant));
+    let constant = n.constant;
+    let found = first_constant(old_stream, old_pool, old_index, bytes_of(pool, constant));
     let ConstantStep::AConstant(was, _) = found else {
         return Verdict::Passed;
     };
-    check_from(
-        stream,
-        pool,
-        types,
-        cover,
-        root,
-        constant,
-        is,
-        was,
-        current,
-        copy,
-    )
+    check_from(stream, pool, types, cover, n, was)
 }
 
-// One root.
-fn check_generation(
-    stream: &[u8],
-    pool: &[u8],
-    index: &[u16],
-    types: &[u32],
-    past: &[u8],
-    old: &[u8],
-    old_index: &[u16],
-    cover: &[u32],
-    root: Text,
-    current: Text,
-    copy: OptText,
-) -> Verdict
-    requires { ⌜ Indexed (now stream) (now pool) (now index) × Indexed (now past) (now old) (now «old_index») ⌝ }
-    ensures { λ r. ⌜ meaning (now (pool .entry)) (now (old .entry)) r ≡ checkGeneration (textOf (now (pool .entry)) current) (optOf (now (old .entry)) copy) (versionsAt (now (stream .entry)) (now (pool .entry)) 0) (structsAt (now (stream .entry)) (now (pool .entry)) 0) (constantsAt (now (stream .entry)) (now (pool .entry)) 0) (constantsAt (now (past .entry)) (now (old .entry)) 0) (touchedBy (now (stream .entry)) (now (pool .entry)) (now (types .entry)) (now (cover .entry))) (textOf (now (pool .entry)) root) ⌝ }
-{
-    let held = generation_constant(stream, pool, index, bytes_of(pool, root));
-    let Generation::Held(constant, is) = held else {
-        return Verdict::NoConstant { name: root };
-    };
-    check_against(
-        stream,
-        pool,
-        types,
-        past,
-        old,
-        old_index,
-        cover,
-        root,
-        constant,
-        is,
-        current,
-        copy,
-    )
+// A slot for a root, and the releases that a verdict on its number names.
+pub struct Slot {
+    pub root: StructStep,
+    pub current: Text,
+    pub copy: OptText,
 }
 
 // The root in a slot, if one fills it.
@@ -255,34 +231,54 @@ fn check_slot(
     pool: &[u8],
     index: &[u16],
     types: &[u32],
-    past: &[u8],
-    old: &[u8],
+    old_stream: &[u8],
+    old_pool: &[u8],
     old_index: &[u16],
     cover: &[u32],
-    slot: StructStep,
-    current: Text,
-    copy: OptText,
+    slot: Slot,
 ) -> Verdict
-    requires { ⌜ Indexed (now stream) (now pool) (now index) × Indexed (now past) (now old) (now «old_index») ⌝ }
-    ensures { λ r. ⌜ meaning (now (pool .entry)) (now (old .entry)) r ≡ checkRoots (textOf (now (pool .entry)) current) (optOf (now (old .entry)) copy) (versionsAt (now (stream .entry)) (now (pool .entry)) 0) (structsAt (now (stream .entry)) (now (pool .entry)) 0) (constantsAt (now (stream .entry)) (now (pool .entry)) 0) (constantsAt (now (past .entry)) (now (old .entry)) 0) (touchedBy (now (stream .entry)) (now (pool .entry)) (now (types .entry)) (now (cover .entry))) (withName (structFound (now (stream .entry)) (now (pool .entry)) slot) []) ⌝ }
+    requires { ⌜ Indexed (now stream) (now pool) (now index) × Indexed (now «old_stream») (now «old_pool») (now «old_index») ⌝ }
+    ensures { λ r.
+        let cur : Rec = rec (now (stream .entry)) (now (pool .entry)) [] in
+        let rel : Rec = rec (now («old_stream» .entry)) (now («old_pool» .entry)) [] in
+        ⌜ meaning (cur .pool) (rel .pool) r ≡ rootsChecked cur rel (slot .current) (slot .copy) (now (types .entry)) (now (cover .entry))
+        (withName (structFound (cur .stream) (cur .pool) (slot .root)) []) ⌝ }
 {
-    let StructStep::AStruct(root, _) = slot else {
+    let filled = slot.root;
+    let StructStep::AStruct(root, _) = filled else {
         return Verdict::Passed;
     };
     let name = root.name;
-    check_generation(
-        stream,
-        pool,
-        index,
-        types,
-        past,
-        old,
-        old_index,
-        cover,
-        name,
+    let held = generation_constant(stream, pool, index, bytes_of(pool, name));
+    let Generation::Held(constant, is) = held else {
+        return Verdict::NoConstant { name };
+    };
+    let current = slot.current;
+    let copy = slot.copy;
+    let n = Numbered {
+        root: name,
+        constant,
+        is,
         current,
         copy,
+    };
+    check_against(
+        stream,
+        pool,
+        types,
+        old_stream,
+        old_pool,
+        old_index,
+        cover,
+        n,
     )
+}
+
+// The slots for the roots, and the releases that a verdict names.
+pub struct Roots {
+    pub slots: Versioned,
+    pub current: Text,
+    pub copy: OptText,
 }
 
 // The roots in the order of their slots.
@@ -291,64 +287,80 @@ fn check_roots(
     pool: &[u8],
     index: &[u16],
     types: &[u32],
-    past: &[u8],
-    old: &[u8],
+    old_stream: &[u8],
+    old_pool: &[u8],
     old_index: &[u16],
     cover: &[u32],
-    slots: Versioned,
-    current: Text,
-    copy: OptText,
+    roots: Roots,
 ) -> Verdict
-    requires { ⌜ InSlots (now stream) (now pool) slots × Indexed (now stream) (now pool) (now index) × Indexed (now past) (now old) (now «old_index») ⌝ }
-    ensures { λ r. ⌜ meaning (now (pool .entry)) (now (old .entry)) r ≡ checkRoots (textOf (now (pool .entry)) current) (optOf (now (old .entry)) copy) (versionsAt (now (stream .entry)) (now (pool .entry)) 0) (structsAt (now (stream .entry)) (now (pool .entry)) 0) (constantsAt (now (stream .entry)) (now (pool .entry)) 0) (constantsAt (now (past .entry)) (now (old .entry)) 0) (touchedBy (now (stream .entry)) (now (pool .entry)) (now (types .entry)) (now (cover .entry))) (versioned (structsAt (now (stream .entry)) (now (pool .entry)) 0)) ⌝ }
+    requires { ⌜ InSlots (now stream) (now pool) (roots .slots)
+        × Indexed (now stream) (now pool) (now index)
+        × Indexed (now «old_stream») (now «old_pool») (now «old_index») ⌝ }
+    ensures { λ r.
+        let cur : Rec = rec (now (stream .entry)) (now (pool .entry)) [] in
+        let rel : Rec = rec (now («old_stream» .entry)) (now («old_pool» .entry)) [] in
+        ⌜ meaning (cur .pool) (rel .pool) r
+        ≡ rootsChecked cur rel (roots .current) (roots .copy) (now (types .entry)) (now (cover .entry)) (versioned (structList cur)) ⌝ }
 {
+    let slots = roots.slots;
+    let current = roots.current;
+    let copy = roots.copy;
     let first = slots.info;
     let second = slots.metadata;
     let third = slots.runtime;
+    let slot = Slot {
+        root: first,
+        current,
+        copy,
+    };
     let info = check_slot(
         stream,
         pool,
         index,
         types,
-        past,
-        old,
+        old_stream,
+        old_pool,
         old_index,
         cover,
-        first,
-        current,
-        copy,
+        slot,
     );
     let Verdict::Passed = info else {
         return info;
+    };
+    let slot = Slot {
+        root: second,
+        current,
+        copy,
     };
     let metadata = check_slot(
         stream,
         pool,
         index,
         types,
-        past,
-        old,
+        old_stream,
+        old_pool,
         old_index,
         cover,
-        second,
-        current,
-        copy,
+        slot,
     );
     let Verdict::Passed = metadata else {
         return metadata;
+    };
+    let slot = Slot {
+        root: third,
+        current,
+        copy,
     };
     check_slot(
         stream,
         pool,
         index,
         types,
-        past,
-        old,
+        old_stream,
+        old_pool,
         old_index,
         cover,
-        third,
-        current,
-        copy,
+        slot,
     )
 }
 
@@ -358,16 +370,21 @@ fn check_filled(
     pool: &[u8],
     index: &[u16],
     types: &[u32],
-    past: &[u8],
-    old: &[u8],
+    old_stream: &[u8],
+    old_pool: &[u8],
     old_index: &[u16],
     cover: &[u32],
-    slots: Versioned,
-    current: Text,
-    copy: OptText,
+    roots: Roots,
 ) -> Verdict
-    requires { ⌜ InSlots (now stream) (now pool) slots × Indexed (now stream) (now pool) (now index) × Indexed (now past) (now old) (now «old_index») ⌝ }
-    ensures { λ r. ⌜ meaning (now (pool .entry)) (now (old .entry)) r ≡ (meaning (now (pool .entry)) (now (old .entry)) (firstUncovered (now (stream .entry)) (now (types .entry)) (now (cover .entry))) then checkRoots (textOf (now (pool .entry)) current) (optOf (now (old .entry)) copy) (versionsAt (now (stream .entry)) (now (pool .entry)) 0) (structsAt (now (stream .entry)) (now (pool .entry)) 0) (constantsAt (now (stream .entry)) (now (pool .entry)) 0) (constantsAt (now (past .entry)) (now (old .entry)) 0) (touchedBy (now (stream .entry)) (now (pool .entry)) (now (types .entry)) (now (cover .entry))) (versioned (structsAt (now (stream .entry)) (now (pool .entry)) 0))) ⌝ }
+    requires { ⌜ InSlots (now stream) (now pool) (roots .slots)
+        × Indexed (now stream) (now pool) (now index)
+        × Indexed (now «old_stream») (now «old_pool») (now «old_index») ⌝ }
+    ensures { λ r.
+        let cur : Rec = rec (now (stream .entry)) (now (pool .entry)) [] in
+        let rel : Rec = rec (now («old_stream» .entry)) (now («old_pool» .entry)) [] in
+        ⌜ meaning (cur .pool) (rel .pool) r
+        ≡ (meaning (cur .pool) (rel .pool) (firstUncovered (cur .stream) (now (types .entry)) (now (cover .entry)))
+        then rootsChecked cur rel (roots .current) (roots .copy) (now (types .entry)) (now (cover .entry)) (versioned (structList cur))) ⌝ }
 {
     let covered = check_covered(stream, types, cover);
     let Verdict::Passed = covered else {
@@ -378,13 +395,11 @@ fn check_filled(
         pool,
         index,
         types,
-        past,
-        old,
+        old_stream,
+        old_pool,
         old_index,
         cover,
-        slots,
-        current,
-        copy,
+        roots,
     )
 }
 
@@ -395,31 +410,44 @@ pub(crate) fn check_generations(
     pool: &[u8],
     index: &[u16],
     types: &[u32],
-    past: &[u8],
-    old: &[u8],
+    old_stream: &[u8],
+    old_pool: &[u8],
     old_index: &[u16],
     marks: &mut [u8],
     cover: &mut [u32],
     current: Text,
     copy: OptText,
 ) -> Verdict
-    requires { ⌜ TypesTable (now stream) (now pool) (now types) × (length (now stream) ≤ length (now marks)) × (length (now types) ≤ length (now cover)) × Indexed (now stream) (now pool) (now index) × Indexed (now past) (now old) (now «old_index») ⌝ }
-    ensures { λ r. ⌜ ((w : List Scalar) → Changes (rec (now (stream .entry)) (now (pool .entry)) w) (rec (now (past .entry)) (now (old .entry)) w) (now (types .entry)) (now (cover .entry)) → meaning (now (pool .entry)) (now (old .entry)) r ≡ checkGenerations (textOf (now (pool .entry)) current) (optOf (now (old .entry)) copy) (versionsAt (now (stream .entry)) (now (pool .entry)) 0) (typesAt (now (stream .entry)) (now (pool .entry))) (constantsAt (now (stream .entry)) (now (pool .entry)) 0) (constantsAt (now (past .entry)) (now (old .entry)) 0) (changedTypes (rec (now (stream .entry)) (now (pool .entry)) w) (rec (now (past .entry)) (now (old .entry)) w))) ⌝ }
+    requires { ⌜ TypesTable (now stream) (now pool) (now types)
+        × (length (now stream) ≤ length (now marks))
+        × (length (now types) ≤ length (now cover))
+        × Indexed (now stream) (now pool) (now index)
+        × Indexed (now «old_stream») (now «old_pool») (now «old_index») ⌝ }
+    ensures { λ r. ⌜ ((w : List Scalar)
+        → (let cur : Rec = rec (now (stream .entry)) (now (pool .entry)) w in
+        let rel : Rec = rec (now («old_stream» .entry)) (now («old_pool» .entry)) w in
+        Changes cur rel (now (types .entry)) (now (cover .entry))
+        → meaning (cur .pool) (rel .pool) r
+        ≡ checkGenerations (textOf (cur .pool) current) (optOf (rel .pool) copy) (versionList cur) (typeLists cur) (constantList cur)
+        (constantList rel) (changedTypes cur rel))) ⌝ }
 {
     let slots = versioned_structs(stream, pool);
     mark_owners(stream, pool, slots, index, marks);
     fill_cover(stream, pool, types, slots, marks, index, cover);
+    let roots = Roots {
+        slots,
+        current,
+        copy,
+    };
     check_filled(
         stream,
         pool,
         index,
         types,
-        past,
-        old,
+        old_stream,
+        old_pool,
         old_index,
         cover,
-        slots,
-        current,
-        copy,
+        roots,
     )
 }

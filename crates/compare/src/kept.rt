@@ -13,17 +13,19 @@ use record::sizes::sum;
 ghost use Prim.Native.Nat.{_≤_};
 ghost use mathlib.Core.Path.{_≡_};
 ghost use mathlib.Core.Bool.{true, false};
+ghost use mathlib.Core.List.{[]};
 ghost use lib.ListN.{length, getD};
-ghost use Rattle.record.specs.Commands.{place};
-ghost use Rattle.layout.specs.Spots.{cursorAt, OthersPassed};
+ghost use Rattle.record.specs.Reading.{Rec, rec};
+ghost use Rattle.layout.specs.Spots.{OthersPassed};
 ghost use Rattle.compare.specs.Near.{keyOf};
-ghost use Rattle.compare.specs.Alike.{AlikePassed};
-ghost use Rattle.compare.specs.Kept.{Kept, Noted, Noting, keptFrom};
+ghost use Rattle.compare.specs.Alike.{bodyAt};
+ghost use Rattle.compare.specs.Kept.{KeptPassed, Noted, Noting, keptFrom};
 
 // Notes the number of a name; answers whether it was noted before.
 fn note(seen: &mut [u8], name: &[u8]) -> bool
     requires { ⌜ 1024 ≤ length (now seen) ⌝ }
-    ensures { λ r. ⌜ Noting (now (seen .entry)) (now (name .entry)) (now (seen .exit)) × (r ≡ false → getD (now (seen .entry)) (keyOf (now (name .entry))) 0 ≡ 0) ⌝ }
+    ensures { λ r. ⌜ Noting (now (seen .entry)) (now (name .entry)) (now (seen .exit))
+        × (r ≡ false → getD (now (seen .entry)) (keyOf (now (name .entry))) 0 ≡ 0) ⌝ }
 {
     let key = key_of(name);
     if seen[key] != 0 {
@@ -43,7 +45,10 @@ fn leads(
     at: usize,
     offset: u64,
 ) -> bool
-    ensures { λ r. ⌜ (r ≡ true → OthersPassed (now (stream .entry)) (now (pool .entry)) (now (sizes .entry)) (now (name .entry)) front (cursorAt (Ahead.Body (place at)) offset)) ⌝ }
+    ensures { λ r.
+        let cur : Rec = rec (now (stream .entry)) (now (pool .entry)) [] in
+        ⌜ (r ≡ true
+        → OthersPassed (cur .stream) (cur .pool) (now (sizes .entry)) (now (name .entry)) front (bodyAt at offset)) ⌝ }
 {
     let c = pass_others(stream, pool, sizes, front, name);
     let ahead = c.ahead;
@@ -56,7 +61,7 @@ fn leads(
     c.offset == offset
 }
 
-// The same, by the numbers noted so far; the name's is noted.
+// Whether no field before a place has this name, by the numbers noted so far first; notes the name's number.
 fn is_first(
     stream: &[u8],
     pool: &[u8],
@@ -68,7 +73,11 @@ fn is_first(
     offset: u64,
 ) -> bool
     requires { ⌜ Noted (now stream) (now pool) (now sizes) front (now seen) at offset × (1024 ≤ length (now seen)) ⌝ }
-    ensures { λ r. ⌜ Noting (now (seen .entry)) (now (name .entry)) (now (seen .exit)) × (r ≡ true → OthersPassed (now (stream .entry)) (now (pool .entry)) (now (sizes .entry)) (now (name .entry)) front (cursorAt (Ahead.Body (place at)) offset)) ⌝ }
+    ensures { λ r.
+        let cur : Rec = rec (now (stream .entry)) (now (pool .entry)) [] in
+        ⌜ Noting (now (seen .entry)) (now (name .entry)) (now (seen .exit))
+        × (r ≡ true
+        → OthersPassed (cur .stream) (cur .pool) (now (sizes .entry)) (now (name .entry)) front (bodyAt at offset)) ⌝ }
 {
     if note(seen, name) {
         return leads(stream, pool, sizes, front, name, at, offset);
@@ -76,68 +85,93 @@ fn is_first(
     true
 }
 
+// Where two types are compared: the front of the current one, the places of the next fields of both and their offset.
+pub struct Walk {
+    pub front: SpotCursor,
+    pub at: usize,
+    pub to: usize,
+    pub offset: u64,
+}
+
 // The next fields of two types at one offset, where they are alike and the current one is the first of its name.
 fn next_kept(
     stream: &[u8],
     pool: &[u8],
     sizes: &[u64],
-    front: SpotCursor,
     seen: &mut [u8],
-    at: usize,
-    past: &[u8],
-    old: &[u8],
-    widths: &[u64],
-    to: usize,
-    offset: u64,
+    old_stream: &[u8],
+    old_pool: &[u8],
+    old_sizes: &[u64],
+    walk: Walk,
 ) -> AlikeStep
-    requires { ⌜ Noted (now stream) (now pool) (now sizes) front (now seen) at offset × (1024 ≤ length (now seen)) ⌝ }
-    ensures { λ r. ⌜ keptFrom (now (stream .entry)) (now (pool .entry)) (now (sizes .entry)) front (now (seen .exit)) at (now (past .entry)) (now (old .entry)) (now (widths .entry)) to offset r ⌝ }
+    requires { ⌜ Noted (now stream) (now pool) (now sizes) (walk .front) (now seen) (walk .at) (walk .offset) × (1024 ≤ length (now seen)) ⌝ }
+    ensures { λ r.
+        let cur : Rec = rec (now (stream .entry)) (now (pool .entry)) [] in
+        let rel : Rec = rec (now («old_stream» .entry)) (now («old_pool» .entry)) [] in
+        ⌜ keptFrom (cur .stream) (cur .pool) (now (sizes .entry)) (walk .front) (now (seen .exit)) (walk .at)
+        (rel .stream) (rel .pool) (now («old_sizes» .entry)) (walk .to) (walk .offset) r ⌝ }
 {
-    let step = next_alike(stream, pool, sizes, at, past, old, widths, to);
+    let step = next_alike(
+        stream,
+        pool,
+        sizes,
+        walk.at,
+        old_stream,
+        old_pool,
+        old_sizes,
+        walk.to,
+    );
     let AlikeStep::Alike(place, after, next, size) = step else {
         return AlikeStep::Differ;
     };
     let name = name_at(stream, pool, place);
-    if is_first(stream, pool, sizes, front, seen, name, at, offset) {
+    let front = walk.front;
+    if is_first(stream, pool, sizes, front, seen, name, walk.at, walk.offset) {
         return AlikeStep::Alike(place, after, next, size);
     }
     AlikeStep::Differ
 }
 
 // What is ahead of two types without the fields at their fronts that are alike and kept, from two places on; seen has room for the numbers of names.
-fn pass_fields(
+fn pass_kept_fields(
     stream: &[u8],
     pool: &[u8],
     sizes: &[u64],
-    front: SpotCursor,
     seen: &mut [u8],
-    from: usize,
-    past: &[u8],
-    old: &[u8],
-    widths: &[u64],
-    other: usize,
-    start: u64,
+    old_stream: &[u8],
+    old_pool: &[u8],
+    old_sizes: &[u64],
+    from: Walk,
 ) -> Both
-    requires { ⌜ Noted (now stream) (now pool) (now sizes) front (now seen) from start × (1024 ≤ length (now seen)) ⌝ }
-    ensures { λ r. ⌜ Kept (now (stream .entry)) (now (pool .entry)) (now (sizes .entry)) front (now (past .entry)) (now (old .entry)) (now (widths .entry)) (cursorAt (Ahead.Body (place other)) start) (r .was) × AlikePassed (now (stream .entry)) (now (pool .entry)) (now (sizes .entry)) (now (past .entry)) (now (old .entry)) (now (widths .entry)) (cursorAt (Ahead.Body (place from)) start) (cursorAt (Ahead.Body (place other)) start) (r .is) (r .was) ⌝ }
+    requires { ⌜ Noted (now stream) (now pool) (now sizes) (from .front) (now seen) (from .at) (from .offset) × (1024 ≤ length (now seen)) ⌝ }
+    ensures { λ r.
+        let cur : Rec = rec (now (stream .entry)) (now (pool .entry)) [] in
+        let rel : Rec = rec (now («old_stream» .entry)) (now («old_pool» .entry)) [] in
+        ⌜ KeptPassed (cur .stream) (cur .pool) (now (sizes .entry)) (rel .stream) (rel .pool) (now («old_sizes» .entry))
+        (from .front) (bodyAt (from .at) (from .offset)) (bodyAt (from .to) (from .offset)) r ⌝ }
 {
-    let mut at = from;
-    let mut to = other;
-    let mut offset = start;
+    let mut at = from.at;
+    let mut to = from.to;
+    let mut offset = from.offset;
     loop {
-        let AlikeStep::Alike(_, after, next, size) = next_kept(
+        let front = from.front;
+        let walk = Walk {
+            front,
+            at,
+            to,
+            offset,
+        };
+        let step = next_kept(
             stream,
             pool,
             sizes,
-            front,
             seen,
-            at,
-            past,
-            old,
-            widths,
-            to,
-            offset,
-        ) else {
+            old_stream,
+            old_pool,
+            old_sizes,
+            walk,
+        );
+        let AlikeStep::Alike(_, after, next, size) = step else {
             return bodies_at(at, to, offset);
         };
         offset = sum(offset, size);
@@ -146,18 +180,21 @@ fn pass_fields(
     }
 }
 
-// The same from two cursors on; the front of a family is not passed over.
+// What is ahead of two types without those fields, from two cursors on; before the front of a family none is passed over.
 pub(crate) fn pass_kept(
     stream: &[u8],
     pool: &[u8],
     sizes: &[u64],
     is: SpotCursor,
-    past: &[u8],
-    old: &[u8],
-    widths: &[u64],
+    old_stream: &[u8],
+    old_pool: &[u8],
+    old_sizes: &[u64],
     was: SpotCursor,
 ) -> Both
-    ensures { λ r. ⌜ Kept (now (stream .entry)) (now (pool .entry)) (now (sizes .entry)) is (now (past .entry)) (now (old .entry)) (now (widths .entry)) was (r .was) × AlikePassed (now (stream .entry)) (now (pool .entry)) (now (sizes .entry)) (now (past .entry)) (now (old .entry)) (now (widths .entry)) is was (r .is) (r .was) ⌝ }
+    ensures { λ r.
+        let cur : Rec = rec (now (stream .entry)) (now (pool .entry)) [] in
+        let rel : Rec = rec (now («old_stream» .entry)) (now («old_pool» .entry)) [] in
+        ⌜ KeptPassed (cur .stream) (cur .pool) (now (sizes .entry)) (rel .stream) (rel .pool) (now («old_sizes» .entry)) is is was r ⌝ }
 {
     let ahead = is.ahead;
     let Ahead::Body(k) = ahead else {
@@ -171,17 +208,20 @@ pub(crate) fn pass_kept(
         return Both { is, was };
     }
     let mut seen = [0u8; 1024];
-    pass_fields(
+    let walk = Walk {
+        front: is,
+        at: k.at,
+        to: l.at,
+        offset: is.offset,
+    };
+    pass_kept_fields(
         stream,
         pool,
         sizes,
-        is,
         &mut seen,
-        k.at,
-        past,
-        old,
-        widths,
-        l.at,
-        is.offset,
+        old_stream,
+        old_pool,
+        old_sizes,
+        walk,
     )
 }

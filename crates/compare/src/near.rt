@@ -12,10 +12,11 @@ use record::seek::seek;
 use record::sizes::sum;
 ghost use Prim.Native.Nat.{_-_, _≤_, _<_};
 ghost use mathlib.Core.Path.{_≡_};
+ghost use mathlib.Core.List.{[]};
 ghost use lib.ListN.{length, getD};
-ghost use Rattle.record.specs.Commands.{place};
 ghost use Rattle.record.specs.Marks.{Clear};
-ghost use Rattle.layout.specs.Spots.{cursorAt};
+ghost use Rattle.record.specs.Reading.{Rec, rec};
+ghost use Rattle.compare.specs.Alike.{bodyAt};
 ghost use Rattle.compare.specs.Near.{keyOf, Near, NearPut, NearSpot};
 
 // A byte as a larger number.
@@ -47,7 +48,7 @@ pub(crate) fn key_of(name: &[u8]) -> usize
 }
 
 // An entry of the table; past its end 0, which says nothing.
-fn entry_at(table: &[u64], i: usize) -> u64
+fn near_entry(table: &[u64], i: usize) -> u64
     ensures { λ r. ⌜ r ≡ getD (now (table .entry)) i 0 ⌝ }
 {
     if i < table.len() { table[i] } else { 0 }
@@ -57,7 +58,7 @@ fn entry_at(table: &[u64], i: usize) -> u64
 pub(crate) fn near_spot(table: &[u64], c: SpotCursor, name: &[u8]) -> SpotCursor
     ensures { λ r. ⌜ NearSpot (now (table .entry)) c (now (name .entry)) r ⌝ }
 {
-    let entry = entry_at(table, key_of(name));
+    let entry = near_entry(table, key_of(name));
     if entry == 0 {
         return c;
     }
@@ -93,7 +94,9 @@ fn fill_fields(
     table: &mut [u64],
 )
     requires { ⌜ Clear (now table) × (1024 ≤ length (now table)) ⌝ }
-    ensures { λ _. ⌜ Near (now (stream .entry)) (now (pool .entry)) (now (sizes .entry)) (cursorAt (Ahead.Body (place from)) start) (now (table .exit)) ⌝ }
+    ensures { λ _.
+        let cur : Rec = rec (now (stream .entry)) (now (pool .entry)) [] in
+        ⌜ Near (cur .stream) (cur .pool) (now (sizes .entry)) (bodyAt from start) (now (table .exit)) ⌝ }
 {
     let mut at = from;
     let mut offset = start;

@@ -11,6 +11,7 @@ ghost use mathlib.Core.Path.{_≡_};
 ghost use Rattle.record.specs.Release.{releaseParts, firstNaming};
 ghost use Rattle.record.specs.Stretch.{textOf};
 ghost use Rattle.record.specs.Lists.{optOf};
+ghost use Rattle.record.specs.Base.{Str};
 ghost use Rattle.definition.specs.ReleaseOrder.{checkEarlier, checkReleaseOrder};
 ghost use Rattle.verdicts.specs.Meaning.{meaning};
 
@@ -26,10 +27,13 @@ fn first_naming() -> Release
 }
 
 // The copy's release against the current one, whose numbers are known.
-fn check_earlier(pool: &[u8], old: &[u8], current: Text, is: Release, was: Text) -> Verdict
-    ensures { λ r. ⌜ meaning (now (pool .entry)) (now (old .entry)) r ≡ checkEarlier (textOf (now (pool .entry)) current) is (textOf (now (old .entry)) was) (releaseParts (textOf (now (old .entry)) was)) ⌝ }
+fn check_earlier(pool: &[u8], old_pool: &[u8], current: Text, is: Release, was: Text) -> Verdict
+    ensures { λ r.
+        let p : Str = now (pool .entry) in
+        let q : Str = now («old_pool» .entry) in
+        ⌜ meaning p q r ≡ checkEarlier (textOf p current) is (textOf q was) (releaseParts (textOf q was)) ⌝ }
 {
-    let ReleaseParts::Parts(then) = release_parts(bytes_of(old, was)) else {
+    let ReleaseParts::Parts(then) = release_parts(bytes_of(old_pool, was)) else {
         return Verdict::WasUnreadable { was };
     };
     if earlier(then, is) {
@@ -39,14 +43,17 @@ fn check_earlier(pool: &[u8], old: &[u8], current: Text, is: Release, was: Text)
 }
 
 // The current record's release, and the copy's if it names one.
-pub fn check_release_order(pool: &[u8], old: &[u8], current: Text, copy: OptText) -> Verdict
-    ensures { λ r. ⌜ meaning (now (pool .entry)) (now (old .entry)) r ≡ checkReleaseOrder (textOf (now (pool .entry)) current) (optOf (now (old .entry)) copy) ⌝ }
+pub fn check_release_order(pool: &[u8], old_pool: &[u8], current: Text, copy: OptText) -> Verdict
+    ensures { λ r.
+        let p : Str = now (pool .entry) in
+        let q : Str = now («old_pool» .entry) in
+        ⌜ meaning p q r ≡ checkReleaseOrder (textOf p current) (optOf q copy) ⌝ }
 {
     let ReleaseParts::Parts(is) = release_parts(bytes_of(pool, current)) else {
         return Verdict::NowUnreadable { current };
     };
     if let OptText::Given(was) = copy {
-        return check_earlier(pool, old, current, is, was);
+        return check_earlier(pool, old_pool, current, is, was);
     }
     if earlier(is, first_naming()) {
         return Verdict::BeforeNaming { current };

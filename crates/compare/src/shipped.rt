@@ -1,5 +1,4 @@
 // What the copy of the last release says of one item of the plugin API. Of two of one name the later counts, and one outside the plugin API does not.
-// The index is the copy's.
 use record::dates::member_release;
 use record::keys::StoredStep;
 use record::keys::first_stored;
@@ -17,11 +16,13 @@ use record::text::bytes_of;
 use record::text::same;
 ghost use mathlib.Core.Path.{_≡_};
 ghost use mathlib.Core.List.{[]};
-ghost use Rattle.record.specs.Steps.{constantsAt, structsAt, unstoredAt, enumFound};
+ghost use Rattle.record.specs.Steps.{enumFound};
 ghost use Rattle.record.specs.Index.{Indexed};
 ghost use Rattle.record.specs.Keys.{pluginKeys};
+ghost use Rattle.record.specs.Reading.{Rec, rec};
 ghost use Rattle.definition.specs.FirstReleases.{constantRelease, valueRelease, keyRelease};
 ghost use Rattle.compare.specs.Shipped.{shippedOf, ShippedWith, EnumShipped};
+ghost use Rattle.compare.specs.Records.{constantList, structList, keyList};
 
 pub enum Shipped {
     // The copy has no such item: it arrives now.
@@ -43,11 +44,18 @@ pub fn shipped_with(release: OptText) -> Shipped
 }
 
 // What the copy says of a constant.
-pub(crate) fn constant_release(past: &[u8], old: &[u8], index: &[u16], name: &[u8]) -> Shipped
-    requires { ⌜ Indexed (now past) (now old) (now index) ⌝ }
-    ensures { λ r. ⌜ shippedOf (now (old .entry)) r ≡ constantRelease (now (name .entry)) (constantsAt (now (past .entry)) (now (old .entry)) 0) ⌝ }
+pub(crate) fn constant_release(
+    old_stream: &[u8],
+    old_pool: &[u8],
+    old_index: &[u16],
+    name: &[u8],
+) -> Shipped
+    requires { ⌜ Indexed (now «old_stream») (now «old_pool») (now «old_index») ⌝ }
+    ensures { λ r.
+        let rel : Rec = rec (now («old_stream» .entry)) (now («old_pool» .entry)) [] in
+        ⌜ shippedOf (rel .pool) r ≡ constantRelease (now (name .entry)) (constantList rel) ⌝ }
 {
-    let ConstantStep::AConstant(c, _) = api_constant(past, old, index, name) else {
+    let ConstantStep::AConstant(c, _) = api_constant(old_stream, old_pool, old_index, name) else {
         return Shipped::Absent;
     };
     let release = c.first_release;
@@ -66,13 +74,15 @@ pub fn enum_release(was: EnumStep) -> Shipped
 }
 
 // What the copy says of a value of an enum that was looked up there: the value's own release, else its enum's.
-pub fn value_release(past: &[u8], old: &[u8], was: EnumStep, name: &[u8]) -> Shipped
-    ensures { λ r. ⌜ shippedOf (now (old .entry)) r ≡ valueRelease (enumFound (now (past .entry)) (now (old .entry)) was) (now (name .entry)) ⌝ }
+pub fn value_release(old_stream: &[u8], old_pool: &[u8], was: EnumStep, name: &[u8]) -> Shipped
+    ensures { λ r.
+        let rel : Rec = rec (now («old_stream» .entry)) (now («old_pool» .entry)) [] in
+        ⌜ shippedOf (rel .pool) r ≡ valueRelease (enumFound (rel .stream) (rel .pool) was) (now (name .entry)) ⌝ }
 {
     let EnumStep::AnEnum(e, from) = was else {
         return Shipped::Absent;
     };
-    let ValueStep::AValue(v, _) = find_value(past, old, from, name) else {
+    let ValueStep::AValue(v, _) = find_value(old_stream, old_pool, from, name) else {
         return Shipped::Absent;
     };
     let own = v.first_release;
@@ -81,32 +91,41 @@ pub fn value_release(past: &[u8], old: &[u8], was: EnumStep, name: &[u8]) -> Shi
 }
 
 // What the copy says of a plugin key by structures' fields alone.
-fn stored_release(past: &[u8], old: &[u8], name: &[u8]) -> Shipped
-    ensures { λ r. ⌜ shippedOf (now (old .entry)) r ≡ keyRelease (now (name .entry)) (pluginKeys (structsAt (now (past .entry)) (now (old .entry)) 0) []) ⌝ }
+fn stored_release(old_stream: &[u8], old_pool: &[u8], name: &[u8]) -> Shipped
+    ensures { λ r.
+        let rel : Rec = rec (now («old_stream» .entry)) (now («old_pool» .entry)) [] in
+        ⌜ shippedOf (rel .pool) r ≡ keyRelease (now (name .entry)) (pluginKeys (structList rel) []) ⌝ }
 {
     let mut found = Shipped::Absent;
     let mut at = first_stored();
     loop {
-        let StoredStep::AStored(k, rest) = next_stored_key(past, at) else {
+        let StoredStep::AStored(k, rest) = next_stored_key(old_stream, at) else {
             return found;
         };
         at = rest;
         let own = k.name;
         let release = k.first_release;
-        if same(bytes_of(old, own), name) {
+        if same(bytes_of(old_pool, own), name) {
             found = shipped_with(release);
         }
     }
 }
 
 // What the copy says of a plugin key: the unstored ones come after those of fields, so the last of them counts first.
-pub(crate) fn key_release(past: &[u8], old: &[u8], index: &[u16], name: &[u8]) -> Shipped
-    requires { ⌜ Indexed (now past) (now old) (now index) ⌝ }
-    ensures { λ r. ⌜ shippedOf (now (old .entry)) r ≡ keyRelease (now (name .entry)) (pluginKeys (structsAt (now (past .entry)) (now (old .entry)) 0) (unstoredAt (now (past .entry)) (now (old .entry)) 0)) ⌝ }
+pub(crate) fn key_release(
+    old_stream: &[u8],
+    old_pool: &[u8],
+    old_index: &[u16],
+    name: &[u8],
+) -> Shipped
+    requires { ⌜ Indexed (now «old_stream») (now «old_pool») (now «old_index») ⌝ }
+    ensures { λ r.
+        let rel : Rec = rec (now («old_stream» .entry)) (now («old_pool» .entry)) [] in
+        ⌜ shippedOf (rel .pool) r ≡ keyRelease (now (name .entry)) (keyList rel) ⌝ }
 {
-    if let UnstoredStep::AnUnstored(k, _) = last_unstored(past, old, index, name) {
+    if let UnstoredStep::AnUnstored(k, _) = last_unstored(old_stream, old_pool, old_index, name) {
         let release = k.first_release;
         return shipped_with(release);
     }
-    stored_release(past, old, name)
+    stored_release(old_stream, old_pool, name)
 }

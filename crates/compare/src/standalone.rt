@@ -20,21 +20,23 @@ use record::text::Text;
 use record::text::bytes_of;
 use verdicts::verdict::Verdict;
 ghost use mathlib.Core.Path.{_≡_};
-ghost use mathlib.Core.List.{_∷_};
+ghost use mathlib.Core.List.{_∷_, []};
 ghost use Rattle.record.specs.Stretch.{textOf};
 ghost use Rattle.record.specs.Scalars.{scalarsOf};
 ghost use Rattle.record.specs.Lists.{optOf, familyOf};
-ghost use Rattle.record.specs.Steps.{fieldsAt, variantsAt, familiesAt};
-ghost use Rattle.record.specs.Reading.{rec};
+ghost use Rattle.record.specs.Steps.{fieldsAt, variantsAt};
+ghost use Rattle.record.specs.Reading.{Rec, rec};
 ghost use Rattle.record.specs.Read.{Exact};
+ghost use Rattle.record.specs.Base.{Str};
 ghost use Rattle.layout.specs.Names.{nameOf};
 ghost use Rattle.layout.specs.Table.{TypesTable};
 ghost use Rattle.layout.specs.FieldSizes.{SizesTable};
-ghost use Rattle.layout.specs.Spots.{placesFrom, Sound};
+ghost use Rattle.layout.specs.Spots.{placesFrom, SoundCursor};
 ghost use Rattle.layout.specs.Tables.{Tables};
 ghost use Rattle.compare.specs.Layouts.{typesOf};
 ghost use Rattle.definition.specs.Standalone.{variantNames, gained, checkShippedAll, checkStanding, checkFamily, checkStandalone};
 ghost use Rattle.compare.specs.Pairs.{checkPair, pairTyped, PairFound};
+ghost use Rattle.compare.specs.Records.{familyList};
 ghost use Rattle.verdicts.specs.Meaning.{meaning};
 
 // The name of the first field from one cursor on that none from another on has.
@@ -44,13 +46,18 @@ fn gained(
     pool: &[u8],
     sizes: &[u64],
     is: SpotCursor,
-    past: &[u8],
-    old: &[u8],
-    widths: &[u64],
+    old_stream: &[u8],
+    old_pool: &[u8],
+    old_sizes: &[u64],
     was: SpotCursor,
 ) -> OptText
-    requires { ⌜ Sound (rec (now stream) (now pool) (scalarsOf (now rows))) (now sizes) is × Sound (rec (now past) (now old) (scalarsOf (now rows))) (now widths) was ⌝ }
-    ensures { λ r. ⌜ optOf (now (pool .entry)) r ≡ gained (placesFrom (rec (now (stream .entry)) (now (pool .entry)) (scalarsOf (now (rows .entry)))) is) (placesFrom (rec (now (past .entry)) (now (old .entry)) (scalarsOf (now (rows .entry)))) was) ⌝ }
+    requires { let cur : Rec = rec (now stream) (now pool) (scalarsOf (now rows)) in
+        let rel : Rec = rec (now «old_stream») (now «old_pool») (scalarsOf (now rows)) in
+        ⌜ SoundCursor cur (now sizes) is × SoundCursor rel (now «old_sizes») was ⌝ }
+    ensures { λ r.
+        let cur : Rec = rec (now (stream .entry)) (now (pool .entry)) (scalarsOf (now (rows .entry))) in
+        let rel : Rec = rec (now («old_stream» .entry)) (now («old_pool» .entry)) (scalarsOf (now (rows .entry))) in
+        ⌜ optOf (cur .pool) r ≡ gained (placesFrom cur is) (placesFrom rel was) ⌝ }
 {
     let mut cursor = is;
     loop {
@@ -58,7 +65,14 @@ fn gained(
             return OptText::Absent;
         };
         let name = x.name;
-        let found = find_spot(rows, past, old, widths, was, bytes_of(pool, name));
+        let found = find_spot(
+            rows,
+            old_stream,
+            old_pool,
+            old_sizes,
+            was,
+            bytes_of(pool, name),
+        );
         let SpotStep::ASpot(_, _) = found else {
             return OptText::Given(name);
         };
@@ -77,19 +91,22 @@ fn find_both(
     stream: &[u8],
     pool: &[u8],
     types: &[u32],
-    past: &[u8],
-    old: &[u8],
-    shipped: &[u32],
+    old_stream: &[u8],
+    old_pool: &[u8],
+    old_types: &[u32],
     name: TypeName,
 ) -> Pair
-    requires { ⌜ TypesTable (now stream) (now pool) (now types) × TypesTable (now past) (now old) (now shipped) ⌝ }
-    ensures { λ r. ⌜ PairFound (now (stream .entry)) (now (pool .entry)) (now (past .entry)) (now (old .entry)) (nameOf (now (pool .entry)) name) r ⌝ }
+    requires { ⌜ TypesTable (now stream) (now pool) (now types) × TypesTable (now «old_stream») (now «old_pool») (now «old_types») ⌝ }
+    ensures { λ r.
+        let cur : Rec = rec (now (stream .entry)) (now (pool .entry)) [] in
+        let rel : Rec = rec (now («old_stream» .entry)) (now («old_pool» .entry)) [] in
+        ⌜ PairFound (cur .stream) (cur .pool) (rel .stream) (rel .pool) (nameOf (cur .pool) name) r ⌝ }
 {
-    let was = find_named(past, old, shipped, pool, name);
+    let was = find_named(old_stream, old_pool, old_types, pool, name);
     let TypeFound::At(j) = was else {
         return Pair::NoPair;
     };
-    let other = shipped[j];
+    let other = old_types[j];
     let is = find_named(stream, pool, types, pool, name);
     let TypeFound::At(i) = is else {
         return Pair::NoPair;
@@ -104,24 +121,49 @@ fn check_pair(
     stream: &[u8],
     pool: &[u8],
     sizes: &[u64],
-    past: &[u8],
-    old: &[u8],
-    widths: &[u64],
+    old_stream: &[u8],
+    old_pool: &[u8],
+    old_sizes: &[u64],
     name: TypeName,
     pair: Pair,
 ) -> Verdict
-    requires { ⌜ pairTyped (now stream) (now past) pair × (SizesTable (rec (now stream) (now pool) (scalarsOf (now rows))) (now sizes) × Exact (rec (now stream) (now pool) (scalarsOf (now rows)))) × (SizesTable (rec (now past) (now old) (scalarsOf (now rows))) (now widths) × Exact (rec (now past) (now old) (scalarsOf (now rows)))) ⌝ }
-    ensures { λ r. ⌜ meaning (now (pool .entry)) (now (old .entry)) r ≡ checkPair (rec (now (stream .entry)) (now (pool .entry)) (scalarsOf (now (rows .entry)))) (rec (now (past .entry)) (now (old .entry)) (scalarsOf (now (rows .entry)))) (nameOf (now (pool .entry)) name) pair ⌝ }
+    requires { let cur : Rec = rec (now stream) (now pool) (scalarsOf (now rows)) in
+        let rel : Rec = rec (now «old_stream») (now «old_pool») (scalarsOf (now rows)) in
+        ⌜ pairTyped (cur .stream) (rel .stream) pair × (SizesTable cur (now sizes) × Exact cur) × (SizesTable rel (now «old_sizes») × Exact rel) ⌝ }
+    ensures { λ r.
+        let cur : Rec = rec (now (stream .entry)) (now (pool .entry)) (scalarsOf (now (rows .entry))) in
+        let rel : Rec = rec (now («old_stream» .entry)) (now («old_pool» .entry)) (scalarsOf (now (rows .entry))) in
+        ⌜ meaning (cur .pool) (rel .pool) r ≡ checkPair cur rel (nameOf (cur .pool) name) pair ⌝ }
 {
     let Pair::Both(is, was) = pair else {
         return Verdict::Passed;
     };
-    if same_fields(rows, stream, pool, sizes, is, past, old, widths, was) {
+    if same_fields(
+        rows,
+        stream,
+        pool,
+        sizes,
+        is,
+        old_stream,
+        old_pool,
+        old_sizes,
+        was,
+    ) {
         return Verdict::Passed;
     }
     let from = first_spot(stream, is);
-    let before = first_spot(past, was);
-    let change = gained(rows, stream, pool, sizes, from, past, old, widths, before);
+    let before = first_spot(old_stream, was);
+    let change = gained(
+        rows,
+        stream,
+        pool,
+        sizes,
+        from,
+        old_stream,
+        old_pool,
+        old_sizes,
+        before,
+    );
     Verdict::ShippedFamilyChanged { name, change }
 }
 
@@ -132,15 +174,21 @@ fn check_variants(
     pool: &[u8],
     types: &[u32],
     sizes: &[u64],
-    past: &[u8],
-    old: &[u8],
-    shipped: &[u32],
-    widths: &[u64],
+    old_stream: &[u8],
+    old_pool: &[u8],
+    old_types: &[u32],
+    old_sizes: &[u64],
     family: Text,
     from: Cursor,
 ) -> Verdict
-    requires { ⌜ Tables (rec (now stream) (now pool) (scalarsOf (now rows))) (now types) (now sizes) × Tables (rec (now past) (now old) (scalarsOf (now rows))) (now shipped) (now widths) ⌝ }
-    ensures { λ r. ⌜ meaning (now (pool .entry)) (now (old .entry)) r ≡ checkShippedAll (typesOf (rec (now (stream .entry)) (now (pool .entry)) (scalarsOf (now (rows .entry))))) (typesOf (rec (now (past .entry)) (now (old .entry)) (scalarsOf (now (rows .entry))))) (variantNames (textOf (now (pool .entry)) family) (variantsAt (now (stream .entry)) (now (pool .entry)) (from .at))) ⌝ }
+    requires { let cur : Rec = rec (now stream) (now pool) (scalarsOf (now rows)) in
+        let rel : Rec = rec (now «old_stream») (now «old_pool») (scalarsOf (now rows)) in
+        ⌜ Tables cur (now types) (now sizes) × Tables rel (now «old_types») (now «old_sizes») ⌝ }
+    ensures { λ r.
+        let cur : Rec = rec (now (stream .entry)) (now (pool .entry)) (scalarsOf (now (rows .entry))) in
+        let rel : Rec = rec (now («old_stream» .entry)) (now («old_pool» .entry)) (scalarsOf (now (rows .entry))) in
+        ⌜ meaning (cur .pool) (rel .pool) r ≡ checkShippedAll (typesOf cur) (typesOf rel)
+        (variantNames (textOf (cur .pool) family) (variantsAt (cur .stream) (cur .pool) (from .at))) ⌝ }
 {
     let mut cursor = from;
     loop {
@@ -152,8 +200,18 @@ fn check_variants(
             front: family,
             back: OptText::Given(own),
         };
-        let pair = find_both(stream, pool, types, past, old, shipped, name);
-        let v = check_pair(rows, stream, pool, sizes, past, old, widths, name, pair);
+        let pair = find_both(stream, pool, types, old_stream, old_pool, old_types, name);
+        let v = check_pair(
+            rows,
+            stream,
+            pool,
+            sizes,
+            old_stream,
+            old_pool,
+            old_sizes,
+            name,
+            pair,
+        );
         if let Verdict::Passed = v {
             cursor = after;
         } else {
@@ -169,22 +227,38 @@ fn check_layouts(
     pool: &[u8],
     types: &[u32],
     sizes: &[u64],
-    past: &[u8],
-    old: &[u8],
-    shipped: &[u32],
-    widths: &[u64],
+    old_stream: &[u8],
+    old_pool: &[u8],
+    old_types: &[u32],
+    old_sizes: &[u64],
     family: Text,
     from: Cursor,
 ) -> Verdict
-    requires { ⌜ Tables (rec (now stream) (now pool) (scalarsOf (now rows))) (now types) (now sizes) × Tables (rec (now past) (now old) (scalarsOf (now rows))) (now shipped) (now widths) ⌝ }
-    ensures { λ r. ⌜ meaning (now (pool .entry)) (now (old .entry)) r ≡ checkShippedAll (typesOf (rec (now (stream .entry)) (now (pool .entry)) (scalarsOf (now (rows .entry))))) (typesOf (rec (now (past .entry)) (now (old .entry)) (scalarsOf (now (rows .entry))))) (textOf (now (pool .entry)) family ∷ variantNames (textOf (now (pool .entry)) family) (variantsAt (now (stream .entry)) (now (pool .entry)) (from .at))) ⌝ }
+    requires { let cur : Rec = rec (now stream) (now pool) (scalarsOf (now rows)) in
+        let rel : Rec = rec (now «old_stream») (now «old_pool») (scalarsOf (now rows)) in
+        ⌜ Tables cur (now types) (now sizes) × Tables rel (now «old_types») (now «old_sizes») ⌝ }
+    ensures { λ r.
+        let cur : Rec = rec (now (stream .entry)) (now (pool .entry)) (scalarsOf (now (rows .entry))) in
+        let rel : Rec = rec (now («old_stream» .entry)) (now («old_pool» .entry)) (scalarsOf (now (rows .entry))) in
+        ⌜ meaning (cur .pool) (rel .pool) r ≡ checkShippedAll (typesOf cur) (typesOf rel)
+        (textOf (cur .pool) family ∷ variantNames (textOf (cur .pool) family) (variantsAt (cur .stream) (cur .pool) (from .at))) ⌝ }
 {
     let name = TypeName {
         front: family,
         back: OptText::Absent,
     };
-    let pair = find_both(stream, pool, types, past, old, shipped, name);
-    let v = check_pair(rows, stream, pool, sizes, past, old, widths, name, pair);
+    let pair = find_both(stream, pool, types, old_stream, old_pool, old_types, name);
+    let v = check_pair(
+        rows,
+        stream,
+        pool,
+        sizes,
+        old_stream,
+        old_pool,
+        old_sizes,
+        name,
+        pair,
+    );
     let Verdict::Passed = v else {
         return v;
     };
@@ -194,20 +268,29 @@ fn check_layouts(
         pool,
         types,
         sizes,
-        past,
-        old,
-        shipped,
-        widths,
+        old_stream,
+        old_pool,
+        old_types,
+        old_sizes,
         family,
         from,
     )
 }
 
 // Whether a family stands alone as the first released one of its name did, if there is one.
-fn check_standing(pool: &[u8], past: &[u8], old: &[u8], name: Text, standalone: bool) -> Verdict
-    ensures { λ r. ⌜ meaning (now (pool .entry)) (now (old .entry)) r ≡ checkStanding (familiesAt (now (past .entry)) (now (old .entry)) 0) (textOf (now (pool .entry)) name) standalone ⌝ }
+fn check_standing(
+    pool: &[u8],
+    old_stream: &[u8],
+    old_pool: &[u8],
+    name: Text,
+    standalone: bool,
+) -> Verdict
+    ensures { λ r.
+        let p : Str = now (pool .entry) in
+        let rel : Rec = rec (now («old_stream» .entry)) (now («old_pool» .entry)) [] in
+        ⌜ meaning p (rel .pool) r ≡ checkStanding (familyList rel) (textOf p name) standalone ⌝ }
 {
-    let found = find_family(past, old, Cursor::new(), bytes_of(pool, name));
+    let found = find_family(old_stream, old_pool, Cursor::new(), bytes_of(pool, name));
     let FamilyStep::AFamily(was, _) = found else {
         return Verdict::Passed;
     };
@@ -228,18 +311,24 @@ fn check_family(
     pool: &[u8],
     types: &[u32],
     sizes: &[u64],
-    past: &[u8],
-    old: &[u8],
-    shipped: &[u32],
-    widths: &[u64],
+    old_stream: &[u8],
+    old_pool: &[u8],
+    old_types: &[u32],
+    old_sizes: &[u64],
     m: Family,
     from: Cursor,
 ) -> Verdict
-    requires { ⌜ Tables (rec (now stream) (now pool) (scalarsOf (now rows))) (now types) (now sizes) × Tables (rec (now past) (now old) (scalarsOf (now rows))) (now shipped) (now widths) ⌝ }
-    ensures { λ r. ⌜ meaning (now (pool .entry)) (now (old .entry)) r ≡ checkFamily (familiesAt (now (past .entry)) (now (old .entry)) 0) (typesOf (rec (now (stream .entry)) (now (pool .entry)) (scalarsOf (now (rows .entry))))) (typesOf (rec (now (past .entry)) (now (old .entry)) (scalarsOf (now (rows .entry))))) (familyOf (now (pool .entry)) m (fieldsAt (now (stream .entry)) (now (pool .entry)) (from .at)) (variantsAt (now (stream .entry)) (now (pool .entry)) (from .at))) ⌝ }
+    requires { let cur : Rec = rec (now stream) (now pool) (scalarsOf (now rows)) in
+        let rel : Rec = rec (now «old_stream») (now «old_pool») (scalarsOf (now rows)) in
+        ⌜ Tables cur (now types) (now sizes) × Tables rel (now «old_types») (now «old_sizes») ⌝ }
+    ensures { λ r.
+        let cur : Rec = rec (now (stream .entry)) (now (pool .entry)) (scalarsOf (now (rows .entry))) in
+        let rel : Rec = rec (now («old_stream» .entry)) (now («old_pool» .entry)) (scalarsOf (now (rows .entry))) in
+        ⌜ meaning (cur .pool) (rel .pool) r ≡ checkFamily (familyList rel) (typesOf cur) (typesOf rel)
+        (familyOf (cur .pool) m (fieldsAt (cur .stream) (cur .pool) (from .at)) (variantsAt (cur .stream) (cur .pool) (from .at))) ⌝ }
 {
     let name = m.name;
-    let verdict = check_standing(pool, past, old, name, m.standalone);
+    let verdict = check_standing(pool, old_stream, old_pool, name, m.standalone);
     if let Verdict::Passed = verdict {
         if m.standalone {
             return check_layouts(
@@ -248,10 +337,10 @@ fn check_family(
                 pool,
                 types,
                 sizes,
-                past,
-                old,
-                shipped,
-                widths,
+                old_stream,
+                old_pool,
+                old_types,
+                old_sizes,
                 name,
                 from,
             );
@@ -268,13 +357,18 @@ pub(crate) fn check_standalone(
     pool: &[u8],
     types: &[u32],
     sizes: &[u64],
-    past: &[u8],
-    old: &[u8],
-    shipped: &[u32],
-    widths: &[u64],
+    old_stream: &[u8],
+    old_pool: &[u8],
+    old_types: &[u32],
+    old_sizes: &[u64],
 ) -> Verdict
-    requires { ⌜ Tables (rec (now stream) (now pool) (scalarsOf (now rows))) (now types) (now sizes) × Tables (rec (now past) (now old) (scalarsOf (now rows))) (now shipped) (now widths) ⌝ }
-    ensures { λ r. ⌜ meaning (now (pool .entry)) (now (old .entry)) r ≡ checkStandalone (familiesAt (now (stream .entry)) (now (pool .entry)) 0) (familiesAt (now (past .entry)) (now (old .entry)) 0) (typesOf (rec (now (stream .entry)) (now (pool .entry)) (scalarsOf (now (rows .entry))))) (typesOf (rec (now (past .entry)) (now (old .entry)) (scalarsOf (now (rows .entry))))) ⌝ }
+    requires { let cur : Rec = rec (now stream) (now pool) (scalarsOf (now rows)) in
+        let rel : Rec = rec (now «old_stream») (now «old_pool») (scalarsOf (now rows)) in
+        ⌜ Tables cur (now types) (now sizes) × Tables rel (now «old_types») (now «old_sizes») ⌝ }
+    ensures { λ r.
+        let cur : Rec = rec (now (stream .entry)) (now (pool .entry)) (scalarsOf (now (rows .entry))) in
+        let rel : Rec = rec (now («old_stream» .entry)) (now («old_pool» .entry)) (scalarsOf (now (rows .entry))) in
+        ⌜ meaning (cur .pool) (rel .pool) r ≡ checkStandalone (familyList cur) (familyList rel) (typesOf cur) (typesOf rel) ⌝ }
 {
     let mut cursor = Cursor::new();
     loop {
@@ -287,10 +381,10 @@ pub(crate) fn check_standalone(
             pool,
             types,
             sizes,
-            past,
-            old,
-            shipped,
-            widths,
+            old_stream,
+            old_pool,
+            old_types,
+            old_sizes,
             m,
             after,
         );

@@ -16,26 +16,26 @@ use verdicts::verdict::Verdict;
 ghost use Rattle.compare.specs.Sought.{UnreleasedFrom};
 
 // Whether nothing is described. Any of the six lists describes a layout; plugin keys and version entries do not.
-pub fn check_unreleased(past: &[u8]) -> Verdict
-    ensures { λ r. ⌜ UnreleasedFrom (now (past .entry)) r ⌝ }
+pub fn check_nothing_released(old_stream: &[u8]) -> Verdict
+    ensures { λ r. ⌜ UnreleasedFrom (now («old_stream» .entry)) r ⌝ }
 {
     let start = Cursor::new();
-    if let StructStep::AStruct(_, _) = next_struct(past, start) {
+    if let StructStep::AStruct(_, _) = next_struct(old_stream, start) {
         return Verdict::Described;
     }
-    if let ConstantStep::AConstant(_, _) = next_constant(past, start) {
+    if let ConstantStep::AConstant(_, _) = next_constant(old_stream, start) {
         return Verdict::Described;
     }
-    if let EnumStep::AnEnum(_, _) = next_enum(past, start) {
+    if let EnumStep::AnEnum(_, _) = next_enum(old_stream, start) {
         return Verdict::Described;
     }
-    if let BitfieldStep::ABitfield(_, _) = next_bitfield(past, start) {
+    if let BitfieldStep::ABitfield(_, _) = next_bitfield(old_stream, start) {
         return Verdict::Described;
     }
-    if let AliasStep::AnAlias(_, _) = next_alias(past, start) {
+    if let AliasStep::AnAlias(_, _) = next_alias(old_stream, start) {
         return Verdict::Described;
     }
-    if let FamilyStep::AFamily(_, _) = next_family(past, start) {
+    if let FamilyStep::AFamily(_, _) = next_family(old_stream, start) {
         return Verdict::Described;
     }
     Verdict::Passed

@@ -7,9 +7,7 @@ use native.Mathlib.Omega.{arith}
 use lib.Dec.{eqb, leb, lit≤}
 use lib.ListN.{length}
 use borrow.Author.Tests.{eqb-true, ne-eqb}
-use Rattle.record.specs.Base.{Str}
 use Rattle.record.specs.Schema.{Schema}
-use Rattle.record.specs.Shapes.{Place}
 use Rattle.record.specs.Refusals.{refusalNumber}
 use Rattle.record.specs.Reading.{Rec, Reading, read, refuse, reading}
 use Rattle.record.specs.declared.refusal.Side.{Side}
@@ -17,13 +15,12 @@ use Rattle.record.specs.declared.refusal.Side.the-variants.{Current, Released}
 use Rattle.record.specs.declared.refusal.Refusal.{Refusal}
 use Rattle.record.specs.declared.refusal.Refusal.the-variants as R
 use Rattle.record.proofs.Sides.{one-reading}
-use Rattle.layout.specs.Layout.{types}
 use Rattle.definition.specs.Verdicts.{Verdict, pass, stop, wordNumber}
 use Rattle.definition.specs.Compare.{compare}
 use Rattle.layout.specs.Answer.{Answer, refusalOf, textOr}
 use Rattle.definition.specs.Answer.{verdictOf, answered, check}
-use Rattle.definition.specs.Chain.{Kinds, Names, Governed, Holds, Laid}
-use Rattle.definition.specs.Offers.{Offer, chain, lastOf, lastAccepted, Sound, All, KeptIn, SameIn, NoneAccepted}
+use Rattle.definition.specs.Chain.{Kinds, Names, Governed}
+use Rattle.definition.specs.Offers.{Offer, chain, lastOf, lastAccepted, SchemaHas, All, NoneAccepted, Demand3}
 use Rattle.definition.proofs.Words.{word-large}
 use Rattle.definition.proofs.Chains.{step-of, Linked, Each, kept-all, still}
 
@@ -115,38 +112,16 @@ follow a (o ∷ os) s e = go (eqb (check (o .room) r a .number) 0) refl (λ t f.
         each-from f k u (List·Memᴰ·tail i) = let v = k u i in (v .0, List·Memᴰ·tail (v .1), v .2)
 
 -- a premise of the chain's records is one of their schemas
-each : (P : Schema → Type 0) {s : Schema} {rs : List Rec} {last : Rec} (f : Followed s rs last) → All (Sound P) rs → Each P (f .schemas)
+each : (P : Schema → Type 0) {s : Schema} {rs : List Rec} {last : Rec} (f : Followed s rs last) → All (SchemaHas P) rs → Each P (f .schemas)
 each P f gs u i = let v = f .from u i in gs (v .0) (v .1) u (v .2)
 
 -- demand 3 -----------------------------------------------------------------------------------------------------------------------------
 
--- first sentence: nothing of the first record is lost in the last one accepted
-pub nothing-lost : (first : Rec) (os : List Offer) → Sound Kinds first → All (Sound Kinds) (chain first os)
-    → (s : Schema) → reading Released first ≡ read s → KeptIn (lastAccepted first os) s
-unfolding lastAccepted
-nothing-lost first os g gs s e =
-    let f = follow first os s e in
-    record { schema = lastOf s (f .schemas); is-read = f .is-last; kept = kept-all s (f .schemas) (f .linked) (g s e) (each Kinds f gs) }
-
--- second sentence: where the number is the same in both, each type under it has the same fields. 01: every record "holds it as an integer", so the
--- first, and the type "is itself described in the first"
-pub nothing-moved : (first : Rec) (os : List Offer) → All (Sound Names) (chain first os)
-    → (root k t : Str) → All (Sound (Governed root k t)) (chain first os)
-    → (s : Schema) → reading Released first ≡ read s → (n : ℕ) → Holds (s .constants) k n → (fs : List Place) → Laid (types s) t fs
-    → SameIn (lastAccepted first os) k t n fs
-unfolding lastAccepted
-nothing-moved first os gs root k t us s e n hn fs w =
-    let f = follow first os s e in
-    record {
-      schema = lastOf s (f .schemas);
-      is-read = f .is-last;
-      laid = λ hl. still s (f .schemas) {root = root} (f .linked) (each Names f gs) (each (Governed root k t) f us) hn hl w;
-    }
-
--- and where the first record can't be read as released, nothing is accepted
-pub nothing-accepted : (first : Rec) (os : List Offer) (n : Refusal) (place : ℕ) → reading Released first ≡ refuse n place → NoneAccepted first n place os
+-- where the first record can't be read as released, nothing is accepted
+none-accepted : (first : Rec) (os : List Offer) (n : Refusal) (place : ℕ) → reading Released first ≡ refuse n place
+    → NoneAccepted first n place os
 unfolding check answered chain lastAccepted lastOf
-nothing-accepted first os n place e =
+none-accepted first os n place e =
     record {
       on-read = λ o c h. rw (h, e);
       on-refused = λ o m q h. rw h;
@@ -161,3 +136,21 @@ nothing-accepted first os n place e =
     none : (ps : List Offer) → chain first ps ≡ []
     none [] = refl
     none (o ∷ ps) = rw (e, ne-eqb _ 0 (refused (o .room) (reading Current (o .offered))), none ps)
+
+-- the three parts of demand 3, for every first record and every list of offers
+pub demand-3 : (first : Rec) (os : List Offer) → Demand3 first os
+unfolding lastAccepted
+demand-3 first os = record {
+  nothing-lost = λ g gs s e.
+      let f = follow first os s e in
+      record { schema = lastOf s (f .schemas); is-read = f .is-last; kept = kept-all s (f .schemas) (f .linked) (g s e) (each Kinds f gs) };
+  nothing-moved = λ gs root constant type us s e n holds fields laid.
+      let f = follow first os s e in
+      record {
+        schema = lastOf s (f .schemas);
+        is-read = f .is-last;
+        laid = λ still-holds.
+            still s (f .schemas) {root = root} (f .linked) (each Names f gs) (each (Governed root constant type) f us) holds still-holds laid;
+      };
+  nothing-accepted = none-accepted first os;
+}

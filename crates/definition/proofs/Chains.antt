@@ -8,14 +8,14 @@ use native.Mathlib.Omega.{arith}
 use Rattle.record.specs.Base.{Str, find}
 use Rattle.record.specs.Schema.{Schema, integer, Const}
 use Rattle.record.specs.Steps.{constantIn}
-use Rattle.record.specs.Shapes.{Place}
+use Rattle.record.specs.Shapes.{FieldLayout}
 use Rattle.record.specs.Owner.{typesIn}
 use Rattle.record.proofs.Basics.{both}
 use Rattle.layout.specs.Layout.{TypeLayout, types}
 use Rattle.layout.proofs.Origin.{From, of-struct, of-family, of-variant, from-types}
 use Rattle.definition.specs.Verdicts.{Verdict, pass, described}
 use Rattle.definition.specs.Pass.{required, empty}
-use Rattle.definition.specs.Unreleased.{checkUnreleased}
+use Rattle.definition.specs.Unreleased.{checkNothingReleased}
 use Rattle.definition.specs.Enums.{checkEnums}
 use Rattle.definition.specs.Bitfields.{checkBitfields}
 use Rattle.definition.specs.Fields.{checkFields, changed}
@@ -70,8 +70,8 @@ passed cur rel h =
       generations = at _ (List·Memᴰ·tail (List·Memᴰ·tail (List·Memᴰ·tail (List·Memᴰ·tail (List·Memᴰ·tail (List·Memᴰ·tail (List·Memᴰ·tail (List·Memᴰ·tail (List·Memᴰ·head refl)))))))));
     }
 
-bared : (rel : Schema) → checkUnreleased (rel .structs) (rel .constants) (rel .enums) (rel .bitfields) (rel .aliases) (rel .families) ≡ pass → Bare rel
-unfolding checkUnreleased described
+bared : (rel : Schema) → checkNothingReleased (rel .structs) (rel .constants) (rel .enums) (rel .bitfields) (rel .aliases) (rel .families) ≡ pass → Bare rel
+unfolding checkNothingReleased described
 bared rel h =
     let f = both _ (empty (rel .families)) (ensured _ _ _ h) in
     let a = both _ (empty (rel .aliases)) (f .0) in
@@ -90,7 +90,7 @@ pub step-of : (cur rel : Schema) → compare cur rel ≡ pass → Step cur rel
 unfolding compare
 step-of cur rel h = go (rel .unreleased) h
   where
-    go : (b : Bool) → cond b (checkUnreleased (rel .structs) (rel .constants) (rel .enums) (rel .bitfields) (rel .aliases) (rel .families)) (firstOf (passList cur rel)) ≡ pass
+    go : (b : Bool) → cond b (checkNothingReleased (rel .structs) (rel .constants) (rel .enums) (rel .bitfields) (rel .aliases) (rel .families)) (firstOf (passList cur rel)) ≡ pass
         → Step cur rel
     go true k = bare (bared rel k)
     go false k = compared (passed cur rel k)
@@ -167,7 +167,7 @@ rises a (s ∷ ss) l gs us {m} {n} hm hn =
     let rest = rises s ss (l .1) (λ x i. gs x (List·Memᴰ·tail i)) (λ x i. us x (List·Memᴰ·tail i)) (u .holds) hn in
     omega (arith, r .up, rest)
 
-pub still : (a : Schema) (ss : List Schema) {root k t : Str} {fs : List Place} → Linked a ss → Each Names ss → Each (Governed root k t) ss
+pub still : (a : Schema) (ss : List Schema) {root k t : Str} {fs : List FieldLayout} → Linked a ss → Each Names ss → Each (Governed root k t) ss
     → {n : ℕ} → Holds (a .constants) k n → Holds (lastOf a ss .constants) k n → Laid (types a) t fs → Laid (types (lastOf a ss)) t fs
 unfolding lastOf
 still a [] l gs us hm hn w = w

@@ -8,7 +8,7 @@ use lib.Dec.{eqb}
 use Rattle.record.specs.Base.{Str, bytes}
 use Rattle.record.specs.Schema.{Schema, Field, Family}
 use Rattle.record.specs.Kind.{words, kindWords, kindOf, isPadding}
-use Rattle.record.specs.Shapes.{shapeSize, spaced, named, restAs, shapeType, Place, placeOf, places, plain, prefix}
+use Rattle.record.specs.Shapes.{shapeSize, spaced, named, restAs, shapeType, FieldLayout, placeOf, places, plain, famPrefix}
 use Rattle.record.specs.declared.kind.Kind.{Kind}
 use Rattle.record.specs.declared.kind.Kind.the-variants as K
 use Rattle.record.proofs.Basics.{both}
@@ -75,32 +75,32 @@ unfolding shapeType
 word-kind f m = word-append (f .kind) (restAs (kindOf (f .kind)) f) (all-of clean kindWords kinds-clean m) (starts-rest (kindOf (f .kind)) f)
 
 -- a place tells of the field that it comes from
-pub record Told (p : Place) : Type 0 where
+pub record Told (p : FieldLayout) : Type 0 where
   pub field : Field
   pub kinded : List·Memᴰ (field .kind) kindWords
   pub described : p .described ≡ shapeType field
   pub padding : p .padding ≡ isPadding (kindOf (field .kind))
 
-pub same-padding : (p q : Place) → Told p → Told q → p .described ≡ q .described → p .padding ≡ q .padding
+pub same-padding : (p q : FieldLayout) → Told p → Told q → p .described ≡ q .described → p .padding ≡ q .padding
 same-padding p q tp tq e =
     let k : tp .field .kind ≡ tq .field .kind =
     sym (word-kind (tp .field) (tp .kinded)) ∙ ap word (sym (tp .described) ∙ e ∙ tq .described) ∙ word-kind (tq .field) (tq .kinded) in
     tp .padding ∙ ap (λ (s : Str). isPadding (kindOf s)) k ∙ sym (tq .padding)
 
-places-told : (s : Schema) (at : ℕ) (fs : List Field) → Kinded fs → {p : Place} → List·Memᴰ p (places s at fs) → Told p
+places-told : (s : Schema) (at : ℕ) (fs : List Field) → Kinded fs → {p : FieldLayout} → List·Memᴰ p (places s at fs) → Told p
 unfolding places placeOf
 places-told s at [] k m = absurd (List·Memᴰ·not-nil m)
 places-told s at (f ∷ fs) k (List·Memᴰ·head e) =
-    record { field = f; kinded = k f (List·Memᴰ·head refl); described = ap (λ (q : Place). q .described) e; padding = ap (λ (q : Place). q .padding) e }
+    record { field = f; kinded = k f (List·Memᴰ·head refl); described = ap (λ (q : FieldLayout). q .described) e; padding = ap (λ (q : FieldLayout). q .padding) e }
 places-told s at (f ∷ fs) k (List·Memᴰ·tail m) = places-told s (at + shapeSize s f) fs (λ g n. k g (List·Memᴰ·tail n)) m
 
-prefix-kinded : (m : Family) → Kinded (m .common) → Kinded (prefix m ++ m .common)
-unfolding prefix plain kindWords words
+prefix-kinded : (m : Family) → Kinded (m .common) → Kinded (famPrefix m ++ m .common)
+unfolding famPrefix plain kindWords words
 prefix-kinded m k f (List·Memᴰ·head e) = List·Memᴰ·tail (List·Memᴰ·head (ap (λ (g : Field). g .kind) e))
 prefix-kinded m k f (List·Memᴰ·tail (List·Memᴰ·head e)) = List·Memᴰ·head (ap (λ (g : Field). g .kind) e)
 prefix-kinded m k f (List·Memᴰ·tail (List·Memᴰ·tail n)) = k f n
 
-pub told : (s : Schema) → Kinds s → {t : TypeLayout} → List·Memᴰ t (types s) → {p : Place} → List·Memᴰ p (t .fields) → Told p
+pub told : (s : Schema) → Kinds s → {t : TypeLayout} → List·Memᴰ t (types s) → {p : FieldLayout} → List·Memᴰ p (t .fields) → Told p
 unfolding layStruct layFamily layVariant
 told s g {t} m {p} n = go (from-types s m)
   where
@@ -109,5 +109,5 @@ told s g {t} m {p} n = go (from-types s m)
 
     go : From s t → Told p
     go (of-struct x i e) = places-told s 0 (x .fields) (g .of-struct x i) (placed e)
-    go (of-family x i e) = places-told s 0 (prefix x ++ x .common) (prefix-kinded x (g .of-family x i)) (placed e)
+    go (of-family x i e) = places-told s 0 (famPrefix x ++ x .common) (prefix-kinded x (g .of-family x i)) (placed e)
     go (of-variant x i v j e) = places-told s 0 (v .fields) (g .of-variant x i v j) (placed e)

@@ -12,8 +12,8 @@ use Rattle.record.specs.Schema.{Schema, integer, Field, Version}
 use Rattle.record.specs.Steps.{constantIn, aliasIn, enumIn, valueIn, bitfieldIn, memberIn, structIn, familyIn}
 use Rattle.record.specs.Kind.{words, kindOf}
 use Rattle.record.specs.Kind
-use Rattle.record.specs.Release.{ontoHead, parts, digit, allDigits, isDecimal, allDecimal, isRelease, number, parsed, parsedPart, releaseParts, earlier, firstNaming}
-use Rattle.record.specs.Shapes.{enumSize, aliasSize, bitfieldSize, sized, scalarSize, sizeAs, shapeSize, spaced, named, restAs, shapeType, placeOf, places, plain, prefix}
+use Rattle.record.specs.Release.{ontoHead, parts, digit, allDigits, isDecimal, allDecimal, isRelease, number, asU32, parsedPart, releaseParts, earlier, firstNaming}
+use Rattle.record.specs.Shapes.{enumSize, aliasSize, bitfieldSize, sized, scalarSize, sizeAs, shapeSize, spaced, named, restAs, shapeType, placeOf, places, plain, famPrefix}
 use Rattle.record.specs.Owner.{structInSlot, slotted, hasSlot, referencedAs, referenced, variantFields, fieldsIn, typeFields, ownedIn, unless, enter, visit, visitAll, claim, declared, claimRoots, withName, rootsIn, ownershipOrder, roots, rootOf, ownerOf}
 use Rattle.record.specs.Fill.{joined}
 use Rattle.record.specs.declared.release.ReleaseParts.{ReleaseParts}
@@ -100,7 +100,7 @@ entry n = record { struct = bytes "head"; version = n } ∷ []
 
 -- a field's size and description
 shape : Field → ℕ → String → Bool
-unfolding bytes eqs decimal orElse orOption mapOption find scalarIn primSize builtIn words kindOf Kind.meaning aliasIn enumIn bitfieldIn
+unfolding bytes eqs decimal orElse orOption mapOption find scalarIn primSize builtIn words kindOf Kind.kindAmong aliasIn enumIn bitfieldIn
     enumSize aliasSize bitfieldSize sized scalarSize sizeAs shapeSize spaced named restAs shapeType sch base fld
 shape f z d = eqb (shapeSize (sch none 3 base []) f) z && eqs (shapeType f) (bytes d)
 
@@ -110,13 +110,13 @@ noRelease (Parts r) = false
 
 -- a text has no release_parts
 unread : String → Bool
-unfolding bytes eqs noRelease ontoHead parts digit allDigits isDecimal allDecimal isRelease number parsed parsedPart releaseParts
+unfolding bytes eqs noRelease ontoHead parts digit allDigits isDecimal allDecimal isRelease number asU32 parsedPart releaseParts
 unread t = noRelease (releaseParts (bytes t))
 
 -- the verdict's number: what is, then what was
 unfoldable pub gives : Schema → Schema → ℕ → Bool
 unfolding shape unread sch base more entry isText isSome before signed lastOr findLast any filterB
-    constantIn valueIn memberIn structIn familyIn earlier firstNaming placeOf places plain prefix
+    constantIn valueIn memberIn structIn familyIn earlier firstNaming placeOf places plain famPrefix
     structInSlot slotted hasSlot referencedAs referenced variantFields fieldsIn typeFields ownedIn unless enter visit visitAll claim declared
     claimRoots withName rootsIn ownershipOrder roots rootOf ownerOf joined insert insertAll sorted
     variantName layStruct layFamily layVariant layFamilies flattened types typeIn
@@ -125,8 +125,8 @@ unfolding shape unread sch base more entry isText isSome before signed lastOr fi
     ReleaseOrder.checkEarlier ReleaseOrder.checkCopy ReleaseOrder.checkReleaseOrder
     FirstReleases.checkConstantArrival FirstReleases.checkConstantArrivals FirstReleases.checkEnumArrival FirstReleases.checkEnumArrivals withSome Keys.fieldKeys Keys.pluginKeys FirstReleases.checkKeyArrivals FirstReleases.checkFirstReleases
     Versioned.slotOrder Versioned.versioned Generation.asGeneration Generation.ofConstant Generation.ofVersion Generation.ofStruct Generation.generationOf
-    Constants.valueText Constants.lastConstant Constants.holdsIn Constants.heldByAny Constants.isGeneration Constants.checkConstant Constants.checkConstantsIn Constants.checkConstants
-    Enums.numberIn Enums.checkValue Enums.checkValues Enums.checkEnum Enums.checkEnums Bitfields.widthOf Bitfields.checkMember Bitfields.checkMembers Bitfields.checkBitfield Bitfields.checkBitfields
+    Constants.constantText Constants.lastConstant Constants.holdsIn Constants.heldByAny Constants.isGeneration Constants.checkConstant Constants.checkConstantsIn Constants.checkConstants
+    Enums.numberIn Enums.checkValue Enums.checkValues Enums.checkEnum Enums.checkEnums Bitfields.memberWidth Bitfields.checkMember Bitfields.checkMembers Bitfields.checkBitfield Bitfields.checkBitfields
     BitfieldReleases.checkArrived BitfieldReleases.bitfieldRelease BitfieldReleases.memberRelease BitfieldReleases.checkMemberArrived
     BitfieldReleases.checkMembersArrived BitfieldReleases.checkBitfieldArrived BitfieldReleases.checkBitfieldReleases
     Fields.placeIn Fields.checkKept Fields.checkPlace Fields.checkPlaces Fields.checkType Fields.checkFields Fields.eqPlace Fields.eqPlaces Fields.sameAs Fields.changed

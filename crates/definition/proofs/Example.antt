@@ -8,15 +8,15 @@ use lib.Dec.{eqb}
 use Rattle.record.specs.Base.{Str, bytes, withSome}
 use Rattle.record.specs.Schema.{Schema}
 use Rattle.record.specs.Kind.{kindWords}
-use Rattle.record.specs.Shapes.{Place}
+use Rattle.record.specs.Shapes.{FieldLayout}
 use Rattle.record.specs.Reading.{Rec, read, reading, schemaOf}
 use Rattle.record.specs.declared.refusal.Side.the-variants.{Released}
 use Rattle.layout.specs.Layout.{types}
 use Rattle.definition.specs.Answer.{check}
 use Rattle.definition.specs.Chain.{HasValue, HasMember, HasField, Holds, Laid, Kinds, slotsOf, Names, Governed}
-use Rattle.definition.specs.Offers.{Offer, chain, lastOf, lastAccepted, Sound, All, KeptIn, SameIn}
+use Rattle.definition.specs.Offers.{Offer, chain, lastOf, lastAccepted, SchemaHas, All, KeptIn, SameIn}
 use Rattle.definition.specs.Pass.{allOf}
-use Rattle.definition.proofs.Bytes.{nothing-lost, nothing-moved}
+use Rattle.definition.proofs.Bytes.{demand-3}
 use Rattle.definition.proofs.ByteEdges.{variant, begun, gap, new, entry, whole, written, says}
 use Rattle.definition.proofs.Premises.{kinded, kinded-is, named, named-is, held, held-is, governed, governed-is, laid-field, sound, all-sound}
 
@@ -84,15 +84,15 @@ type = bytes "tile"
 records : List Rec
 records = first ∷ raised ∷ later ∷ []
 
-kinds : All (Sound Kinds) records
+kinds : All (SchemaHas Kinds) records
 unfolding kinded kindWords allOf records first raised later schemaOf says
 kinds = all-sound Kinds kinded kinded-is records refl
 
-names : All (Sound Names) records
+names : All (SchemaHas Names) records
 unfolding named slotsOf withSome allOf records first raised later schemaOf says
 names = all-sound Names named named-is records refl
 
-under : All (Sound (Governed root constant type)) records
+under : All (SchemaHas (Governed root constant type)) records
 unfolding governed allOf records first raised later schemaOf says
 under = all-sound (Governed root constant type) (governed root constant type) (governed-is root constant type) records refl
 
@@ -104,24 +104,24 @@ of-rest : (P : Rec → Type 0) → All P records → All P (chain raised rest)
 unfolding records
 of-rest P h = subst (All P) (sym the-rest) (λ r m. h r (List·Memᴰ·tail (List·Memᴰ·tail m)))
 
-pub first-kinds : Sound Kinds first
+pub first-kinds : SchemaHas Kinds first
 unfolding records
 first-kinds = kinds first (List·Memᴰ·head refl)
 
-pub accepted-kinds : All (Sound Kinds) (chain first offers)
-accepted-kinds = of-accepted (Sound Kinds) kinds
+pub accepted-kinds : All (SchemaHas Kinds) (chain first offers)
+accepted-kinds = of-accepted (SchemaHas Kinds) kinds
 
-pub accepted-names : All (Sound Names) (chain first offers)
-accepted-names = of-accepted (Sound Names) names
+pub accepted-names : All (SchemaHas Names) (chain first offers)
+accepted-names = of-accepted (SchemaHas Names) names
 
-pub accepted-under : All (Sound (Governed root constant type)) (chain first offers)
-accepted-under = of-accepted (Sound (Governed root constant type)) under
+pub accepted-under : All (SchemaHas (Governed root constant type)) (chain first offers)
+accepted-under = of-accepted (SchemaHas (Governed root constant type)) under
 
-pub rest-names : All (Sound Names) (chain raised rest)
-rest-names = of-rest (Sound Names) names
+pub rest-names : All (SchemaHas Names) (chain raised rest)
+rest-names = of-rest (SchemaHas Names) names
 
-pub rest-under : All (Sound (Governed root constant type)) (chain raised rest)
-rest-under = of-rest (Sound (Governed root constant type)) under
+pub rest-under : All (SchemaHas (Governed root constant type)) (chain raised rest)
+rest-under = of-rest (SchemaHas (Governed root constant type)) under
 
 pub first-read : reading Released first ≡ read (schemaOf first)
 unfolding first schemaOf says
@@ -144,17 +144,17 @@ unfolding held later schemaOf says
 later-holds = held-is (schemaOf later .constants) constant 4 refl
 
 -- a field's name, offset, size and description, and whether it is padding
-at : String → ℕ → ℕ → String → Bool → Place
+at : String → ℕ → ℕ → String → Bool → FieldLayout
 at n o z d p = record { name = bytes n; offset = o; size = z; described = bytes d; padding = p }
 
 -- the type's fields, with this last one
-fieldsWith : Place → List Place
+fieldsWith : FieldLayout → List FieldLayout
 fieldsWith f = at "n" 0 2 "scalar u16" false ∷ at "skip" 2 1 "scalar u8" false ∷ f ∷ []
 
-pub first-fields : List Place
+pub first-fields : List FieldLayout
 first-fields = fieldsWith (at "gap" 3 1 "padding" true)
 
-pub raised-fields : List Place
+pub raised-fields : List FieldLayout
 raised-fields = fieldsWith (at "new" 3 1 "scalar u8" false)
 
 pub first-laid : Laid (types (schemaOf first)) type first-fields
@@ -168,7 +168,7 @@ raised-laid = record { found = record { name = type; fields = raised-fields }; i
 -- the first sentence -------------------------------------------------------------------------------------------------------------------------
 
 pub kept : KeptIn (lastAccepted first offers) (schemaOf first)
-kept = nothing-lost first offers first-kinds accepted-kinds (schemaOf first) first-read
+kept = demand-3 first offers .nothing-lost first-kinds accepted-kinds (schemaOf first) first-read
 
 -- the first record holds a value, a member and a field
 first-value : HasValue (schemaOf first .enums) (bytes "e") (bytes "a") (2 ^ 64 - 3)
@@ -215,11 +215,15 @@ last-field = kept .kept .fields first-field
 
 -- of the whole chain, where the last number is another one
 pub same : SameIn (lastAccepted first offers) constant type 3 first-fields
-same = nothing-moved first offers accepted-names root constant type accepted-under (schemaOf first) first-read 3 first-holds first-fields first-laid
+same =
+    demand-3 first offers .nothing-moved accepted-names root constant type accepted-under (schemaOf first) first-read 3 first-holds first-fields
+    first-laid
 
 -- of the chain from its raised record on, where the last number is the same
 pub same-since : SameIn (lastAccepted raised rest) constant type 4 raised-fields
-same-since = nothing-moved raised rest rest-names root constant type rest-under (schemaOf raised) raised-read 4 raised-holds raised-fields raised-laid
+same-since =
+    demand-3 raised rest .nothing-moved rest-names root constant type rest-under (schemaOf raised) raised-read 4 raised-holds raised-fields
+    raised-laid
 
 pub last-holds : Holds (same-since .schema .constants) constant 4
 last-holds =

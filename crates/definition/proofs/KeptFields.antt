@@ -4,7 +4,7 @@ use Prim.Native.Nat.{ℕ}
 use borrow.Author.Tests.{eqb-true}
 use Rattle.record.specs.Base.{Str, eqs}
 use Rattle.record.specs.Schema.{Schema}
-use Rattle.record.specs.Shapes.{Place}
+use Rattle.record.specs.Shapes.{FieldLayout}
 use Rattle.record.proofs.Basics.{eqs→eq, find-some}
 use Rattle.layout.specs.Layout.{TypeLayout, types, typeIn}
 use Rattle.definition.specs.Verdicts.{pass, typeGone, fieldGone, moved, resized, redescribed}
@@ -23,7 +23,7 @@ keep-field cur rel gc gr h w =
     let at-place = each-pass (checkPlace (w .parent .name) (is .0 .fields)) (w .parent .fields) (is .2) (w .is-child) in
     let at-real = ensure-false (w .child .padding) _ (w .child-real) at-place in
     let new = found-stop (placeIn (w .child .name) (is .0 .fields)) _ _ _ at-real in
-    let new-in = find-some (λ (x : Place). eqs (x .name) (w .child .name)) (is .0 .fields) (new .1) in
+    let new-in = find-some (λ (x : FieldLayout). eqs (x .name) (w .child .name)) (is .0 .fields) (new .1) in
     let tests = then-pass _ _ (new .2) in
     let first = then-pass _ _ (tests .0) in
     let same : new .0 .described ≡ w .child .described = eqs→eq _ _ (ensured _ _ _ (tests .1)) in

@@ -1,4 +1,5 @@
 pub mod Passes
+pub mod Compare
 pub mod Words
 pub mod Values
 pub mod Lists

@@ -17,10 +17,10 @@ use Rattle.layout.specs.Sorted.{sorted}
 use Rattle.layout.specs.Layout.{TypeLayout, types, variantName}
 use Rattle.definition.specs.Verdicts.{Verdict, pass, aConstant, anEnum, aBitfield, within, aKey, enumGone, valueGone, renamed, bitFieldGone, memberRenamed, memberGone, valueUndated, constantGone, constantChanged, standingChanged, uncovered, noConstant, noGeneration, unlisted, leapt, fell, described}
 use Rattle.definition.specs.Pass.{_then_, ensure, required, each, onFound, empty}
-use Rattle.definition.specs.Unreleased.{checkUnreleased}
+use Rattle.definition.specs.Unreleased.{checkNothingReleased}
 use Rattle.definition.specs.ReleaseOrder.{checkReleaseOrder}
 use Rattle.definition.specs.FirstReleases.{constantRelease, apiEnum, enumRelease, valueRelease, keyRelease, checkArrival, checkConstantArrival, checkConstantArrivals, checkValueArrival, checkValueArrivals, checkEnumArrival, checkEnumArrivals, checkKeyArrival, checkKeyArrivals, checkFirstReleases}
-use Rattle.definition.specs.Constants.{valueText, checkConstant, checkConstantsIn, checkConstants}
+use Rattle.definition.specs.Constants.{constantText, checkConstant, checkConstantsIn, checkConstants}
 use Rattle.definition.specs.Enums.{checkValue, checkValues, checkEnum, checkEnums}
 use Rattle.definition.specs.Bitfields.{checkMember, checkMembers, checkBitfield, checkBitfields}
 use Rattle.definition.specs.BitfieldReleases.{bitfieldRelease, memberRelease, checkArrived, checkMemberArrived, checkMembersArrived, checkBitfieldArrived, checkBitfieldReleases}
@@ -237,8 +237,8 @@ module _ (c d r q : Schema) (oc : Permuted c d) (or : Permuted r q) (nc : NoneTw
       ap (each (checkConstant (c .structs) (c .constants))) (constants-sorted r q or nr)
       ∙ each-cong (checkConstant (c .structs) (c .constants)) (checkConstant (d .structs) (d .constants)) (sorted (λ (x : Const). x .name) (q .constants)) (λ was i.
       onFound (constant-last c d oc nc (was .name) i) (constantGone (was .name)) (λ (new : Const).
-      ensure (is-generation c d oc nc (was .name) i || eqs (valueText (new .value)) (valueText (was .value)))
-      (constantChanged (was .name) (valueText (was .value)) (valueText (new .value)))))
+      ensure (is-generation c d oc nc (was .name) i || eqs (constantText (new .value)) (constantText (was .value)))
+      (constantChanged (was .name) (constantText (was .value)) (constantText (new .value)))))
 
   -- standalone families ---------------------------------------------------------------------------------------------------
 
@@ -322,9 +322,9 @@ module _ (c d r q : Schema) (oc : Permuted c d) (or : Permuted r q) (nc : NoneTw
 
   -- the whole comparison --------------------------------------------------------------------------------------------------
 
-  unreleased-same : checkUnreleased (r .structs) (r .constants) (r .enums) (r .bitfields) (r .aliases) (r .families)
-      ≡ checkUnreleased (q .structs) (q .constants) (q .enums) (q .bitfields) (q .aliases) (q .families)
-  unfolding checkUnreleased
+  unreleased-same : checkNothingReleased (r .structs) (r .constants) (r .enums) (r .bitfields) (r .aliases) (r .families)
+      ≡ checkNothingReleased (q .structs) (q .constants) (q .enums) (q .bitfields) (q .aliases) (q .families)
+  unfolding checkNothingReleased
   unreleased-same i =
       ensure (empty-shuffled (r .structs) (q .structs) (exactly (or .structs)) i && empty-shuffled (r .constants) (q .constants) (exactly (or .constants)) i
       && empty-shuffled (r .enums) (q .enums) (or .enums) i && empty-shuffled (r .bitfields) (q .bitfields) (or .bitfields) i

@@ -10,7 +10,7 @@ use Rattle.record.specs.Schema.{Schema, Const, Alias, Enum, EnumValue, BitField
 use Rattle.record.specs.Steps.{constantIn, aliasIn, enumIn, bitfieldIn, structIn, familyIn}
 use Rattle.record.specs.Kind.{kindOf}
 use Rattle.record.specs.Keys.{fieldKeys, pluginKeys}
-use Rattle.record.specs.Shapes.{enumSize, aliasSize, bitfieldSize, sized, scalarSize, sizeAs, shapeSize, Place, placeOf, places, plain, prefix}
+use Rattle.record.specs.Shapes.{enumSize, aliasSize, bitfieldSize, sized, scalarSize, sizeAs, shapeSize, FieldLayout, placeOf, places, plain, famPrefix}
 use Rattle.record.specs.Owner.{Types, typesIn, structInSlot, slotted, hasSlot, variantFields, fieldsIn, typeFields, withName, rootsIn, ownershipOrder, roots, ownerOf, Leads, here, along, First, now, later}
 use Rattle.record.specs.Versioned.{slotOrder, versioned}
 use Rattle.record.specs.Generation.{ofStruct, ofVersion, ofConstant, generationOf}
@@ -191,24 +191,24 @@ module _ (a b : Schema) (o : Permuted a b) where
     pub places-found : (at : ℕ) (fs : List Field) → places a at fs ≡ places b at fs
     unfolding places placeOf
     places-found at [] = refl
-    places-found at (f ∷ fs) = rw (size-found f) (ap (λ (l : List Place). placeOf b at f ∷ l) (places-found (at + shapeSize b f) fs))
+    places-found at (f ∷ fs) = rw (size-found f) (ap (λ (l : List FieldLayout). placeOf b at f ∷ l) (places-found (at + shapeSize b f) fs))
 
     struct-laid : (t : Struct) → layStruct a t ≡ layStruct b t
     unfolding layStruct
-    struct-laid t = ap (λ (l : List Place). record { name = t .name; fields = l }) (places-found 0 (t .fields))
+    struct-laid t = ap (λ (l : List FieldLayout). record { name = t .name; fields = l }) (places-found 0 (t .fields))
 
     family-laid : (m n : Family) → PermutedFamily m n → layFamily a m ≡ layFamily b n
-    unfolding layFamily prefix
+    unfolding layFamily famPrefix
     family-laid m n e =
-        ap₂ (λ (x : Str) (l : List Place). record { name = x; fields = l }) (e .name) (places-found 0 (prefix m ++ m .common) ∙ ap (places b 0) front)
+        ap₂ (λ (x : Str) (l : List FieldLayout). record { name = x; fields = l }) (e .name) (places-found 0 (famPrefix m ++ m .common) ∙ ap (places b 0) front)
       where
-        front : prefix m ++ m .common ≡ prefix n ++ n .common
+        front : famPrefix m ++ m .common ≡ famPrefix n ++ n .common
         front = λ i. plain (e .discField i) (bytes "enum") (e .discType i)
             ∷ plain (e .lenField i) (bytes "scalar") (orElse (e .lenType i) (bytes "u8")) ∷ e .common i
 
     variant-laid : (n : Str) (m : Family) (v : Variant) → m .name ≡ n → layVariant a m v ≡ record { name = variantName n (v .disc); fields = places b 0 (v .fields) }
     unfolding layVariant
-    variant-laid n m v e = ap₂ (λ (x : Str) (l : List Place). record { name = variantName x (v .disc); fields = l }) e (places-found 0 (v .fields))
+    variant-laid n m v e = ap₂ (λ (x : Str) (l : List FieldLayout). record { name = variantName x (v .disc); fields = l }) e (places-found 0 (v .fields))
 
     family-layouts : (m n : Family) → PermutedFamily m n → List·Permᴰ (familyLayouts a m) (familyLayouts b n)
     unfolding familyLayouts layVariant

@@ -13,7 +13,7 @@ use Rattle.record.specs.Schema.{Schema, Value, integer, words, Const, Alias, En
 use Rattle.record.specs.Steps.{constantIn}
 use Rattle.record.specs.Keys.{pluginKeys}
 use Rattle.record.specs.Kind.{kindWords}
-use Rattle.record.specs.Shapes.{Place}
+use Rattle.record.specs.Shapes.{FieldLayout}
 use Rattle.record.specs.Owner.{typesIn, ownerOf}
 use Rattle.record.specs.Versioned.{slotOrder}
 use Rattle.record.specs.Reading.{Rec, schemaOf}
@@ -24,7 +24,7 @@ use Rattle.layout.specs.Layout.{TypeLayout, flattened, typeIn}
 use Rattle.definition.specs.Coverage.{owning}
 use Rattle.definition.specs.Pass.{allOf}
 use Rattle.definition.specs.Chain.{HasField, Kinded, Kinds, NoDup, slotsOf, NoColon, Names, Carries, Holds, Laid, Governed}
-use Rattle.definition.specs.Offers.{Sound, All}
+use Rattle.definition.specs.Offers.{SchemaHas, All}
 use Rattle.definition.specs.Sections.{NoneTwice}
 use Rattle.definition.proofs.Lists.{all-of}
 use Rattle.definition.proofs.Unmoved.{isText→eq}
@@ -239,7 +239,7 @@ module _ (root k t : Str) where
       present (some n) e = (n, refl)
 
 -- a field of a layout that is no padding is one that the record holds
-pub laid-field : (ts : List TypeLayout) (t : Str) (fs : List Place) → Laid ts t fs → (f : Place) → List·Memᴰ f fs → f .padding ≡ false
+pub laid-field : (ts : List TypeLayout) (t : Str) (fs : List FieldLayout) → Laid ts t fs → (f : FieldLayout) → List·Memᴰ f fs → f .padding ≡ false
     → HasField ts t (f .name) (f .offset) (f .size) (f .described)
 unfolding typeIn
 laid-field ts t fs w f m real =
@@ -260,10 +260,10 @@ laid-field ts t fs w f m real =
 -- records ----------------------------------------------------------------------------------------------------------------------------------
 
 -- a premise of a record is one of its schema, the only one that it can be read as
-pub sound : (P : Schema → Type 0) (r : Rec) → P (schemaOf r) → Sound P r
+pub sound : (P : Schema → Type 0) (r : Rec) → P (schemaOf r) → SchemaHas P r
 sound P r h s e = subst P (accepted Released r s e) h
 
 -- all are sound whose schemas pass a test for the premise
 pub all-sound : (P : Schema → Type 0) (test : Schema → Bool) → ((s : Schema) → test s ≡ true → P s)
-    → (rs : List Rec) → allOf (λ (r : Rec). test (schemaOf r)) rs ≡ true → All (Sound P) rs
+    → (rs : List Rec) → allOf (λ (r : Rec). test (schemaOf r)) rs ≡ true → All (SchemaHas P) rs
 all-sound P test is rs h r m = sound P r (is (schemaOf r) (all-of (λ (r : Rec). test (schemaOf r)) rs h m))

@@ -9,7 +9,7 @@ use lib.Dec.{eqb}
 use borrow.Author.Tests.{eqb-true, ne-eqb}
 use Rattle.record.specs.Base.{Str, eqs, withSome}
 use Rattle.record.specs.Schema.{Struct}
-use Rattle.record.specs.Shapes.{Place}
+use Rattle.record.specs.Shapes.{FieldLayout}
 use Rattle.layout.specs.Layout.{variantName}
 use Rattle.definition.specs.Fields.{eqPlace, eqPlaces}
 use Rattle.definition.specs.Coverage.{owning}
@@ -22,7 +22,7 @@ beq→eq true false h = absurd (false≢true h)
 beq→eq false true h = absurd (false≢true h)
 beq→eq false false h = refl
 
-pub eqPlace→eq : (a b : Place) → eqPlace a b ≡ true → a ≡ b
+pub eqPlace→eq : (a b : FieldLayout) → eqPlace a b ≡ true → a ≡ b
 unfolding eqPlace
 eqPlace→eq a b h =
     let k₁ = both _ (Bool·beq (a .padding) (b .padding)) h in
@@ -36,7 +36,7 @@ eqPlace→eq a b h =
     let p = beq→eq (a .padding) (b .padding) (k₁ .1) in
     λ i. record { name = n i; offset = o i; size = z i; described = d i; padding = p i }
 
-pub eqPlaces→eq : (a b : List Place) → eqPlaces a b ≡ true → a ≡ b
+pub eqPlaces→eq : (a b : List FieldLayout) → eqPlaces a b ≡ true → a ≡ b
 unfolding eqPlaces
 eqPlaces→eq [] [] h = refl
 eqPlaces→eq [] (y ∷ ys) h = absurd (false≢true h)

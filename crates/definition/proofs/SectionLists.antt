@@ -11,7 +11,7 @@ use Rattle.record.specs.Base.{Str, any, first}
 use Rattle.record.specs.Schema.{Key, Field, Family}
 use Rattle.record.specs.Commands.{widthOf, enumAt, bitfieldAt, structAt, familyAt, variantAt, fieldAt}
 use Rattle.record.specs.Lists.{enumOf, bitfieldOf, structOf, familyOf, variantOf, fieldOf, anything, nothing, aKey, aField}
-use Rattle.record.specs.Shapes.{prefix}
+use Rattle.record.specs.Shapes.{famPrefix}
 use Rattle.record.proofs.Basics.{both}
 use Rattle.definition.specs.Pass.{allOf}
 use Rattle.definition.specs.Sections.{number, isCommand, areCommands, isGroup, openers, insiders, isSection, Part, value, member, variant, sectionNumber, partNumber, fieldNumbers, isPart, PartsMoved, as-it-is, parts-moved}
@@ -402,7 +402,7 @@ module _ (p : Str) where
   unfoldable pub theOpened : List Str → List (List Field)
   theOpened [] = []
   theOpened (x ∷ xs) =
-      cond (eqb (number x) 9) ((prefix (familyOf p (familyAt x) [] []) ++ theFields p xs) ∷ theOpened xs)
+      cond (eqb (number x) 9) ((famPrefix (familyOf p (familyAt x) [] []) ++ theFields p xs) ∷ theOpened xs)
       (cond (eqb (number x) 8 || eqb (number x) 10) (theFields p xs ∷ theOpened xs) (theOpened xs))
 
   opened-append : (t : List Str) → ((s : List Str) → theFields p (s ++ t) ≡ theFields p s) → (s : List Str)
@@ -412,7 +412,7 @@ module _ (p : Str) where
   opened-append t same (x ∷ xs) = go (eqb (number x) 9) (eqb (number x) 8 || eqb (number x) 10) (same xs) (opened-append t same xs)
     where
       front : List Field
-      front = prefix (familyOf p (familyAt x) [] [])
+      front = famPrefix (familyOf p (familyAt x) [] [])
 
       go : (u v : Bool) → theFields p (xs ++ t) ≡ theFields p xs → theOpened (xs ++ t) ≡ theOpened xs ++ theOpened t
           → cond u ((front ++ theFields p (xs ++ t)) ∷ theOpened (xs ++ t)) (cond v (theFields p (xs ++ t) ∷ theOpened (xs ++ t)) (theOpened (xs ++ t)))
@@ -449,12 +449,12 @@ module _ (p : Str) where
       none rs m = opened-none (ownNumbers k) a b c (x ∷ fs ++ flatten rs) (moved-commands k x (fs ++ flatten rs) i (body-commands k fs rs j m))
 
   opened-body : (x : Str) (fs : List Str) (ps : List (List Str)) → number x ≡ 9 → allOf (isPart variant) ps ≡ true
-      → theOpened (x ∷ fs ++ flatten ps) ≡ (prefix (familyOf p (familyAt x) [] []) ++ theFields p fs) ∷ (theOpened fs ++ flatMap theOpened ps)
+      → theOpened (x ∷ fs ++ flatten ps) ≡ (famPrefix (familyOf p (familyAt x) [] []) ++ theFields p fs) ∷ (theOpened fs ++ flatMap theOpened ps)
   unfolding theOpened
   opened-body x fs ps e k =
       let closed = fields-variant (flatten ps) (parts-start variant ps k) in
       rw (eq-eqb (number x) 9 e)
-      (ap₂ (λ (f : List Field) (l : List (List Field)). (prefix (familyOf p (familyAt x) [] []) ++ f) ∷ l) (closed fs)
+      (ap₂ (λ (f : List Field) (l : List (List Field)). (famPrefix (familyOf p (familyAt x) [] []) ++ f) ∷ l) (closed fs)
       (opened-append (flatten ps) closed fs ∙ ap (λ (l : List (List Field)). theOpened fs ++ l) (opened-parts ps k)))
 
   pub moved-opened : (s t : List Str) → PartsMoved s t → List·Permᴰ (theOpened s) (theOpened t)

@@ -14,7 +14,7 @@ use borrow.Author.Tests.{eqb-true, eq-eqb, not-true}
 use Rattle.record.specs.Base.{Str, any, isSome}
 use Rattle.record.specs.Schema.{Schema}
 use Rattle.record.specs.Commands.{operands, widths, widthWith, widthOf, commandOf, commandsAt, start}
-use Rattle.record.specs.Judge.{mayStand, follows, parentAfter, moved, ready, judgedAt}
+use Rattle.record.specs.Judge.{mayStand, follows, parentAfter, advanced, ready, judgedAt}
 use Rattle.record.specs.Reading.{Rec, read, ok, continued, parse, parsed, reading}
 use Rattle.record.specs.declared.command.Command.{Command}
 use Rattle.record.specs.declared.command.Cursor.{Cursor}
@@ -109,14 +109,14 @@ module _ (side : Side) (pool : Str) (s : Str) where
 
       go : (t : Bool) → eqb (getD s (c .at) 0) 15 ≡ t
           → cond t (cond (eqb (c .at + (1 + widths (p .row))) (length s)) Done (Refused R.Misplaced (c .at + (1 + widths (p .row)))))
-          (Next (commandOf (getD s (c .at) 0) (drop (c .at) s)) (moved c (getD s (c .at) 0) (1 + widths (p .row)))) ≡ Done → drop (c .at) s ≡ 15 ∷ []
+          (Next (commandOf (getD s (c .at) 0) (drop (c .at) s)) (advanced c (getD s (c .at) 0) (1 + widths (p .row)))) ≡ Done → drop (c .at) s ≡ 15 ∷ []
       go true e h = last (eqb-true (getD s (c .at) 0) 15 e) (eqb (c .at + (1 + widths (p .row))) (length s)) refl h
       go false e h = absurd (let z : _≡_ {A = ℕ} 0 1 = cc in omega arith)
 
   not-end : (c : Cursor) (b w : ℕ) (d : Command) (k : Cursor) → ready s c b w ≡ Next d k → b ≡ 15 → ⊥
   unfolding ready
   not-end c b w d k e q =
-      go (eqb (c .at + w) (length s)) (sym (ap (λ (t : Bool). cond t (cond (eqb (c .at + w) (length s)) Done (Refused R.Misplaced (c .at + w))) (Next (commandOf b (drop (c .at) s)) (moved c b w))) (eq-eqb b 15 q)) ∙ e)
+      go (eqb (c .at + w) (length s)) (sym (ap (λ (t : Bool). cond t (cond (eqb (c .at + w) (length s)) Done (Refused R.Misplaced (c .at + w))) (Next (commandOf b (drop (c .at) s)) (advanced c b w))) (eq-eqb b 15 q)) ∙ e)
     where
       go : (t : Bool) → cond t Done (Refused R.Misplaced (c .at + w)) ≡ Next d k → ⊥
       go true h = let z : _≡_ {A = ℕ} 0 1 = cc in omega arith
@@ -135,11 +135,11 @@ module _ (side : Side) (pool : Str) (s : Str) where
           let b = getD s (c .at) 0 in
           let w = 1 + widths (p .row) in
           let g = not-end c b w d i (p .is-ready) in
-          let m : moved c b w ≡ i = taken-next side pool s c b w d i g (p .is-ready) in
+          let m : advanced c b w ≡ i = taken-next side pool s c b w d i g (p .is-ready) in
           let f = first-command s (c .at) w (omega arith) (p .whole) (row-width b (p .row) (p .has-row)) in
           let x = take w (drop (c .at) s) in
           let l : length x ≡ w = f .wide ∙ ap widthOf (f .is-number) ∙ row-width b (p .row) (p .has-row) in
-          let r = ih (moved c b w) qs (ap (parse k side s pool) m ∙ h) in (
+          let r = ih (advanced c b w) qs (ap (parse k side s pool) m ∙ h) in (
             x ∷ r .0,
             f .rest ∙ ap (λ (t : Str). x ++ t) (ap (λ (j : ℕ). drop (c .at + j) s) l ∙ r .1),
             and-more x (r .0) (record {

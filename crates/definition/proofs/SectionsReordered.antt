@@ -16,7 +16,7 @@ use Rattle.record.specs.Schema.{Schema, Field}
 use Rattle.record.specs.Commands.{widthOf, widthWith, widths, wide, operands, familyAt, start}
 use Rattle.record.specs.Lists.{fields, familyOf}
 use Rattle.record.specs.Letters.{oddLetter}
-use Rattle.record.specs.Shapes.{places, prefix}
+use Rattle.record.specs.Shapes.{places, famPrefix}
 use Rattle.record.specs.Reading.{Rec, rec, schemaFrom, schemaOf, Opened, openedAt, opened, large, vast, Reading, read, ok, parsed, streamLimit, poolLimit, vastOr, sizesOf, concluded, reading}
 use Rattle.record.specs.declared.command.Parent.the-variants.{NoParent}
 use Rattle.record.specs.declared.refusal.Side.{Side}
@@ -104,16 +104,16 @@ opened-run s p at (x ∷ xs) h c =
     here = record { place = at; fields = fields s p ps }
 
     family-here : Opened
-    family-here = record { place = at; fields = prefix (familyOf p (familyAt (drop at s)) [] []) ++ fields s p ps }
+    family-here = record { place = at; fields = famPrefix (familyOf p (familyAt (drop at s)) [] []) ++ fields s p ps }
 
     family : number x ≡ 9 → familyAt (drop at s) ≡ familyAt x
     family e = own-bytes 9 17 refl familyAt (λ f t. refl) s at x xs h y e
 
     pick : (u : Bool) → eqb (number x) 9 ≡ u → (v : Bool) → fields s p ps ≡ theFields p xs → named (opened s p ps) ≡ theOpened p xs
         → named (cond u (family-here ∷ opened s p ps) (cond v (here ∷ opened s p ps) (opened s p ps)))
-        ≡ cond u ((prefix (familyOf p (familyAt x) [] []) ++ theFields p xs) ∷ theOpened p xs)
+        ≡ cond u ((famPrefix (familyOf p (familyAt x) [] []) ++ theFields p xs) ∷ theOpened p xs)
         (cond v (theFields p xs ∷ theOpened p xs) (theOpened p xs))
-    pick true q v f r = λ i. (prefix (familyOf p (family (eqb-true (number x) 9 q) i) [] []) ++ f i) ∷ r i
+    pick true q v f r = λ i. (famPrefix (familyOf p (family (eqb-true (number x) 9 q) i) [] []) ++ f i) ∷ r i
     pick false q true f r = ap₂ _∷_ f r
     pick false q false f r = r
 

@@ -10,7 +10,7 @@ use borrow.Author.Tests.{eqb-false, ltb-false}
 use Rattle.record.specs.Base.{Str, eqs, isText, mapOption}
 use Rattle.record.specs.Schema.{Schema, integer, Struct, Family, Variant, Version}
 use Rattle.record.specs.Steps.{structIn}
-use Rattle.record.specs.Shapes.{Place}
+use Rattle.record.specs.Shapes.{FieldLayout}
 use Rattle.record.specs.Owner.{typesIn, structInSlot, withName, rootsIn, ownerOf}
 use Rattle.record.proofs.Basics.{both, eqs→eq, eqs-refl, find-some, find-any, find-only, any-some, filter-mem}
 use Rattle.layout.specs.Layout.{TypeLayout, types, typeIn, variantName, layStruct, layFamily, layVariant}
@@ -168,7 +168,7 @@ module _ (cur rel : Schema) (names : Names cur) (root : Str)
       go false e = moved e (standsAlone (cur .families) (owning (i .name))) refl
 
 -- no step of the number: the type stands as it stood
-pub unmoved : (cur rel : Schema) → Names cur → (root : Str) {type : Str} {fs : List Place}
+pub unmoved : (cur rel : Schema) → Names cur → (root : Str) {type : Str} {fs : List FieldLayout}
     → checkFields (types cur) (types rel) ≡ pass
     → checkStandalone (cur .families) (rel .families) (types cur) (types rel) ≡ pass
     → firstUnder (typesIn cur) (changed (types cur) (types rel)) root ≡ none

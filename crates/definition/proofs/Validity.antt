@@ -13,7 +13,7 @@ use Rattle.record.specs.Base.{Str, bytes}
 use Rattle.record.specs.Commands.{operands, wide, widths, widthWith, widthOf, commandOf}
 use Rattle.record.specs.Le.{u16At}
 use Rattle.record.specs.Operands.{textAt, optText, optTextAt, flagAt}
-use Rattle.record.specs.Judge.{mayStand, follows, parentAfter, moved, ifAbsent, operandFault, faultsFrom, faultsOf, ready, judgedWith, judgedAt}
+use Rattle.record.specs.Judge.{mayStand, follows, parentAfter, advanced, ifAbsent, operandFault, faultsFrom, faultsOf, ready, judgedWith, judgedAt}
 use Rattle.record.specs.Reading.{ok, onto, continued, parse}
 use Rattle.record.specs.declared.command.Command.{Command}
 use Rattle.record.specs.declared.command.Cursor.{Cursor}
@@ -103,12 +103,12 @@ and-true e f = rw (e, f)
 
 module _ (side : Side) (pool : Str) (s : Str) where
   -- a judgement that lets a command pass
-  pub taken-next : (c : Cursor) (b w : ℕ) (d : Command) (k : Cursor) → (b ≡ 15 → ⊥) → ready s c b w ≡ Next d k → moved c b w ≡ k
+  pub taken-next : (c : Cursor) (b w : ℕ) (d : Command) (k : Cursor) → (b ≡ 15 → ⊥) → ready s c b w ≡ Next d k → advanced c b w ≡ k
   unfolding ready
   taken-next c b w d k g e = go (eqb b 15) refl e
     where
       go : (t : Bool) → eqb b 15 ≡ t
-          → cond t (cond (eqb (c .at + w) (length s)) Done (Refused R.Misplaced (c .at + w))) (Next (commandOf b (drop (c .at) s)) (moved c b w)) ≡ Next d k → moved c b w ≡ k
+          → cond t (cond (eqb (c .at + w) (length s)) Done (Refused R.Misplaced (c .at + w))) (Next (commandOf b (drop (c .at) s)) (advanced c b w)) ≡ Next d k → advanced c b w ≡ k
       go true q h = absurd (g (eqb-true b 15 q))
       go false q h = cc
 
@@ -117,7 +117,7 @@ module _ (side : Side) (pool : Str) (s : Str) where
   not-done c b w g e = go (eqb b 15) refl e
     where
       go : (t : Bool) → eqb b 15 ≡ t
-          → cond t (cond (eqb (c .at + w) (length s)) Done (Refused R.Misplaced (c .at + w))) (Next (commandOf b (drop (c .at) s)) (moved c b w)) ≡ Done → ⊥
+          → cond t (cond (eqb (c .at + w) (length s)) Done (Refused R.Misplaced (c .at + w))) (Next (commandOf b (drop (c .at) s)) (advanced c b w)) ≡ Done → ⊥
       go true q h = g (eqb-true b 15 q)
       go false q h = let z : _≡_ {A = ℕ} 0 1 = cc in omega arith
 
@@ -160,10 +160,10 @@ module _ (side : Side) (pool : Str) (s : Str) where
       here-cmd : Whole x
       here-cmd = m x (List·Memᴰ·head refl)
 
-      on : (d : Cursor) → moved c (number x) (length x) ≡ d
+      on : (d : Cursor) → advanced c (number x) (length x) ≡ d
           → ((d : Cursor) (qs : List ℕ) → CommandsFrom s (d .at) xs → parse k side s pool d ≡ ok qs → valid side pool (d .last) (d .parent) xs ≡ true)
           → (qs : List ℕ) → parse k side s pool d ≡ ok qs → valid side pool (number x) (parentAfter (c .parent) (number x)) xs ≡ true
-      on d f ih qs g = ih (moved c (number x) (length x)) qs (next-here s (c .at) x xs h here-cmd) (ap (parse k side s pool) f ∙ g)
+      on d f ih qs g = ih (advanced c (number x) (length x)) qs (next-here s (c .at) x xs h here-cmd) (ap (parse k side s pool) f ∙ g)
 
       go : ((d : Cursor) (qs : List ℕ) → CommandsFrom s (d .at) xs → parse k side s pool d ≡ ok qs → valid side pool (d .last) (d .parent) xs ≡ true)
           → (j : Judged) → judgedAt side s pool c ≡ j
@@ -187,7 +187,7 @@ module _ (side : Side) (pool : Str) (s : Str) where
 
   judged-next : (c : Cursor) (x : Str) (xs : List Str) → CommandsFrom s (c .at) (x ∷ xs) → Whole x
       → mayStand (cursorAfter (c .last) (c .parent)) (number x) ≡ true → faultless side pool x ≡ true
-      → judgedAt side s pool c ≡ Next (commandOf (number x) (drop (c .at) s)) (moved c (number x) (length x))
+      → judgedAt side s pool c ≡ Next (commandOf (number x) (drop (c .at) s)) (advanced c (number x) (length x))
   unfolding judgedAt judgedWith ready faultless faultsOf
   judged-next c x xs h m t f =
       let l = length-here s (c .at) x xs h m in
@@ -220,4 +220,4 @@ module _ (side : Side) (pool : Str) (s : Str) where
       let b = both (faultless side pool x) _ (a .1) in
       let y = m x (List·Memᴰ·head refl) in
       rw (judged-next c x xs h y (a .0) (b .0))
-      (rw (valid-parsed k (moved c (number x) (length x)) xs (next-here s (c .at) x xs h y) (λ z i. m z (List·Memᴰ·tail i)) (omega arith) (b .1)) refl)
+      (rw (valid-parsed k (advanced c (number x) (length x)) xs (next-here s (c .at) x xs h y) (λ z i. m z (List·Memᴰ·tail i)) (omega arith) (b .1)) refl)

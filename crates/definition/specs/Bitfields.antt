@@ -11,21 +11,21 @@ use Rattle.definition.specs.Verdicts.{Verdict, bitFieldGone, memberRenam
 use Rattle.definition.specs.Pass.{_then_, ensure, each, onFound}
 
 -- a member without a width is one bit wide
-unfoldable pub widthOf : Member → ℕ
-widthOf m = orElse (m .width) 1
+unfoldable pub memberWidth : Member → ℕ
+memberWidth m = orElse (m .width) 1
 
 -- the first member with this bit and width
 unfoldable pub spanIn : ℕ → ℕ → List Member → Option Member
-spanIn bit width l = find (λ (m : Member). eqb (m .bit) bit && eqb (widthOf m) width) l
+spanIn bit width l = find (λ (m : Member). eqb (m .bit) bit && eqb (memberWidth m) width) l
 
 -- the bit field's name, the members that are now, and one that was
 unfoldable pub checkMember : Str → List Member → Member → Verdict
 checkMember owner is old =
     onFound (memberIn (old .name) is)
-    (onFound (spanIn (old .bit) (widthOf old) is) (memberGone owner (old .name)) (λ (new : Member). memberRenamed owner (old .name) (new .name)))
+    (onFound (spanIn (old .bit) (memberWidth old) is) (memberGone owner (old .name)) (λ (new : Member). memberRenamed owner (old .name) (new .name)))
     (λ (new : Member).
     ensure (eqb (new .bit) (old .bit)) (bitMoved owner (old .name) (old .bit) (new .bit))
-    then ensure (eqb (widthOf new) (widthOf old)) (widthChanged owner (old .name) (widthOf old) (widthOf new)))
+    then ensure (eqb (memberWidth new) (memberWidth old)) (widthChanged owner (old .name) (memberWidth old) (memberWidth new)))
 
 unfoldable pub checkMembers : Str → List Member → List Member → Verdict
 checkMembers owner is was = each (checkMember owner is) was

@@ -8,10 +8,10 @@ use Rattle.record.specs.Base.{Str, withSome}
 use Rattle.record.specs.Schema.{Schema, integer, Const, Enum, EnumValue, BitField, Member, Field, Struct, Family, Variant}
 use Rattle.record.specs.Steps.{constantIn}
 use Rattle.record.specs.Kind.{kindWords}
-use Rattle.record.specs.Shapes.{Place}
+use Rattle.record.specs.Shapes.{FieldLayout}
 use Rattle.record.specs.Owner.{typesIn, ownerOf}
 use Rattle.layout.specs.Layout.{TypeLayout, types, typeIn}
-use Rattle.definition.specs.Bitfields.{widthOf}
+use Rattle.definition.specs.Bitfields.{memberWidth}
 use Rattle.record.specs.Versioned.{slotOrder}
 use Rattle.definition.specs.Coverage.{owning}
 
@@ -36,7 +36,7 @@ pub record HasMember (bs : List BitField) (field member : Str) (bit width : ℕ)
   pub is-child : List·Memᴰ child (parent .members)
   pub child-name : child .name ≡ member
   pub child-bit : child .bit ≡ bit
-  pub child-width : widthOf child ≡ width
+  pub child-width : memberWidth child ≡ width
 
 -- a layout of this name with a field of this name, offset, size and description. 01: fields are those of the layouts, a field's parent is its
 -- layout, non-padding unless their kind is padding
@@ -44,7 +44,7 @@ pub record HasField (ts : List TypeLayout) (type field : Str) (offset size : ℕ
   pub parent : TypeLayout
   pub is-parent : List·Memᴰ parent ts
   pub parent-name : parent .name ≡ type
-  pub child : Place
+  pub child : FieldLayout
   pub is-child : List·Memᴰ child (parent .fields)
   pub child-name : child .name ≡ field
   pub child-offset : child .offset ≡ offset
@@ -59,7 +59,7 @@ pub record Holds (cs : List Const) (constant : Str) (number : ℕ) : Type 0 wher
   pub is-integer : found .value ≡ integer number
 
 -- a layout of this name with these fields, in this order
-pub record Laid (ts : List TypeLayout) (type : Str) (fields : List Place) : Type 0 where
+pub record Laid (ts : List TypeLayout) (type : Str) (fields : List FieldLayout) : Type 0 where
   pub found : TypeLayout
   pub is-found : typeIn type ts ≡ some found
   pub is-fields : found .fields ≡ fields

@@ -11,9 +11,9 @@ use Rattle.record.specs.Versioned.{versioned}
 use Rattle.record.specs.Generation.{Held, generationOf}
 
 -- 01: constants compare as text, integers in decimal
-unfoldable pub valueText : Value → Str
-valueText (integer n) = signed n
-valueText (words t) = t
+unfoldable pub constantText : Value → Str
+constantText (integer n) = signed n
+constantText (words t) = t
 
 -- 01: of two constants of one name the later stays
 unfoldable pub lastConstant : Str → List Const → Option Const
@@ -35,8 +35,8 @@ isGeneration ss cs n = heldByAny ss cs (versioned ss) n
 unfoldable pub checkConstant : List Struct → List Const → Const → Verdict
 checkConstant ss is was =
     onFound (lastConstant (was .name) is) (constantGone (was .name)) (λ (new : Const).
-    ensure (isGeneration ss is (was .name) || eqs (valueText (new .value)) (valueText (was .value)))
-    (constantChanged (was .name) (valueText (was .value)) (valueText (new .value))))
+    ensure (isGeneration ss is (was .name) || eqs (constantText (new .value)) (constantText (was .value)))
+    (constantChanged (was .name) (constantText (was .value)) (constantText (new .value))))
 
 unfoldable pub checkConstantsIn : List Struct → List Const → List Const → Verdict
 checkConstantsIn ss is was = each (checkConstant ss is) was

@@ -5,7 +5,7 @@ use mathlib.Core.Bool.{Bool, not, Bool·beq}
 use Rattle.record.specs.Base.{Str, isSome, mapOption, find}
 use Rattle.record.specs.Schema.{Family, Variant}
 use Rattle.record.specs.Steps.{familyIn}
-use Rattle.record.specs.Shapes.{Place}
+use Rattle.record.specs.Shapes.{FieldLayout}
 use Rattle.layout.specs.Layout.{TypeLayout, typeIn, variantName}
 use Rattle.definition.specs.Verdicts.{Verdict, pass, standingChanged, shippedFamilyChanged}
 use Rattle.definition.specs.Pass.{_then_, ensure, each, onFound}
@@ -20,11 +20,11 @@ unfoldable pub layoutsOf : Family → List Str
 layoutsOf m = m .name ∷ variantNames (m .name) (m .variants)
 
 -- the name of the first field whose name is new
-unfoldable pub gained : List Place → List Place → Option Str
-gained is was = mapOption (λ (f : Place). f .name) (find (λ (f : Place). not (isSome (placeIn (f .name) was))) is)
+unfoldable pub gained : List FieldLayout → List FieldLayout → Option Str
+gained is was = mapOption (λ (f : FieldLayout). f .name) (find (λ (f : FieldLayout). not (isSome (placeIn (f .name) was))) is)
 
 -- the fields of a layout now and before are the same
-unfoldable pub checkSame : Str → List Place → List Place → Verdict
+unfoldable pub checkSame : Str → List FieldLayout → List FieldLayout → Verdict
 checkSame n is was = ensure (eqPlaces is was) (shippedFamilyChanged n (gained is was))
 
 -- a layout that is new, or gone, is passed over

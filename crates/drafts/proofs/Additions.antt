@@ -12,7 +12,7 @@ use Rattle.record.specs.Base.{Str}
 use Rattle.record.specs.Schema.{Schema}
 use Rattle.record.specs.Letters.{oddLetter}
 use Rattle.record.specs.Commands.{operands, widths, commandOf, start, commandsAt}
-use Rattle.record.specs.Judge.{mayStand, moved, faultsFrom, faulted, ready, judgedWith, judgedAt}
+use Rattle.record.specs.Judge.{mayStand, advanced, faultsFrom, faulted, ready, judgedWith, judgedAt}
 use Rattle.record.specs.Reading.{Rec, read, reading, ok, onto, continued, parse, parsed, streamLimit, poolLimit}
 use Rattle.record.specs.declared.command.Cursor.{Cursor}
 use Rattle.record.specs.declared.refusal.Side.the-variants.{Current}
@@ -108,7 +108,7 @@ unfolding ready
 done-byte s pool c e = let p = passed Current s pool c Done tt e in go p (eqb (getD s (c .at) 0) 15) refl (p .is-ready)
   where
     go : (p : Passed Current s pool c Done) (t : Bool) → eqb (getD s (c .at) 0) 15 ≡ t
-        → cond t (cond (eqb (c .at + (1 + widths (p .row))) (length s)) Done (Refused R.Misplaced (c .at + (1 + widths (p .row))))) (Next (commandOf (getD s (c .at) 0) (drop (c .at) s)) (moved c (getD s (c .at) 0) (1 + widths (p .row)))) ≡ Done
+        → cond t (cond (eqb (c .at + (1 + widths (p .row))) (length s)) Done (Refused R.Misplaced (c .at + (1 + widths (p .row))))) (Next (commandOf (getD s (c .at) 0) (drop (c .at) s)) (advanced c (getD s (c .at) 0) (1 + widths (p .row)))) ≡ Done
         → getD s (c .at) 0 ≡ 15
     go p true q h = eqb-true (getD s (c .at) 0) 15 q
     go p false q h = absurd (let y : _≡_ {A = ℕ} 0 1 = cc in omega arith)

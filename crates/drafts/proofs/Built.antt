@@ -9,7 +9,7 @@ use borrow.Author.Tests.{lt-ltb, le-ltb, ne-eqb, eq-eqb}
 use Rattle.record.specs.Base.{Str, bytes}
 use Rattle.record.specs.Fill.{joined}
 use Rattle.record.specs.Commands.{operands, widths, commandOf}
-use Rattle.record.specs.Judge.{mayStand, moved, faultsFrom, ready, judgedWith, judgedAt}
+use Rattle.record.specs.Judge.{mayStand, advanced, faultsFrom, ready, judgedWith, judgedAt}
 use Rattle.record.specs.Reading.{ok, onto, continued, parse}
 use Rattle.record.specs.declared.command.Cursor.{Cursor}
 use Rattle.record.specs.declared.refusal.Side.{Side}
@@ -43,7 +43,7 @@ module _ (side : Side) (p : Str) where
     long : k .at + length z ≤ length S
     long = let a = length-append pre (z ++ y) in let b = length-append z y in omega arith
 
-    link-judged : judgedAt side S p k ≡ Next (commandOf (getD z 0 0) (z ++ y)) (moved k (getD z 0 0) (length z))
+    link-judged : judgedAt side S p k ≡ Next (commandOf (getD z 0 0) (z ++ y)) (advanced k (getD z 0 0) (length z))
     unfolding judgedAt judgedWith ready
     link-judged =
         let n = l .sized in
@@ -72,11 +72,11 @@ module _ (side : Side) (p : Str) where
   build (z ∷ zs) (d ∷ ds) pre k zero e h c = absurd (omega arith)
   build (z ∷ zs) (d ∷ ds) pre k (suc n) e h c =
       let y : Str = joined zs ++ (15 ∷ []) in
-      let b : Built side ((pre ++ z) ++ y) p n (moved k (getD z 0 0) (length z)) ds =
-      build zs ds (pre ++ z) (moved k (getD z 0 0) (length z)) n (length-append pre z ∙ ap (λ (i : ℕ). i + length z) e) (omega arith) (c .1) in
+      let b : Built side ((pre ++ z) ++ y) p n (advanced k (getD z 0 0) (length z)) ds =
+      build zs ds (pre ++ z) (advanced k (getD z 0 0) (length z)) n (length-append pre z ∙ ap (λ (i : ℕ). i + length z) e) (omega arith) (c .1) in
       let q : pre ++ ((z ++ joined zs) ++ (15 ∷ [])) ≡ pre ++ (z ++ y) = ap (λ (i : Str). pre ++ i) (append-assoc z (joined zs) (15 ∷ [])) in
       let q2 : (pre ++ z) ++ y ≡ pre ++ (z ++ y) = append-assoc pre z y in
-      let b2 : Built side (pre ++ (z ++ y)) p n (moved k (getD z 0 0) (length z)) ds = subst (λ (s : Str). Built side s p n (moved k (getD z 0 0) (length z)) ds) q2 b in
+      let b2 : Built side (pre ++ (z ++ y)) p n (advanced k (getD z 0 0) (length z)) ds = subst (λ (s : Str). Built side s p n (advanced k (getD z 0 0) (length z)) ds) q2 b in
       let r : Built side (pre ++ (z ++ y)) p (suc n) k (d ∷ ds) = record {
         places = k .at ∷ b2 .places;
         parses = rw (link-judged pre z y k d e (c .0), b2 .parses);

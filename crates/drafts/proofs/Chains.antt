@@ -10,7 +10,7 @@ use lib.Dec.{eqb}
 use borrow.Author.Tests.{eqb-true, ne-eqb}
 use Rattle.record.specs.Base.{Str}
 use Rattle.record.specs.Commands.{operands, widths}
-use Rattle.record.specs.Judge.{mayStand, follows, parentAfter, moved, faultsFrom, judgedAt}
+use Rattle.record.specs.Judge.{mayStand, follows, parentAfter, advanced, faultsFrom, judgedAt}
 use Rattle.record.specs.Reading.{ok, continued, parse}
 use Rattle.record.specs.declared.text.Text.{Text}
 use Rattle.record.specs.declared.command.Parent.{Parent}
@@ -119,7 +119,7 @@ abbrev content-as : ℕ → List Operand → Content
 content-as b l = record { number = b; operands = l }
 
 module _ (side : Side) (s p p2 : Str) (f : ℕ → ℕ) (small : length p2 < 65535) where
-  -- every text of the commands at these places is moved
+  -- every text of the commands at these places is advanced
   abbrev pub AllMoved : List ℕ → Type 0
   AllMoved ps = (at : ℕ) → List·Memᴰ at ps → (u : Text) → List·Memᴰ u (textsAt s at) → Moved f p p2 u
 
@@ -152,7 +152,7 @@ module _ (side : Side) (s p p2 : Str) (f : ℕ → ℕ) (small : length p2 < 655
 
     -- one command, and what follows it
     linked : (c k j : Cursor) (ps : List ℕ) → Went side s p c j → mayStand k (getD s (c .at) 0) ≡ true → AllMoved (c .at ∷ ps)
-        → Chained (moved k (getD s (c .at) 0) (length (writtenAt f s (c .at)))) ps → Chained k (c .at ∷ ps)
+        → Chained (advanced k (getD s (c .at) 0) (length (writtenAt f s (c .at)))) ps → Chained k (c .at ∷ ps)
     unfolding written writtenAt
     linked c k j ps w st m r = (link (c .at) k (w .row) (w .has-row) st (w .fine) (w .going) (m (c .at) (List·Memᴰ·head refl)), r)
 

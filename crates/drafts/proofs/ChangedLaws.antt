@@ -5,7 +5,7 @@ use mathlib.Core.Bool.{Bool, true, false, not, cond}
 use Prim.Native.Nat.{ℕ, zero, suc, _+_, _-_, _≤_, _<_}
 use native.Mathlib.Numerals.{add-one}
 use native.Mathlib.Omega.{arith}
-use lib.ListN.{length, getD, drop, take, replicate, drop-of-length-le}
+use lib.ListN.{length, getD, drop, replicate, drop-of-length-le}
 use lib.Seq.{drop-cons}
 use types.Run.{OneOf}
 use denote.Enum.Declared.{tagOf}
@@ -13,10 +13,8 @@ use Rattle.record.specs.Base.{Str, isSome, filterB}
 use Rattle.record.specs.Scalars.{Scalar}
 use Rattle.record.specs.Index.{IndexRoom, Indexed}
 use Rattle.record.specs.Reading.{Rec, rec, schemaOf}
-use Rattle.record.specs.Read.{Exact}
 use Rattle.layout.specs.Layout.{TypeLayout, typeIn}
 use Rattle.layout.specs.Handles.{typeName, layoutOf}
-use Rattle.layout.specs.Room.{Room, SizesRoom}
 use Rattle.layout.specs.Table.{TypesTable, FoundType}
 use Rattle.layout.specs.Tables.{Tables}
 use Rattle.layout.specs.declared.table.TypeFound.{TypeFound}
@@ -165,10 +163,6 @@ counted-both s p b q w t z u y n m a c e g = ap₂ (λ (i j : ℕ). i + j) e (g 
 
 pub indexed-one : (s p : Str) (x y : List ℕ) → length s ≤ 32768 → IndexRoom s x → (length s ≤ 32768 → IndexRoom s x → Indexed s p y) → Indexed s p y
 indexed-one s p x y h r f = f h r
-
-pub laid-one : (s p : Str) (w : List Scalar) (x t k z u v : List ℕ) (r : ℕ) → Legible (rec s p w) → Indexed s p x → Room s t → Room s k → SizesRoom s z
-    → (Indexed s p x → length s ≤ 32768 → Room s t → Room s k → SizesRoom s z → Exact (rec s p w) → Tables (rec s p w) (take r u) v) → Tables (rec s p w) (take r u) v
-laid-one s p w x t k z u v r l i a b d f = f i (l .short) a b d (l .exact)
 
 -- tables as they are made are long enough for every record
 pub rooms-made : (r : Rec) → Legible r → Rooms r (replicate 8192 0) (replicate 993 0)

@@ -14,9 +14,9 @@ use Rattle.record.specs.Operands.{flagAt, optNumberAt}
 use Rattle.record.specs.Commands.{operands, wide, familyAt, commandsAt}
 use Rattle.record.specs.Schema.{Schema, Heading, words, integer, Const, Alias, Enum, EnumValue, BitField, Member, Key, Field, Struct, Variant, Family, Version}
 use Rattle.record.specs.Lists.{listed, anything, nothing, aKey, aField, numberOf, heads, constants, aliases, values, enums, members, bitfields, keys, fields, structs, variants, families, unstored, versions, familyOf}
-use Rattle.record.specs.Shapes.{prefix}
+use Rattle.record.specs.Shapes.{famPrefix}
 use Rattle.record.specs.Reading.{Rec, releaseOf, unreleasedOf, schemaFrom, schemaOf, Opened, openedAt, opened}
-use Rattle.record.specs.CommandTexts.{isPlain}
+use Rattle.record.specs.CommandTexts.{noText}
 use Rattle.drafts.specs.Content.{Operand, text, maybe, plain, Content, bytesAt, operandAt, operandsAt, operandsWith, contentAs, contentAt, contentsOf}
 
 -- the operands of a content -----------------------------------------------------------------------------------------------
@@ -173,59 +173,59 @@ module _ (s p : Str) where
         go ih false e false = refl
 
   heads-in : (ps : List ℕ) → heads s p ps ≡ listedIn anything 1 (λ d rest. headIn d) (map (contentAt s p) ps)
-  unfolding heads contentAs operands operandsWith operandsAt operandAt isPlain bytesAt wide bytes u16At u32At u64At optNumberAt flagAt
+  unfolding heads contentAs operands operandsWith operandsAt operandAt noText bytesAt wide bytes u16At u32At u64At optNumberAt flagAt
   heads-in = listed-in anything 1 _ _ (λ at rest. refl)
 
   constants-in : (ps : List ℕ) → constants s p ps ≡ listedIn anything 2 (λ d rest. constantIn d) (map (contentAt s p) ps)
-  unfolding constants contentAs operands operandsWith operandsAt operandAt isPlain bytesAt wide bytes u16At u32At u64At optNumberAt flagAt
+  unfolding constants contentAs operands operandsWith operandsAt operandAt noText bytesAt wide bytes u16At u32At u64At optNumberAt flagAt
   constants-in = listed-in anything 2 _ _ (λ at rest. refl)
 
   aliases-in : (ps : List ℕ) → aliases s p ps ≡ listedIn anything 3 (λ d rest. aliasIn d) (map (contentAt s p) ps)
-  unfolding aliases contentAs operands operandsWith operandsAt operandAt isPlain bytesAt wide bytes u16At u32At u64At optNumberAt flagAt
+  unfolding aliases contentAs operands operandsWith operandsAt operandAt noText bytesAt wide bytes u16At u32At u64At optNumberAt flagAt
   aliases-in = listed-in anything 3 _ _ (λ at rest. refl)
 
   values-in : (ps : List ℕ) → values s p ps ≡ valuesIn (map (contentAt s p) ps)
-  unfolding values valuesIn contentAs operands operandsWith operandsAt operandAt isPlain bytesAt wide bytes u16At u32At u64At optNumberAt flagAt
+  unfolding values valuesIn contentAs operands operandsWith operandsAt operandAt noText bytesAt wide bytes u16At u32At u64At optNumberAt flagAt
   values-in = listed-in nothing 5 _ _ (λ at rest. refl)
 
   members-in : (ps : List ℕ) → members s p ps ≡ membersIn (map (contentAt s p) ps)
-  unfolding members membersIn contentAs operands operandsWith operandsAt operandAt isPlain bytesAt wide bytes u16At u32At u64At optNumberAt flagAt
+  unfolding members membersIn contentAs operands operandsWith operandsAt operandAt noText bytesAt wide bytes u16At u32At u64At optNumberAt flagAt
   members-in = listed-in nothing 7 _ _ (λ at rest. refl)
 
   keys-in : (ps : List ℕ) → keys s p ps ≡ keysIn (map (contentAt s p) ps)
-  unfolding keys keysIn contentAs operands operandsWith operandsAt operandAt isPlain bytesAt wide bytes u16At u32At u64At optNumberAt flagAt
+  unfolding keys keysIn contentAs operands operandsWith operandsAt operandAt noText bytesAt wide bytes u16At u32At u64At optNumberAt flagAt
   keys-in = listed-in nothing 12 _ _ (λ at rest. refl)
 
   unstored-in : (ps : List ℕ) → unstored s p ps ≡ listedIn anything 13 (λ d rest. keyIn d) (map (contentAt s p) ps)
-  unfolding unstored contentAs operands operandsWith operandsAt operandAt isPlain bytesAt wide bytes u16At u32At u64At optNumberAt flagAt
+  unfolding unstored contentAs operands operandsWith operandsAt operandAt noText bytesAt wide bytes u16At u32At u64At optNumberAt flagAt
   unstored-in = listed-in anything 13 _ _ (λ at rest. refl)
 
   versions-in : (ps : List ℕ) → versions s p ps ≡ listedIn anything 14 (λ d rest. versionIn d) (map (contentAt s p) ps)
-  unfolding versions contentAs operands operandsWith operandsAt operandAt isPlain bytesAt wide bytes u16At u32At u64At optNumberAt flagAt
+  unfolding versions contentAs operands operandsWith operandsAt operandAt noText bytesAt wide bytes u16At u32At u64At optNumberAt flagAt
   versions-in = listed-in anything 14 _ _ (λ at rest. refl)
 
   enums-in : (ps : List ℕ) → enums s p ps ≡ listedIn anything 4 (λ d rest. enumIn d (valuesIn rest)) (map (contentAt s p) ps)
-  unfolding enums contentAs operands operandsWith operandsAt operandAt isPlain bytesAt wide bytes u16At u32At u64At optNumberAt flagAt
+  unfolding enums contentAs operands operandsWith operandsAt operandAt noText bytesAt wide bytes u16At u32At u64At optNumberAt flagAt
   enums-in = listed-in anything 4 _ _ (λ at rest. ap (λ (l : List EnumValue). enumIn (contentAs p (drop at s) 4) l) (values-in rest))
 
   bitfields-in : (ps : List ℕ) → bitfields s p ps ≡ listedIn anything 6 (λ d rest. bitfieldIn d (membersIn rest)) (map (contentAt s p) ps)
-  unfolding bitfields contentAs operands operandsWith operandsAt operandAt isPlain bytesAt wide bytes u16At u32At u64At optNumberAt flagAt
+  unfolding bitfields contentAs operands operandsWith operandsAt operandAt noText bytesAt wide bytes u16At u32At u64At optNumberAt flagAt
   bitfields-in = listed-in anything 6 _ _ (λ at rest. ap (λ (l : List Member). bitfieldIn (contentAs p (drop at s) 6) l) (members-in rest))
 
   fields-in : (ps : List ℕ) → fields s p ps ≡ fieldsIn (map (contentAt s p) ps)
-  unfolding fields fieldsIn contentAs operands operandsWith operandsAt operandAt isPlain bytesAt wide bytes u16At u32At u64At optNumberAt flagAt
+  unfolding fields fieldsIn contentAs operands operandsWith operandsAt operandAt noText bytesAt wide bytes u16At u32At u64At optNumberAt flagAt
   fields-in = listed-in aKey 11 _ _ (λ at rest. ap (λ (l : List Key). fieldIn (contentAs p (drop at s) 11) (first l)) (keys-in rest))
 
   structs-in : (ps : List ℕ) → structs s p ps ≡ structsIn (map (contentAt s p) ps)
-  unfolding structs structsIn contentAs operands operandsWith operandsAt operandAt isPlain bytesAt wide bytes u16At u32At u64At optNumberAt flagAt
+  unfolding structs structsIn contentAs operands operandsWith operandsAt operandAt noText bytesAt wide bytes u16At u32At u64At optNumberAt flagAt
   structs-in = listed-in anything 8 _ _ (λ at rest. ap (λ (l : List Field). structIn (contentAs p (drop at s) 8) l) (fields-in rest))
 
   variants-in : (ps : List ℕ) → variants s p ps ≡ variantsIn (map (contentAt s p) ps)
-  unfolding variants variantsIn contentAs operands operandsWith operandsAt operandAt isPlain bytesAt wide bytes u16At u32At u64At optNumberAt flagAt
+  unfolding variants variantsIn contentAs operands operandsWith operandsAt operandAt noText bytesAt wide bytes u16At u32At u64At optNumberAt flagAt
   variants-in = listed-in aField 10 _ _ (λ at rest. ap (λ (l : List Field). variantIn (contentAs p (drop at s) 10) l) (fields-in rest))
 
   families-in : (ps : List ℕ) → families s p ps ≡ familiesIn (map (contentAt s p) ps)
-  unfolding families familiesIn contentAs operands operandsWith operandsAt operandAt isPlain bytesAt wide bytes u16At u32At u64At optNumberAt flagAt
+  unfolding families familiesIn contentAs operands operandsWith operandsAt operandAt noText bytesAt wide bytes u16At u32At u64At optNumberAt flagAt
   families-in = listed-in anything 9 _ _ (λ at rest. ap₂ (λ (l : List Field) (v : List Variant). familyIn (contentAs p (drop at s) 9) l v) (fields-in rest) (variants-in rest))
 
 -- what the commands at these places give, by what they say
@@ -252,15 +252,15 @@ schema-of r = schema-in r (commandsAt (r .stream) 0)
 unfoldable pub openedFields : List Content → List (List Field)
 openedFields [] = []
 openedFields (d ∷ ds) =
-    cond (eqb (d .number) 9) ((prefix (familyIn d [] []) ++ fieldsIn ds) ∷ openedFields ds)
+    cond (eqb (d .number) 9) ((famPrefix (familyIn d [] []) ++ fieldsIn ds) ∷ openedFields ds)
     (cond (eqb (d .number) 8 || eqb (d .number) 10) (fieldsIn ds ∷ openedFields ds) (openedFields ds))
 
 abbrev place-of : ℕ → List Field → Opened
 place-of at fs = record { place = at; fields = fs }
 
 module _ (s p : Str) where
-  front-in : (at : ℕ) → prefix (familyOf p (familyAt (drop at s)) [] []) ≡ prefix (familyIn (contentAs p (drop at s) 9) [] [])
-  unfolding prefix contentAs operands operandsWith operandsAt operandAt isPlain bytesAt wide bytes u16At u32At u64At optNumberAt flagAt
+  front-in : (at : ℕ) → famPrefix (familyOf p (familyAt (drop at s)) [] []) ≡ famPrefix (familyIn (contentAs p (drop at s) 9) [] [])
+  unfolding famPrefix contentAs operands operandsWith operandsAt operandAt noText bytesAt wide bytes u16At u32At u64At optNumberAt flagAt
   front-in at = refl
 
   pub opened-in : (ps : List ℕ) → map (λ (t : Opened). t .fields) (opened s p ps) ≡ openedFields (map (contentAt s p) ps)
@@ -269,12 +269,12 @@ module _ (s p : Str) where
   opened-in (at ∷ ps) = go (opened-in ps) (eqb (getD s at 0) 9) refl (eqb (getD s at 0) 8 || eqb (getD s at 0) 10)
     where
       go : map (λ (t : Opened). t .fields) (opened s p ps) ≡ openedFields (map (contentAt s p) ps) → (t : Bool) → eqb (getD s at 0) 9 ≡ t → (o : Bool)
-          → map (λ (t : Opened). t .fields) (cond t (place-of at (prefix (familyOf p (familyAt (drop at s)) [] []) ++ fields s p ps) ∷ opened s p ps) (cond o (place-of at (fields s p ps) ∷ opened s p ps) (opened s p ps)))
-          ≡ cond t ((prefix (familyIn (contentAt s p at) [] []) ++ fieldsIn (map (contentAt s p) ps)) ∷ openedFields (map (contentAt s p) ps))
+          → map (λ (t : Opened). t .fields) (cond t (place-of at (famPrefix (familyOf p (familyAt (drop at s)) [] []) ++ fields s p ps) ∷ opened s p ps) (cond o (place-of at (fields s p ps) ∷ opened s p ps) (opened s p ps)))
+          ≡ cond t ((famPrefix (familyIn (contentAt s p at) [] []) ++ fieldsIn (map (contentAt s p) ps)) ∷ openedFields (map (contentAt s p) ps))
           (cond o (fieldsIn (map (contentAt s p) ps) ∷ openedFields (map (contentAt s p) ps)) (openedFields (map (contentAt s p) ps)))
       go ih true e o =
           let q = eqb-true (getD s at 0) 9 e in
-          let f : prefix (familyOf p (familyAt (drop at s)) [] []) ≡ prefix (familyIn (contentAt s p at) [] []) = front-in at ∙ ap (λ (k : ℕ). prefix (familyIn (contentAs p (drop at s) k) [] [])) (sym q) in
+          let f : famPrefix (familyOf p (familyAt (drop at s)) [] []) ≡ famPrefix (familyIn (contentAt s p at) [] []) = front-in at ∙ ap (λ (k : ℕ). famPrefix (familyIn (contentAs p (drop at s) k) [] [])) (sym q) in
           ap₂ (λ (x : List Field) (l : List (List Field)). x ∷ l) (ap₂ (λ (x y : List Field). x ++ y) f (fields-in s p ps)) ih
       go ih false e true = ap₂ (λ (x : List Field) (l : List (List Field)). x ∷ l) (fields-in s p ps) ih
       go ih false e false = ih

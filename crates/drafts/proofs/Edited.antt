@@ -21,7 +21,7 @@ use Rattle.record.specs.declared.judge.Judged.{Judged}
 use Rattle.record.specs.declared.judge.Judged.the-variants.{Next, Done, Refused}
 use Rattle.record.proofs.Basics.{both}
 use Rattle.record.proofs.Accepted.{onto-ok}
-use Rattle.record.specs.CommandTexts.{isPlain}
+use Rattle.record.specs.CommandTexts.{noText}
 use Rattle.drafts.specs.Content.{Content, operandAt, operandsAt, operandsWith, contentAs, contentAt, contentsOf}
 use Rattle.drafts.specs.Addition.{isType, isPart, addition}
 use Rattle.drafts.specs.Edits.{named, afterParts, without, removed, added}
@@ -276,7 +276,7 @@ module _ {A : Type 0} (q : A → Bool) where
 -- the names of types, as the search for one and as the schema has them
 module _ (s p v : Str) where
   name-said : (at : ℕ) → isType (getD s at 0) ≡ true → textArg 0 (contentAt s p at) ≡ textOf p (textAt (drop at s) 1)
-  unfolding isType contentAt contentAs operands operandsWith operandsAt operandAt isPlain wide bytes
+  unfolding isType contentAt contentAs operands operandsWith operandsAt operandAt noText wide bytes
   name-said at t = go (eqb (getD s at 0) 8) refl (eqb (getD s at 0) 9) refl t
     where
       go : (x : Bool) → eqb (getD s at 0) 8 ≡ x → (y : Bool) → eqb (getD s at 0) 9 ≡ y → (x || y) ≡ true → textArg 0 (contentAt s p at) ≡ textOf p (textAt (drop at s) 1)

@@ -13,7 +13,7 @@ use Rattle.record.specs.Reading.{Rec, rec, schemaOf, Reading, read, reading}
 use Rattle.record.specs.declared.refusal.Side.the-variants.{Released}
 use Rattle.record.proofs.Basics.{none≢some}
 use Rattle.drafts.specs.Parts.{partsOf}
-use Rattle.drafts.specs.Edits.{Edited, noRoom, done, adding, removing, edit, count, Kept, series}
+use Rattle.drafts.specs.Edits.{Edited, noRoom, done, adding, removing, edit, count, DraftState, series}
 use Rattle.drafts.specs.Shelf.{freeRow, forged, backDraft}
 use Rattle.drafts.specs.Calls.{Editor, Call, setting, backing, editing, calls, named}
 use Rattle.record.specs.Base as Base
@@ -119,12 +119,12 @@ pub record Computed : Type 0 where
   pub begins : _≡_ {A = Edited} (count builtIn record-of lent) (done 0 lent)
   pub added : _≡_ {A = Edited} (edit builtIn record-of 0 lent (adding more)) (done 1 (fronted lent (partsOf both)))
   pub no-room : _≡_ {A = Edited} (edit builtIn record-of 0 less (adding more)) (noRoom 80 0 less)
-  pub three : _≡_ {A = Kept} (series builtIn record-of (record { changed = 0; buffer = lent }) (adding more ∷ adding more ∷ removing (bytes "t") ∷ []))
+  pub three : _≡_ {A = DraftState} (series builtIn record-of (record { changed = 0; buffer = lent }) (adding more ∷ adding more ∷ removing (bytes "t") ∷ []))
       (record { changed = 2; buffer = fronted (fronted lent (partsOf both)) (partsOf one) })
   pub fits : _≡_ {A = Bool} (forged (length (begin .held)) (begin .rows)) false
   pub both-held : _≡_ {A = Str} (calls builtIn begin three-calls .held) (partsOf record-of ++ partsOf bare)
   pub a-holds : _≡_ {A = Option Rec} (named builtIn begin no-names three-calls (bytes "a")) (some record-of)
-  pub is-back : _≡_ {A = Kept} (calls builtIn begin (three-calls ++ backing record-of (bytes "a") ∷ []) .kept)
+  pub is-back : _≡_ {A = DraftState} (calls builtIn begin (three-calls ++ backing record-of (bytes "a") ∷ []) .kept)
       (record { changed = 0; buffer = fronted (fronted lent (partsOf bare)) (partsOf record-of) })
   pub copy-read : _≡_ {A = Reading} (reading Released record-of) (read (schemaOf record-of))
   pub room : _≡_ {A = ℕ} (length (partsOf record-of)) 75
@@ -143,12 +143,12 @@ unfolding Base.bytes Base.eqs Base.isText Base.isSome Base.before Base.decimal B
     Reading.opened Reading.large Reading.vast Reading.onto Reading.continued Reading.parse Reading.parsed Reading.streamLimit
     Reading.poolLimit Reading.vastOr Reading.sizesOf Reading.concluded Reading.reading Shapes.enumSize Shapes.aliasSize Shapes.bitfieldSize
     Shapes.sized Shapes.scalarSize Shapes.sizeAs Shapes.shapeSize Shapes.spaced Shapes.named Shapes.restAs Shapes.shapeType Shapes.placeOf
-    Shapes.places Shapes.plain Shapes.prefix Shapes.capped Kind.words Kind.kindWords Kind.meaning Kind.ofLength Kind.kindOf
+    Shapes.places Shapes.plain Shapes.famPrefix Shapes.capped Kind.words Kind.kindWords Kind.kindAmong Kind.ofLength Kind.kindOf
     Scalars.beforeZero Scalars.scalarAt Scalars.scalarsFrom Scalars.scalarsAt Scalars.scalarsOf Scalars.scalarIn Scalars.primSize
     Scalars.builtIn Scalars.builtInRows Fill.joined Fill.placed Fill.fronted Layout.variantName Layout.layStruct Layout.layFamily
     Layout.layVariant Layout.layFamilies Layout.flattened Layout.types Layout.typeIn Sorted.insert Sorted.insertAll Sorted.sorted
     Fields.placeIn Fields.checkKept Fields.checkPlace Fields.checkPlaces Fields.checkType Fields.checkFields Fields.eqPlace Fields.eqPlaces
-    Fields.sameAs Fields.changed Content.bytesAt CommandTexts.isPlain Content.operandAt Content.operandsAt Content.operandsWith Content.contentAs
+    Fields.sameAs Fields.changed Content.bytesAt CommandTexts.noText Content.operandAt Content.operandsAt Content.operandsWith Content.contentAs
     Content.contentAt Content.contentsOf CommandTexts.textsFrom CommandTexts.textsWith CommandTexts.textsAt Packing.textsOf Packing.covers Packing.covered
     Packing.kept Packing.keptBefore Packing.le2 Packing.operandBytes Packing.rowBytes Packing.rowWith Packing.writtenAt Packing.written
     Packing.movedTo Packing.packedPool Packing.packedCommands Packing.streamOf Parts.stated Parts.part Parts.afterPart Parts.heldRec

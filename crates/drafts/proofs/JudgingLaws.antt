@@ -13,7 +13,7 @@ use denote.Enum.Declared.{tagOf}
 use Rattle.record.specs.Base.{Str}
 use Rattle.record.specs.Letters.{oddLetter}
 use Rattle.record.specs.Commands.{operands, widths, commandOf, start}
-use Rattle.record.specs.Judge.{mayStand, moved, ready, faulted, faultsFrom, judgedWith, judgedAs, judgedAt}
+use Rattle.record.specs.Judge.{mayStand, advanced, ready, faulted, faultsFrom, judgedWith, judgedAs, judgedAt}
 use Rattle.record.specs.Reading.{rec, Parsed, ok, bad, onto, continued, streamLimit, poolLimit}
 use Rattle.record.specs.Read.{outcomeOf}
 use Rattle.record.specs.declared.command.Cursor.{Cursor}
@@ -73,7 +73,7 @@ first-ready : (s : Str) (c : Cursor) (b w : ℕ) → comesFirst (ready s c b w) 
 unfolding ready
 first-ready s c b w = go (eqb b 15) (eqb (c .at + w) (length s))
   where
-    go : (x y : Bool) → comesFirst (cond x (cond y Done (Refused R.Misplaced (c .at + w))) (Next (commandOf b (drop (c .at) s)) (moved c b w))) ≡ false
+    go : (x y : Bool) → comesFirst (cond x (cond y Done (Refused R.Misplaced (c .at + w))) (Next (commandOf b (drop (c .at) s)) (advanced c b w))) ≡ false
     go true true = refl
     go true false = refl
     go false y = refl

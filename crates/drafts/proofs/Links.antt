@@ -11,7 +11,7 @@ use borrow.Author.Tests.{eqb-true, eqb-false}
 use Rattle.record.specs.Base.{Str, bytes, any}
 use Rattle.record.specs.Operands.{flagAt}
 use Rattle.record.specs.Commands.{operands, wide, widths, commandOf}
-use Rattle.record.specs.Judge.{mayStand, moved, faultsFrom, ready, judgedAt}
+use Rattle.record.specs.Judge.{mayStand, advanced, faultsFrom, ready, judgedAt}
 use Rattle.record.specs.declared.command.Cursor.{Cursor}
 use Rattle.record.specs.declared.command.Command.{Command}
 use Rattle.record.specs.declared.refusal.Side.{Side}
@@ -19,7 +19,7 @@ use Rattle.record.specs.declared.refusal.Refusal.the-variants as R
 use Rattle.record.specs.declared.judge.Fault.the-variants.{Fine}
 use Rattle.record.specs.declared.judge.Judged.the-variants.{Next, Done, Refused}
 use Rattle.record.proofs.Accepted.{Passed, passed}
-use Rattle.record.specs.CommandTexts.{isPlain}
+use Rattle.record.specs.CommandTexts.{noText}
 use Rattle.drafts.specs.Content.{Content, contentAs, bytesAt}
 use Rattle.drafts.specs.Packing.{le2, operandBytes, rowBytes, rowWith}
 use Rattle.drafts.proofs.Pools.{any-mem}
@@ -64,7 +64,7 @@ module _ (b : ℕ) (os : Str) (a : asks os ≡ true) where
 
 module _ (f : ℕ → ℕ) (x rest : Str) where
   constant-flag : flagAt ((2 ∷ []) ++ (rowWith f x (operands 2) ++ rest)) 4 ≡ flagAt x 4
-  unfolding rowWith rowBytes operandBytes operands bytes le2 isPlain bytesAt wide flagAt
+  unfolding rowWith rowBytes operandBytes operands bytes le2 noText bytesAt wide flagAt
   constant-flag = refl
 
   pub flag-kept : (b : ℕ) (os : Str) → operands b ≡ some os → (o : ℕ) → List·Memᴰ o os → eqb o 63 ≡ true → flagAt ((b ∷ []) ++ (rowBytes f x 1 os ++ rest)) 4 ≡ flagAt x 4
@@ -89,7 +89,7 @@ abbrev pub Chain : Side → Str → Cursor → List Str → List Content → Typ
 Chain side p k [] [] = k .last ≡ 0 → ⊥
 Chain side p k [] (d ∷ ds) = ⊥
 Chain side p k (z ∷ zs) [] = ⊥
-Chain side p k (z ∷ zs) (d ∷ ds) = Link side p k z d × Chain side p (moved k (getD z 0 0) (length z)) zs ds
+Chain side p k (z ∷ zs) (d ∷ ds) = Link side p k z d × Chain side p (advanced k (getD z 0 0) (length z)) zs ds
 
 -- what a judged command has passed ---------------------------------------------------------------------------------------------
 
@@ -99,7 +99,7 @@ pub record Went (side : Side) (s : Str) (pool : Str) (c k : Cursor) : Type 0 whe
   pub stands : mayStand c (getD s (c .at) 0) ≡ true
   pub fine : faultsFrom side pool (drop (c .at) s) 1 row ≡ Fine
   pub going : getD s (c .at) 0 ≡ 15 → ⊥
-  pub next : moved c (getD s (c .at) 0) (1 + widths row) ≡ k
+  pub next : advanced c (getD s (c .at) 0) (1 + widths row) ≡ k
 
 module _ (side : Side) (s : Str) (pool : Str) (c : Cursor) where
   pub went : (d : Command) (k : Cursor) → judgedAt side s pool c ≡ Next d k → Went side s pool c k
@@ -109,7 +109,7 @@ module _ (side : Side) (s : Str) (pool : Str) (c : Cursor) where
       go p (eqb (getD s (c .at) 0) 15) refl (eqb (c .at + (1 + widths (p .row))) (length s)) (p .is-ready)
     where
       go : (p : Passed side s pool c (Next d k)) (t : Bool) → eqb (getD s (c .at) 0) 15 ≡ t → (u : Bool)
-          → cond t (cond u Done (Refused R.Misplaced (c .at + (1 + widths (p .row))))) (Next (commandOf (getD s (c .at) 0) (drop (c .at) s)) (moved c (getD s (c .at) 0) (1 + widths (p .row)))) ≡ Next d k
+          → cond t (cond u Done (Refused R.Misplaced (c .at + (1 + widths (p .row))))) (Next (commandOf (getD s (c .at) 0) (drop (c .at) s)) (advanced c (getD s (c .at) 0) (1 + widths (p .row)))) ≡ Next d k
           → Went side s pool c k
       go p true q true h = absurd (let z : _≡_ {A = ℕ} 0 1 = cc in omega arith)
       go p true q false h = absurd (let z : _≡_ {A = ℕ} 0 1 = cc in omega arith)
@@ -123,7 +123,7 @@ module _ (side : Side) (s : Str) (pool : Str) (c : Cursor) where
       go p (eqb (getD s (c .at) 0) 15) refl (p .is-ready) (p .stands)
     where
       go : (p : Passed side s pool c Done) (t : Bool) → eqb (getD s (c .at) 0) 15 ≡ t
-          → cond t (cond (eqb (c .at + (1 + widths (p .row))) (length s)) Done (Refused R.Misplaced (c .at + (1 + widths (p .row))))) (Next (commandOf (getD s (c .at) 0) (drop (c .at) s)) (moved c (getD s (c .at) 0) (1 + widths (p .row)))) ≡ Done
+          → cond t (cond (eqb (c .at + (1 + widths (p .row))) (length s)) Done (Refused R.Misplaced (c .at + (1 + widths (p .row))))) (Next (commandOf (getD s (c .at) 0) (drop (c .at) s)) (advanced c (getD s (c .at) 0) (1 + widths (p .row)))) ≡ Done
           → mayStand c (getD s (c .at) 0) ≡ true → ⊥
       go p true q h m = false≢true (rw (eqb-true (getD s (c .at) 0) 15 q, z) at m)
       go p false q h m = let y : _≡_ {A = ℕ} 0 1 = cc in omega arith

@@ -20,7 +20,7 @@ use Rattle.record.specs.declared.text.Text.{Text}
 use Rattle.record.specs.declared.operands.OptText.{OptText}
 use Rattle.record.specs.declared.operands.OptText.the-variants.{Absent, Given}
 use Rattle.record.proofs.operands.OptText.{the-type}
-use Rattle.record.specs.CommandTexts.{isPlain, given, textsFrom, textsWith, textsAt}
+use Rattle.record.specs.CommandTexts.{noText, given, textsFrom, textsWith, textsAt}
 use Rattle.drafts.specs.Packing.{textsOf, covers, covered, kept}
 use Rattle.drafts.specs.Code.{orNone, upTo, operandTexts, Marks, isMarked, marksBefore, Ranked}
 use Rattle.drafts.proofs.PutLaws.{range-end, range-stop, range-on}
@@ -139,11 +139,11 @@ module _ (t : OptText) (m a : List ℕ) where
 
 -- operands, rows, commands ---------------------------------------------------------------------------------------------------------------
 
-pub text-letter : (o : ℕ) → (o ≡ 70 → ⊥) → (o ≡ 78 → ⊥) → (o ≡ 87 → ⊥) → (o ≡ 86 → ⊥) → false ≡ isPlain o
-unfolding isPlain
+pub text-letter : (o : ℕ) → (o ≡ 70 → ⊥) → (o ≡ 78 → ⊥) → (o ≡ 87 → ⊥) → (o ≡ 86 → ⊥) → false ≡ noText o
+unfolding noText
 text-letter o h1 h2 h3 h4 = rw (ne-eqb o 70 h1, ne-eqb o 78 h2, ne-eqb o 87 h3, ne-eqb o 86 h4)
 
-module _ (x : Str) (i o : ℕ) (b : Bool) (e : b ≡ isPlain o) (m : List ℕ) where
+module _ (x : Str) (i o : ℕ) (b : Bool) (e : b ≡ noText o) (m : List ℕ) where
   pub operand-plain : b ≡ true → Marks (operandTexts x i o) m m
   unfolding operandTexts
   operand-plain h = rw (← e, h) (marks-none m)
@@ -155,7 +155,7 @@ module _ (x : Str) (i o : ℕ) (b : Bool) (e : b ≡ isPlain o) (m : List ℕ) w
 module _ (x l : Str) (i k : ℕ) where
   pub texts-on : (o w : ℕ) → k < length l → o ≡ getD l k 0 → w ≡ wide o → textsFrom x i (drop k l) ≡ operandTexts x i o ++ textsFrom x (i + w) (drop (k + 1) l)
   unfolding textsFrom operandTexts withSome
-  texts-on o w h e g = rw (add-one, drop-cons l k 0, ← e, g) (go (isPlain o) (given (optTextAt x i)))
+  texts-on o w h e g = rw (add-one, drop-cons l k 0, ← e, g) (go (noText o) (given (optTextAt x i)))
     where
       go : (b : Bool) (t : Option Text) → cond b (textsFrom x (i + wide o) (drop (suc k) l)) (withSome t (textsFrom x (i + wide o) (drop (suc k) l))) ≡ cond b [] (withSome t []) ++ textsFrom x (i + wide o) (drop (suc k) l)
       go true t = refl

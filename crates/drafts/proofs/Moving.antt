@@ -22,7 +22,7 @@ use Rattle.record.specs.declared.operands.OptText.the-variants.{Absent, Given}
 use Rattle.record.specs.declared.refusal.Side.{Side}
 use Rattle.record.specs.declared.judge.Fault.{Fault}
 use Rattle.record.specs.declared.judge.Fault.the-variants.{Fine, Outside, Missing}
-use Rattle.record.specs.CommandTexts.{isPlain, given, textsFrom}
+use Rattle.record.specs.CommandTexts.{noText, given, textsFrom}
 use Rattle.record.proofs.Sides.{worse-both}
 use Rattle.drafts.specs.Content.{text, maybe, plain, Operand, bytesAt, operandAt, operandsAt}
 use Rattle.drafts.specs.Packing.{movedStart, le2, operandBytes, rowBytes}
@@ -149,8 +149,8 @@ module _ (p p2 : Str) (small : length p2 < 65535) (f : ℕ → ℕ) where
     pub fine : faultsFrom side p2 z i os ≡ Fine
 
   module _ (side : Side) (x : Str) where
-    plain-fault : (z : Str) (i o : ℕ) → isPlain o ≡ true → getD z i 0 ≡ getD x i 0 → operandFault side p x i o ≡ Fine → operandFault side p2 z i o ≡ Fine
-    unfolding operandFault isPlain
+    plain-fault : (z : Str) (i o : ℕ) → noText o ≡ true → getD z i 0 ≡ getD x i 0 → operandFault side p x i o ≡ Fine → operandFault side p2 z i o ≡ Fine
+    unfolding operandFault noText
     plain-fault z i o q g h = go (letter o)
       where
         go : Letter o → operandFault side p2 z i o ≡ Fine
@@ -175,7 +175,7 @@ module _ (p p2 : Str) (small : length p2 < 65535) (f : ℕ → ℕ) where
         go false false false true h = cc
         go false false false false h = cc
 
-    plain-same : (pre rest : Str) (i o : ℕ) → length pre ≡ i → isPlain o ≡ true → operandFault side p x i o ≡ Fine
+    plain-same : (pre rest : Str) (i o : ℕ) → length pre ≡ i → noText o ≡ true → operandFault side p x i o ≡ Fine
         → (operandAt p2 (pre ++ (operandBytes f x i o ++ rest)) i o ≡ operandAt p x i o) × (operandFault side p2 (pre ++ (operandBytes f x i o ++ rest)) i o ≡ Fine)
     unfolding operandAt operandBytes
     plain-same pre rest i o e q h =
@@ -197,9 +197,9 @@ module _ (p p2 : Str) (small : length p2 < 65535) (f : ℕ → ℕ) where
           let t2 : textAt z i ≡ textAs (f (u .start)) (u .len) = tz ∙ ap₂ textAs (ap (movedStart f) e) n in
           ap (textOf p2) t2 ∙ m u e .same ∙ ap (textOf p) (sym q)
 
-    module _ (i o : ℕ) (q : isPlain o ≡ false) (h : operandFault side p x i o ≡ Fine) where
+    module _ (i o : ℕ) (q : noText o ≡ false) (h : operandFault side p x i o ≡ Fine) where
       text-fault : textFault p (ifAbsent side x o) (optTextAt x i) ≡ Fine
-      unfolding operandFault isPlain
+      unfolding operandFault noText
       text-fault = go (letter o)
         where
           go : Letter o → textFault p (ifAbsent side x o) (optTextAt x i) ≡ Fine
@@ -220,13 +220,13 @@ module _ (p p2 : Str) (small : length p2 < 65535) (f : ℕ → ℕ) where
         text-operand = go (eqb o 84) refl
           where
             go : (t : Bool) → eqb o 84 ≡ t
-                → cond (isPlain o) (plain (bytesAt z i (wide o))) (cond t (text (textOf p2 (textAt z i))) (maybe (optOf p2 (optTextAt z i))))
-                ≡ cond (isPlain o) (plain (bytesAt x i (wide o))) (cond t (text (textOf p (textAt x i))) (maybe (optOf p (optTextAt x i))))
+                → cond (noText o) (plain (bytesAt z i (wide o))) (cond t (text (textOf p2 (textAt z i))) (maybe (optOf p2 (optTextAt z i))))
+                ≡ cond (noText o) (plain (bytesAt x i (wide o))) (cond t (text (textOf p (textAt x i))) (maybe (optOf p (optTextAt x i))))
             go true e = rw q (ap text (text-says z i o tz m (optTextAt x i) refl (ap (λ (k : Fault). textFault p k (optTextAt x i)) (sym (required e)) ∙ text-fault)))
             go false e = rw q (ap maybe (ap (optOf p2) (opt-after z i o tz m) ∙ opt-same (optTextAt x i) m))
 
         text-faultless : operandFault side p2 z i o ≡ Fine
-        unfolding operandFault isPlain
+        unfolding operandFault noText
         text-faultless = go (letter o)
           where
             same : textFault p2 (ifAbsent side z o) (optTextAt z i) ≡ Fine
@@ -240,15 +240,15 @@ module _ (p p2 : Str) (small : length p2 < 65535) (f : ℕ → ℕ) where
             go (texts e k l n) = rw (e, k, l, n) same
 
     -- the text operand as it is written
-    text-written : (pre rest : Str) (i o : ℕ) → length pre ≡ i → isPlain o ≡ false
+    text-written : (pre rest : Str) (i o : ℕ) → length pre ≡ i → noText o ≡ false
         → textAt (pre ++ (operandBytes f x i o ++ rest)) i ≡ textAs (movedStart f (optTextAt x i)) (getD x (i + 2) 0)
     unfolding operandBytes le2
     text-written pre rest i o e q =
         let st = movedStart f (optTextAt x i) in
         rw q (text-here pre rest (st % 256) (st / 256) (getD x (i + 2) 0) i e ∙ ap (λ (k : ℕ). textAs k (getD x (i + 2) 0)) (halves st))
 
-    text-wide : (o : ℕ) → isPlain o ≡ false → wide o ≡ 3
-    unfolding isPlain wide
+    text-wide : (o : ℕ) → noText o ≡ false → wide o ≡ 3
+    unfolding noText wide
     text-wide o q = go (letter o)
       where
         go : Letter o → wide o ≡ 3
@@ -260,9 +260,9 @@ module _ (p p2 : Str) (small : length p2 < 65535) (f : ℕ → ℕ) where
 
     pub length-operand : (i o : ℕ) → length (operandBytes f x i o) ≡ wide o
     unfolding operandBytes le2
-    length-operand i o = go (isPlain o) refl
+    length-operand i o = go (noText o) refl
       where
-        go : (t : Bool) → isPlain o ≡ t → length (cond t (bytesAt x i (wide o)) (le2 (movedStart f (optTextAt x i)) ++ getD x (i + 2) 0 ∷ [])) ≡ wide o
+        go : (t : Bool) → noText o ≡ t → length (cond t (bytesAt x i (wide o)) (le2 (movedStart f (optTextAt x i)) ++ getD x (i + 2) 0 ∷ [])) ≡ wide o
         go true e = length-bytes x i (wide o)
         go false e = sym (text-wide o e)
 
@@ -273,13 +273,13 @@ module _ (p p2 : Str) (small : length p2 < 65535) (f : ℕ → ℕ) where
         length-append (operandBytes f x i o) (rowBytes f x (i + wide o) os) ∙ ap₂ (λ (a b : ℕ). a + b) (length-operand i o) (length-row (i + wide o) os)
 
     -- of the texts of a row
-    text-member : (i o : ℕ) (os : Str) (u : Text) → isPlain o ≡ false → optTextAt x i ≡ Given u → List·Memᴰ u (textsFrom x i (o ∷ os))
+    text-member : (i o : ℕ) (os : Str) (u : Text) → noText o ≡ false → optTextAt x i ≡ Given u → List·Memᴰ u (textsFrom x i (o ∷ os))
     unfolding textsFrom withSome
     text-member i o os u q e = rw (q, e) (List·Memᴰ·head refl)
 
     text-later : (i o : ℕ) (os : Str) (u : Text) → List·Memᴰ u (textsFrom x (i + wide o) os) → List·Memᴰ u (textsFrom x i (o ∷ os))
     unfolding textsFrom withSome
-    text-later i o os u m = go (isPlain o) (optTextAt x i)
+    text-later i o os u m = go (noText o) (optTextAt x i)
       where
         go : (t : Bool) (k : OptText) → List·Memᴰ u (cond t (textsFrom x (i + wide o) os) (withSome (given k) (textsFrom x (i + wide o) os)))
         go true k = m
@@ -288,12 +288,12 @@ module _ (p p2 : Str) (small : length p2 < 65535) (f : ℕ → ℕ) where
 
     -- one operand, written behind a front
     operand-same : (pre rest : Str) (i o : ℕ) → length pre ≡ i → operandFault side p x i o ≡ Fine
-        → ((u : Text) → isPlain o ≡ false → optTextAt x i ≡ Given u → Moved f p p2 u)
+        → ((u : Text) → noText o ≡ false → optTextAt x i ≡ Given u → Moved f p p2 u)
         → (eqb o 63 ≡ true → flagAt (pre ++ (operandBytes f x i o ++ rest)) 4 ≡ flagAt x 4)
         → (operandAt p2 (pre ++ (operandBytes f x i o ++ rest)) i o ≡ operandAt p x i o) × (operandFault side p2 (pre ++ (operandBytes f x i o ++ rest)) i o ≡ Fine)
-    operand-same pre rest i o e h m a = go (isPlain o) refl
+    operand-same pre rest i o e h m a = go (noText o) refl
       where
-        go : (t : Bool) → isPlain o ≡ t
+        go : (t : Bool) → noText o ≡ t
             → (operandAt p2 (pre ++ (operandBytes f x i o ++ rest)) i o ≡ operandAt p x i o) × (operandFault side p2 (pre ++ (operandBytes f x i o ++ rest)) i o ≡ Fine)
         go true q = plain-same pre rest i o e q h
         go false q =

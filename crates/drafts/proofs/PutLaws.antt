@@ -23,7 +23,7 @@ use Rattle.record.specs.declared.command.Step.the-variants.{Next, Stop}
 use Rattle.record.proofs.Stream.{commands-next, commands-stop}
 use Rattle.record.proofs.SeekLaws.{stepped, ended-there}
 use Rattle.record.proofs.WriterLaws.{puts-none, puts-then, puts-as}
-use Rattle.record.specs.CommandTexts.{isPlain}
+use Rattle.record.specs.CommandTexts.{noText}
 use Rattle.drafts.specs.Content.{bytesAt}
 use Rattle.drafts.specs.Packing.{le2, movedStart, operandBytes, rowBytes, rowWith, writtenAt, written}
 use Rattle.drafts.specs.Code.{orNone, upTo, rankAt, startOf, textBytes}
@@ -101,7 +101,7 @@ module _ (f : ℕ → ℕ) (x y : Str) (i o : ℕ) where
   Operand = operandBytes f x i o
 
   module _ (out after : Str) (at r : ℕ) where
-    plainly : (n : ℕ) → isPlain o ≡ true → wide o ≡ n → y ≡ drop i x → Puts out at (bytesAt y 0 n) after r → Puts out at Operand after r
+    plainly : (n : ℕ) → noText o ≡ true → wide o ≡ n → y ≡ drop i x → Puts out at (bytesAt y 0 n) after r → Puts out at Operand after r
     unfolding operandBytes
     plainly n p w e a =
         let z : i + 0 ≡ i = omega arith in
@@ -109,24 +109,24 @@ module _ (f : ℕ → ℕ) (x y : Str) (i o : ℕ) where
         puts-as a (rw (p, w) q)
 
     pub flag-put : o ≡ 70 → y ≡ drop i x → Puts out at (bytesAt y 0 1) after r → Puts out at Operand after r
-    unfolding isPlain wide
+    unfolding noText wide
     flag-put h = plainly 1 (rw h) (rw h)
 
     pub number-put : o ≡ 78 → y ≡ drop i x → Puts out at (bytesAt y 0 5) after r → Puts out at Operand after r
-    unfolding isPlain wide
+    unfolding noText wide
     number-put h = plainly 5 (rw h) (rw h)
 
     pub word-put : o ≡ 87 → y ≡ drop i x → Puts out at (bytesAt y 0 4) after r → Puts out at Operand after r
-    unfolding isPlain wide
+    unfolding noText wide
     word-put h = plainly 4 (rw h) (rw h)
 
     pub value-put : o ≡ 86 → y ≡ drop i x → Puts out at (bytesAt y 0 8) after r → Puts out at Operand after r
-    unfolding isPlain wide
+    unfolding noText wide
     value-put h = plainly 8 (rw h) (rw h)
 
 module _ (f : ℕ → ℕ) (x : Str) (i o : ℕ) (h1 : o ≡ 70 → ⊥) (h2 : o ≡ 78 → ⊥) (h3 : o ≡ 87 → ⊥) (h4 : o ≡ 86 → ⊥) where
   pub text-put : (out after : Str) (at r m : ℕ) (t : OptText) (v : Text) → t ≡ optTextAt x i → m ≡ movedStart f t → v ≡ textAt x i → Puts out at (textBytes m (v .len)) after r → Puts out at (operandBytes f x i o) after r
-  unfolding operandBytes isPlain textBytes textAt
+  unfolding operandBytes noText textBytes textAt
   text-put out after at r m t v a b d p =
       puts-as p (rw (ne-eqb o 70 h1, ne-eqb o 78 h2, ne-eqb o 87 h3, ne-eqb o 86 h4, ← a, ← b) (ap (λ (z : Text). le2 m ++ z .len ∷ []) d))
 

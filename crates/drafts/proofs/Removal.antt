@@ -10,7 +10,7 @@ use lib.Dec.{eqb}
 use Rattle.record.specs.Base.{Str, any, find}
 use Rattle.record.specs.Fill.{joined}
 use Rattle.record.specs.Schema.{Schema, Field}
-use Rattle.record.specs.Shapes.{places, prefix}
+use Rattle.record.specs.Shapes.{places, famPrefix}
 use Rattle.record.specs.Commands.{start, commandsAt}
 use Rattle.record.specs.Reading.{Rec, schemaOf, large, read, reading}
 use Rattle.record.specs.declared.refusal.Side.the-variants.{Current}
@@ -39,9 +39,9 @@ opened-on ys a [] = refl
 opened-on ys a (d ∷ xs) = rw (fields-end ys a xs) (go (eqb (d .number) 9) (eqb (d .number) 8 || eqb (d .number) 10) (opened-on ys a xs))
   where
     go : (t o : Bool) → openedFields (xs ++ ys) ≡ openedFields xs ++ openedFields ys
-        → cond t ((prefix (familyIn d [] []) ++ fieldsIn xs) ∷ openedFields (xs ++ ys)) (cond o (fieldsIn xs ∷ openedFields (xs ++ ys)) (openedFields (xs ++ ys)))
-        ≡ cond t ((prefix (familyIn d [] []) ++ fieldsIn xs) ∷ openedFields xs) (cond o (fieldsIn xs ∷ openedFields xs) (openedFields xs)) ++ openedFields ys
-    go true o e = ap (λ (l : List (List Field)). (prefix (familyIn d [] []) ++ fieldsIn xs) ∷ l) e
+        → cond t ((famPrefix (familyIn d [] []) ++ fieldsIn xs) ∷ openedFields (xs ++ ys)) (cond o (fieldsIn xs ∷ openedFields (xs ++ ys)) (openedFields (xs ++ ys)))
+        ≡ cond t ((famPrefix (familyIn d [] []) ++ fieldsIn xs) ∷ openedFields xs) (cond o (fieldsIn xs ∷ openedFields xs) (openedFields xs)) ++ openedFields ys
+    go true o e = ap (λ (l : List (List Field)). (famPrefix (familyIn d [] []) ++ fieldsIn xs) ∷ l) e
     go false true e = ap (λ (l : List (List Field)). fieldsIn xs ∷ l) e
     go false false e = e
 

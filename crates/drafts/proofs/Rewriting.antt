@@ -13,7 +13,7 @@ use Rattle.record.specs.Fill.{joined}
 use Rattle.record.specs.Schema.{Schema, Field}
 use Rattle.record.specs.Shapes.{places}
 use Rattle.record.specs.Commands.{operands, widths, commandOf, commandsAt}
-use Rattle.record.specs.Judge.{moved, ready, judgedAt}
+use Rattle.record.specs.Judge.{advanced, ready, judgedAt}
 use Rattle.record.specs.Reading.{Rec, schemaFrom, schemaOf, Opened, opened, large, vast, read, ok, continued, parse, vastOr, sizesOf, reading}
 use Rattle.record.specs.declared.command.Cursor.{Cursor}
 use Rattle.record.specs.declared.refusal.Side.{Side}
@@ -77,7 +77,7 @@ module _ (side : Side) (s : Str) (pool : Str) (f : ℕ → ℕ) where
       go p (eqb (getD s (c .at) 0) 15) refl (eqb (c .at + (1 + widths (p .row))) (length s)) refl (p .is-ready)
     where
       go : (p : Passed side s pool c Done) (t : Bool) → eqb (getD s (c .at) 0) 15 ≡ t → (u : Bool) → eqb (c .at + (1 + widths (p .row))) (length s) ≡ u
-          → cond t (cond u Done (Refused R.Misplaced (c .at + (1 + widths (p .row))))) (Next (commandOf (getD s (c .at) 0) (drop (c .at) s)) (moved c (getD s (c .at) 0) (1 + widths (p .row)))) ≡ Done
+          → cond t (cond u Done (Refused R.Misplaced (c .at + (1 + widths (p .row))))) (Next (commandOf (getD s (c .at) 0) (drop (c .at) s)) (advanced c (getD s (c .at) 0) (1 + widths (p .row)))) ≡ Done
           → c .at + 1 ≡ length s
       go p true q true w h =
           let a : operands 15 ≡ some (p .row) = ap operands (sym (eqb-true (getD s (c .at) 0) 15 q)) ∙ p .has-row in

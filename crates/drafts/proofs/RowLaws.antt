@@ -10,18 +10,18 @@ use lib.Dec.{ltb, leb, leb·suc-suc}
 use borrow.Author.Tests.{eq-eqb, ne-eqb, le-leb, lt-leb, le-ltb, lt-ltb}
 use Rattle.record.specs.Base.{Str, any, isText, eqs}
 use Rattle.drafts.specs.Shelf.{Row, isHeld, isFree, nameOf, isNamed, goodName}
-use Rattle.drafts.specs.Shelving.{rowAt, listed, rowsOf, nameRow, firstOf, rowFor}
+use Rattle.drafts.specs.Shelving.{rowAt, tabulate, rowsOf, nameRow, firstOf, rowFor}
 use Rattle.drafts.specs.declared.shelved.Shelf.{Shelf}
 
 -- rows ----------------------------------------------------------------------------------------------------------------------
 
-pub listed-long : {A : Type 0} (f : ℕ → A) (k i : ℕ) → length (listed f k i) ≡ k
-unfolding listed
+pub listed-long : {A : Type 0} (f : ℕ → A) (k i : ℕ) → length (tabulate f k i) ≡ k
+unfolding tabulate
 listed-long f zero i = refl
 listed-long f (suc k) i = ap suc (listed-long f k (i + 1))
 
-pub listed-at : {A : Type 0} (f : ℕ → A) (k i j : ℕ) (d : A) → j < k → getD (listed f k i) j d ≡ f (i + j)
-unfolding listed
+pub listed-at : {A : Type 0} (f : ℕ → A) (k i j : ℕ) (d : A) → j < k → getD (tabulate f k i) j d ≡ f (i + j)
+unfolding tabulate
 listed-at f zero i j d h = absurd (omega arith)
 listed-at f (suc k) i zero d h = let e : i ≡ i + 0 = omega arith in ap f e
 listed-at f (suc k) i (suc j) d h =

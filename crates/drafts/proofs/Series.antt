@@ -23,7 +23,7 @@ use Rattle.record.proofs.Accepted.{accepting}
 use Rattle.drafts.specs.Parts.{heldRec, readHeld, partsOf}
 use Rattle.drafts.specs.Addition.{addition}
 use Rattle.drafts.specs.Count.{countChanged}
-use Rattle.drafts.specs.Edits.{Edited, refused, declined, noRoom, done, named, removed, tail, nameAfter, added, settled, Edit, adding, removing, addedOr, removedOr, editing, edited, edit, counted, count, Kept, keeping, series}
+use Rattle.drafts.specs.Edits.{Edited, refused, declined, noRoom, done, named, removed, tail, nameAfter, added, settled, Edit, adding, removing, addedOr, removedOr, editing, edited, edit, counted, count, DraftState, keeping, series}
 use Rattle.drafts.proofs.Results.{fit}
 use Rattle.drafts.proofs.PartLaws.{held-read}
 
@@ -39,7 +39,7 @@ refusal-not0 Letter e = omega arith
 refusal-not0 Long e = omega arith
 refusal-not0 Vast e = omega arith
 
-abbrev pub state : ℕ → Str → Kept
+abbrev pub state : ℕ → Str → DraftState
 state changed b = record { changed = changed; buffer = b }
 
 -- an edit is refused and changes nothing, or it is made: its result is read, it stands in the buffer, and the count is the result's
@@ -85,7 +85,7 @@ module _ (w : List Scalar) (was : Schema) (changed : ℕ) (b : Str) where
       held false = way-declined 56 (λ z. omega arith)
 
 -- the count beside the draft is what is found afresh
-pub record Right (w : List Scalar) (copy : Rec) (k : Kept) : Type 0 where
+pub record Right (w : List Scalar) (copy : Rec) (k : DraftState) : Type 0 where
   pub afresh : count w copy (k .buffer) ≡ done (k .changed) (k .buffer)
 
 module _ (w : List Scalar) (copy : Rec) where
@@ -114,18 +114,18 @@ module _ (w : List Scalar) (copy : Rec) where
       ap (λ (v : List Scalar). readHeld v (fronted b (partsOf r))) (sym s)
       ∙ held-read r b (accepting Current r now h .stream-short) (fit Current r now h .pool-short) ∙ h
 
-  pub edit-right : (k : Kept) (e : Edit) → Right w copy k → Right w copy (keeping (edit w copy (k .changed) (k .buffer) e))
+  pub edit-right : (k : DraftState) (e : Edit) → Right w copy k → Right w copy (keeping (edit w copy (k .changed) (k .buffer) e))
   unfolding count counted done
   edit-right k e h = go (did (k .changed) (k .buffer) e)
     where
       go : Did (k .changed) (k .buffer) (edit w copy (k .changed) (k .buffer) e) → Right w copy (keeping (edit w copy (k .changed) (k .buffer) e))
-      go (nothing n q) = subst (λ (x : Kept). Right w copy x) (sym q) h
+      go (nothing n q) = subst (λ (x : DraftState). Right w copy x) (sym q) h
       go (something was c r now s x l m) =
           subst (λ (y : Edited). Right w copy (keeping y)) (sym m)
           (record { afresh = rw (read-back r now (k .buffer) s x, c) })
 
   -- any series of edits, accepted or refused
-  pub series-right : (es : List Edit) (k : Kept) → Right w copy k → Right w copy (series w copy k es)
+  pub series-right : (es : List Edit) (k : DraftState) → Right w copy k → Right w copy (series w copy k es)
   unfolding series
   series-right [] k h = h
   series-right (e ∷ es) k h = series-right es (keeping (edit w copy (k .changed) (k .buffer) e)) (edit-right k e h)
@@ -143,7 +143,7 @@ module _ (w : List Scalar) (copy : Rec) where
       go (something was c r now s x l m) = absurd (n (zero-is (countChanged now was) (fronted b (partsOf r)) (edit w copy changed b e) m))
 
   -- the buffer keeps its length
-  pub edit-room : (k : Kept) (e : Edit) → length (edit w copy (k .changed) (k .buffer) e .buffer) ≡ length (k .buffer)
+  pub edit-room : (k : DraftState) (e : Edit) → length (edit w copy (k .changed) (k .buffer) e .buffer) ≡ length (k .buffer)
   unfolding done fronted
   edit-room k e = go (did (k .changed) (k .buffer) e)
     where
@@ -151,5 +151,5 @@ module _ (w : List Scalar) (copy : Rec) where
       front x b h = length-front b x (length x) (sym (length-take-le (length x) b h))
 
       go : Did (k .changed) (k .buffer) (edit w copy (k .changed) (k .buffer) e) → length (edit w copy (k .changed) (k .buffer) e .buffer) ≡ length (k .buffer)
-      go (nothing n q) = ap (λ (x : Kept). length (x .buffer)) q
+      go (nothing n q) = ap (λ (x : DraftState). length (x .buffer)) q
       go (something was c r now s x l m) = ap (λ (y : Edited). length (y .buffer)) m ∙ front (partsOf r) (k .buffer) l

@@ -15,7 +15,7 @@ use Rattle.record.specs.Scalars.{Scalar}
 use Rattle.record.specs.Letters.{oddLetter}
 use Rattle.record.specs.Commands.{operands, widths, commandOf, stepAt, place, start}
 use Rattle.record.specs.Seek.{afterAt}
-use Rattle.record.specs.Judge.{mayStand, moved, ready, faulted, faultsFrom, judgedWith, judgedAs, judgedAt}
+use Rattle.record.specs.Judge.{mayStand, advanced, ready, faulted, faultsFrom, judgedWith, judgedAs, judgedAt}
 use Rattle.record.specs.Reading.{rec, Opened, opened, vast, schemaFrom, refuse, Parsed, ok, bad, onto, continued, parse, parsed, vastOr, sizesOf, concluded, reading, streamLimit, poolLimit}
 use Rattle.record.specs.Read.{outcomeOf, parsedFrom, readingOf, Read}
 use Rattle.record.specs.declared.command.Cursor.{Cursor}
@@ -67,7 +67,7 @@ module _ (s : Str) (c : Cursor) (m : Refusal) (q : ℕ) where
   at-end b w i e = go (eqb b 15) refl (eqb (c .at + w) (length s)) e
     where
       go : (t : Bool) → eqb b 15 ≡ t → (u : Bool)
-          → cond t (cond u Done (Refused R.Misplaced (c .at + w))) (Next (commandOf b (drop (c .at) s)) (moved c b w)) ≡ Refused m q → Refusing s c m q
+          → cond t (cond u Done (Refused R.Misplaced (c .at + w))) (Next (commandOf b (drop (c .at) s)) (advanced c b w)) ≡ Refused m q → Refusing s c m q
       go true z true h = absurd (let z : _≡_ {A = ℕ} 0 1 = cc in omega arith)
       go true z false h =
           let a : R.Misplaced ≡ m = cc in
@@ -158,11 +158,11 @@ moved-last : (s : Str) (c : Cursor) (b w : ℕ) (d : Command) (k : Cursor) → r
 unfolding ready
 moved-last s c b w d k e = go (eqb b 15) (eqb (c .at + w) (length s)) e
   where
-    go : (t u : Bool) → cond t (cond u Done (Refused R.Misplaced (c .at + w))) (Next (commandOf b (drop (c .at) s)) (moved c b w)) ≡ Next d k
+    go : (t u : Bool) → cond t (cond u Done (Refused R.Misplaced (c .at + w))) (Next (commandOf b (drop (c .at) s)) (advanced c b w)) ≡ Next d k
         → k .last ≡ b
     go true true h = absurd (let z : _≡_ {A = ℕ} 0 1 = cc in omega arith)
     go true false h = absurd (let z : _≡_ {A = ℕ} 0 1 = cc in omega arith)
-    go false u h = let a : moved c b w ≡ k = cc in ap (λ (j : Cursor). j .last) (sym a)
+    go false u h = let a : advanced c b w ≡ k = cc in ap (λ (j : Cursor). j .last) (sym a)
 
 module _ (s : Str) (pool : Str) (c : Cursor) (o : Outcome) (e : o ≡ outcomeOf (parsedFrom Current s pool c)) where
   -- a reading that passes this command is refused later, if at all

@@ -22,9 +22,9 @@ use Rattle.record.proofs.Basics.{both, none≢some, eqs→eq, eqs-refl}
 use Rattle.record.proofs.Accepted.{accepting}
 use Rattle.drafts.specs.Parts.{stated, afterPart, heldRec, readHeld, partsOf}
 use Rattle.drafts.specs.Count.{countChanged}
-use Rattle.drafts.specs.Edits.{Edited, refused, declined, noRoom, done, settled, counted, count, edit, Kept, keeping}
+use Rattle.drafts.specs.Edits.{Edited, refused, declined, noRoom, done, settled, counted, count, edit, DraftState, keeping}
 use Rattle.drafts.specs.Shelf.{Row, isHeld, heldRows, overlapping, isFree, isNamed, goodName, hasRow, forged, bytesOf, rowOf, closed, movedRow, newRow, put, rowsWith, Shelved, shelved, shelve, setRead, setDraft, broughtBack, backFrom, backDraft}
-use Rattle.drafts.specs.Shelving.{listed, rowsOf, newShelf}
+use Rattle.drafts.specs.Shelving.{tabulate, rowsOf, newShelf}
 use Rattle.drafts.specs.Calls.{Editor, Call, setting, backing, editing, setOf, backKept, called, calls, noted, named}
 use Rattle.drafts.proofs.Results.{fit}
 use Rattle.drafts.proofs.PartLaws.{held-is, held-read}
@@ -126,7 +126,7 @@ module _ (w : List Scalar) where
 
 -- a shelf on which no name is held
 pub new-holds : (w : List Scalar) (held : Str) → Holds w (rowsOf newShelf) held (λ n. none)
-unfolding forged heldRows filterB isHeld rowsOf listed any overlapping
+unfolding forged heldRows filterB isHeld rowsOf tabulate any overlapping
 new-holds w held = record { sound = refl; each = λ n r e. absurd (none≢some e) }
 
 -- coming back: the record of the name, whole, with its count found afresh; and that count is right beside the draft that came back (W-210)
@@ -163,16 +163,16 @@ module _ (w : List Scalar) (copy : Rec) where
   OneCopy (backing c n ∷ cs) = (c ≡ copy) × OneCopy cs
   OneCopy (editing c e ∷ cs) = (c ≡ copy) × OneCopy cs
 
-  refused-keeps : (k : Kept) (e : Edited) → (e .number ≡ 0 → ⊥) → Right w copy k → Right w copy (backKept k e)
+  refused-keeps : (k : DraftState) (e : Edited) → (e .number ≡ 0 → ⊥) → Right w copy k → Right w copy (backKept k e)
   unfolding backKept
   refused-keeps k e z h = rw (ne-eqb (e .number) 0 z) h
 
-  made-right : (b draft : Str) (k : Kept) (now was : Schema) → readHeld w b ≡ read now → reading Released copy ≡ read was
+  made-right : (b draft : Str) (k : DraftState) (now was : Schema) → readHeld w b ≡ read now → reading Released copy ≡ read was
       → Right w copy (backKept k (done (countChanged now was) (fronted draft (partsOf (heldRec w b)))))
   unfolding backKept done count counted heldRec
   made-right b draft k now was e f = record { afresh = rw (read-back w copy (heldRec w b) now draft refl (read-held w b now e), f) }
 
-  brought-right : (b draft : Str) (k : Kept) → Right w copy k → Right w copy (backKept k (broughtBack (heldRec w b) draft (readHeld w b) (reading Released copy)))
+  brought-right : (b draft : Str) (k : DraftState) → Right w copy k → Right w copy (backKept k (broughtBack (heldRec w b) draft (readHeld w b) (reading Released copy)))
   unfolding broughtBack settled refused noRoom
   brought-right b draft k h = go (readHeld w b) refl (reading Released copy) refl
     where
@@ -186,7 +186,7 @@ module _ (w : List Scalar) (copy : Rec) where
       go (read now) e (refuse m p) f = refused-keeps k (refused 1 m p 0 draft) (refusal-not0 m) h
       go (read now) e (read was) f = fits now was e f (leb (length (partsOf (heldRec w b))) (length draft))
 
-  back-keeps : (rows : List Row) (n draft held : Str) (k : Kept) → Right w copy k → Right w copy (backKept k (backDraft w copy rows n draft held .edited))
+  back-keeps : (rows : List Row) (n draft held : Str) (k : DraftState) → Right w copy k → Right w copy (backKept k (backDraft w copy rows n draft held .edited))
   unfolding backDraft backFrom declined
   back-keeps rows n draft held k h = go (forged (length held) rows)
     where

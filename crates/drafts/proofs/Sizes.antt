@@ -4,7 +4,7 @@ use mathlib.Core.List.{List, [], _∷_}
 use Prim.Native.Nat.{ℕ, _+_}
 use Rattle.record.specs.Schema.{Schema, Field}
 use Rattle.record.specs.Kind.{kindOf}
-use Rattle.record.specs.Shapes.{Place, scalarSize, sizeAs, shapeSize, placeOf, places}
+use Rattle.record.specs.Shapes.{FieldLayout, scalarSize, sizeAs, shapeSize, placeOf, places}
 use Rattle.record.specs.declared.kind.Kind.{Kind}
 use Rattle.record.specs.declared.kind.Kind.the-variants as K
 use Rattle.drafts.specs.Effects.{SameRest}
@@ -37,4 +37,4 @@ module _ (a b : Schema) (r : SameRest a b) where
   pub places-same : (at : ℕ) (fs : List Field) → places a at fs ≡ places b at fs
   unfolding places placeOf
   places-same at [] = refl
-  places-same at (f ∷ fs) = rw (shape-same f) (ap (λ (l : List Place). placeOf b at f ∷ l) (places-same (at + shapeSize b f) fs))
+  places-same at (f ∷ fs) = rw (shape-same f) (ap (λ (l : List FieldLayout). placeOf b at f ∷ l) (places-same (at + shapeSize b f) fs))

@@ -8,14 +8,14 @@ use Rattle.record.specs.Base.{Str, eqs}
 use Rattle.record.specs.Scalars.{Scalar}
 use Rattle.record.specs.Reading.{Rec}
 use Rattle.drafts.specs.Parts.{heldRec}
-use Rattle.drafts.specs.Edits.{Edited, Edit, edit, Kept, keeping}
+use Rattle.drafts.specs.Edits.{Edited, Edit, edit, DraftState, keeping}
 use Rattle.drafts.specs.Shelf.{Row, Shelved, setDraft, backDraft}
 
 -- what an editor holds between two calls: names and places, the held buffer, and the draft with the count beside it
 pub record Editor : Type 0 where
   pub rows : List Row
   pub held : Str
-  pub kept : Kept
+  pub kept : DraftState
 
 -- the copy lent to a call stands with it
 pub data Call : Type 0 where
@@ -27,7 +27,7 @@ unfoldable pub setOf : List Scalar → Editor → Str → Shelved
 setOf w k n = setDraft w (k .rows) n (k .kept .buffer) (k .held)
 
 -- a draft that comes back brings its count; a refusal leaves both
-unfoldable pub backKept : Kept → Edited → Kept
+unfoldable pub backKept : DraftState → Edited → DraftState
 backKept k e = cond (eqb (e .number) 0) (keeping e) k
 
 unfoldable pub called : List Scalar → Editor → Call → Editor

@@ -14,7 +14,7 @@ use Rattle.record.specs.Read.{readingOf, Exact}
 use Rattle.record.specs.declared.text.Text.{Text}
 use Rattle.record.specs.declared.read.Outcome.{Outcome}
 use Rattle.record.specs.declared.read.Outcome.the-variants.{Readable}
-use Rattle.record.specs.CommandTexts.{isPlain, given}
+use Rattle.record.specs.CommandTexts.{noText, given}
 use Rattle.drafts.specs.Parts.{heldRec, readHeld}
 use Rattle.drafts.specs.Packing.{le2, covered}
 
@@ -53,7 +53,7 @@ textBytes start len = le2 start ++ len ∷ []
 
 -- the texts of one operand
 unfoldable pub operandTexts : Str → ℕ → ℕ → List Text
-operandTexts x i o = cond (isPlain o) [] (withSome (given (optTextAt x i)) [])
+operandTexts x i o = cond (noText o) [] (withSome (given (optTextAt x i)) [])
 
 -- every byte of these texts is marked, all others are as they were
 pub record Marks (ts : List Text) (before after : List ℕ) : Type 0 where

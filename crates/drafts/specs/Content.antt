@@ -10,7 +10,7 @@ use Rattle.record.specs.Base.{Str}
 use Rattle.record.specs.Stretch.{textOf}
 use Rattle.record.specs.Operands.{textAt, optTextAt}
 use Rattle.record.specs.Commands.{operands, wide, commandsAt}
-use Rattle.record.specs.CommandTexts.{isPlain}
+use Rattle.record.specs.CommandTexts.{noText}
 use Rattle.record.specs.Lists.{optOf}
 use Rattle.record.specs.Reading.{Rec}
 
@@ -31,7 +31,7 @@ bytesAt x i (suc n) = getD x i 0 ∷ bytesAt x (i + 1) n
 -- the operand of a letter at a place of the command's bytes; a T is there, an O may be absent
 unfoldable pub operandAt : Str → Str → ℕ → ℕ → Operand
 operandAt p x i o =
-    cond (isPlain o) (plain (bytesAt x i (wide o)))
+    cond (noText o) (plain (bytesAt x i (wide o)))
     (cond (eqb o 84) (text (textOf p (textAt x i))) (maybe (optOf p (optTextAt x i))))
 
 unfoldable pub operandsAt : Str → Str → ℕ → Str → List Operand

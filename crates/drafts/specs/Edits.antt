@@ -138,13 +138,13 @@ count w copy b = counted b (readHeld w b) (reading Released copy)
 -- 02: "any series of edits", "with no other writer and one copy": each gets the count and the buffer that the last gave ---------------
 
 -- what an editor holds between two edits
-pub record Kept : Type 0 where
+pub record DraftState : Type 0 where
   pub changed : ℕ
   pub buffer : Str
 
-abbrev pub keeping : Edited → Kept
+abbrev pub keeping : Edited → DraftState
 keeping e = record { changed = e .changed; buffer = e .buffer }
 
-unfoldable pub series : List Scalar → Rec → Kept → List Edit → Kept
+unfoldable pub series : List Scalar → Rec → DraftState → List Edit → DraftState
 series w copy k [] = k
 series w copy k (e ∷ es) = series w copy (keeping (edit w copy (k .changed) (k .buffer) e)) es

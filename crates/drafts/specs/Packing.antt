@@ -13,7 +13,7 @@ use Rattle.record.specs.Commands.{operands, wide}
 use Rattle.record.specs.declared.text.Text.{Text}
 use Rattle.record.specs.declared.operands.OptText.{OptText}
 use Rattle.record.specs.declared.operands.OptText.the-variants.{Absent, Given}
-use Rattle.record.specs.CommandTexts.{isPlain, textsAt}
+use Rattle.record.specs.CommandTexts.{noText, textsAt}
 use Rattle.drafts.specs.Content.{bytesAt}
 
 -- the texts of commands ---------------------------------------------------------------------------------------------------
@@ -52,7 +52,7 @@ le2 n = n % 256 ∷ n / 256 ∷ []
 
 -- an operand with the start of its text moved
 unfoldable pub operandBytes : (ℕ → ℕ) → Str → ℕ → ℕ → Str
-operandBytes f x i o = cond (isPlain o) (bytesAt x i (wide o)) (le2 (movedStart f (optTextAt x i)) ++ getD x (i + 2) 0 ∷ [])
+operandBytes f x i o = cond (noText o) (bytesAt x i (wide o)) (le2 (movedStart f (optTextAt x i)) ++ getD x (i + 2) 0 ∷ [])
 
 unfoldable pub rowBytes : (ℕ → ℕ) → Str → ℕ → Str → Str
 rowBytes f x i [] = []

@@ -18,12 +18,12 @@ rowAt s i = record {
 }
 
 -- so many values of a function, from a number on
-unfoldable pub listed : {A : Type 0} → (ℕ → A) → ℕ → ℕ → List A
-listed f zero i = []
-listed f (suc k) i = f i ∷ listed f k (i + 1)
+unfoldable pub tabulate : {A : Type 0} → (ℕ → A) → ℕ → ℕ → List A
+tabulate f zero i = []
+tabulate f (suc k) i = f i ∷ tabulate f k (i + 1)
 
 unfoldable pub rowsOf : Shelf → List Row
-rowsOf s = listed (rowAt s) 8 0
+rowsOf s = tabulate (rowAt s) 8 0
 
 -- a shelf on which no name is held
 abbrev pub newShelf : Shelf

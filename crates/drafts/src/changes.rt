@@ -10,7 +10,6 @@ ghost use lib.ListN.{length, take};
 ghost use Rattle.record.specs.Base.{Str};
 ghost use Rattle.record.specs.Scalars.{scalarsOf};
 ghost use Rattle.record.specs.Index.{IndexRoom, Indexed};
-ghost use Rattle.layout.specs.Room.{Room, SizesRoom};
 ghost use Rattle.record.specs.Reading.{Rec, rec, schemaOf};
 ghost use Rattle.record.specs.Read.{Exact};
 ghost use Rattle.layout.specs.Layout.{typeIn};
@@ -172,28 +171,6 @@ fn index_one(stream: &[u8], pool: &[u8], index: &mut [u16])
     fill_index(stream, pool, index);
 }
 
-// Fills the tables of a record that has its index; answers how many types it has.
-fn lay_one(
-    rows: &[u8],
-    stream: &[u8],
-    pool: &[u8],
-    index: &[u16],
-    types: &mut [u32],
-    scratch: &mut [u32],
-    sizes: &mut [u64],
-) -> usize
-    requires { ⌜ Legible (rec (now stream) (now pool) (scalarsOf (now rows)))
-        × Indexed (now stream) (now pool) (now index)
-        × Room (now stream) (now types)
-        × Room (now stream) (now scratch)
-        × SizesRoom (now stream) (now sizes) ⌝ }
-    ensures { λ r.
-        let cur : Rec = rec (now (stream .entry)) (now (pool .entry)) (scalarsOf (now (rows .entry))) in
-        ⌜ Tables cur (take r (now (types .exit))) (now (sizes .exit)) × (r ≤ length (now (types .exit))) ⌝ }
-{
-    fill_tables(rows, stream, pool, index, types, scratch, sizes)
-}
-
 // Fills the tables of a record over a lent index and a lent table to sort in; answers how many types it has.
 fn lay_lent(
     rows: &[u8],
@@ -210,7 +187,7 @@ fn lay_lent(
         ⌜ Tables cur (take r (now (types .exit))) (now (sizes .exit)) × (r ≤ length (now (types .exit))) ⌝ }
 {
     index_one(stream, pool, index);
-    lay_one(rows, stream, pool, index, types, scratch, sizes)
+    fill_tables(rows, stream, pool, index, types, scratch, sizes)
 }
 
 // Fills the tables of a record; answers how many types it has.

@@ -17,7 +17,7 @@ ghost use lib.Dec.{eqb};
 ghost use Rattle.record.specs.Base.{Str, withSome};
 ghost use Rattle.record.specs.Commands.{commandsAt};
 ghost use Rattle.record.specs.Write.{Puts};
-ghost use Rattle.record.specs.CommandTexts.{isPlain, given, textsFrom, textsAt};
+ghost use Rattle.record.specs.CommandTexts.{noText, given, textsFrom, textsAt};
 ghost use Rattle.drafts.specs.Packing.{textsOf, kept};
 ghost use Rattle.drafts.specs.Code.{upTo, operandTexts, Marks, isMarked, Ranked};
 
@@ -50,7 +50,7 @@ fn mark_given(marks: &mut [u8], t: OptText)
 
 // Whether an operand is no text.
 fn is_plain(letter: u8) -> bool
-    ensures { λ r. ⌜ r ≡ isPlain letter ⌝ }
+    ensures { λ r. ⌜ r ≡ noText letter ⌝ }
 {
     match letter {
         b'F' => true,

@@ -8,7 +8,7 @@ use Prim.Native.String.{String}
 use Rattle.record.specs.Base.{Str, bytes, eqs, decimal, orElse, orOption, find}
 use Rattle.record.specs.Scalars.{scalarIn, primSize, builtIn}
 use Rattle.record.specs.Schema.{Schema, Field}
-use Rattle.record.specs.Kind.{words, meaning, kindOf}
+use Rattle.record.specs.Kind.{words, kindAmong, kindOf}
 use Rattle.record.specs.Shapes.{scalarSize, sizeAs, shapeSize, spaced, named, restAs, shapeType, placeOf, places}
 use Rattle.record.specs.Fill.{joined}
 use Rattle.layout.specs.Sorted.{insert, insertAll, sorted}
@@ -53,7 +53,7 @@ tile = record {
   versions = [];
 }
 
-pub listed : listOf tile ≡ bytes "tile.n 0 2 scalar u16\ntile.skip 2 1 scalar u8\ntile.gap 3 1 padding\n"
-unfolding tile field bytes eqs decimal orElse orOption find scalarIn primSize builtIn words meaning kindOf scalarSize sizeAs shapeSize spaced named restAs shapeType placeOf places joined
+pub tile-listed : listOf tile ≡ bytes "tile.n 0 2 scalar u16\ntile.skip 2 1 scalar u8\ntile.gap 3 1 padding\n"
+unfolding tile field bytes eqs decimal orElse orOption find scalarIn primSize builtIn words kindAmong kindOf scalarSize sizeAs shapeSize spaced named restAs shapeType placeOf places joined
     insert insertAll sorted layStruct layFamilies flattened types lineOf linesOf linesOfAll listOf
-listed = refl
+tile-listed = refl

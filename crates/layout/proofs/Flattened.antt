@@ -16,7 +16,7 @@ use Rattle.record.specs.Seek.{placesOf}
 use Rattle.record.specs.declared.seek.Between.the-variants.{Anything}
 use Rattle.record.specs.Lists.{listed, anything, aField, structOf, familyOf, variantOf, fields, structs, variants, families}
 use Rattle.record.specs.Steps.{fieldsAt}
-use Rattle.record.specs.Shapes.{places, prefix}
+use Rattle.record.specs.Shapes.{places, famPrefix}
 use Rattle.record.specs.Reading.{Rec, rec, schemaFrom, schemaOf}
 use Rattle.record.specs.declared.command.Cursor.{Cursor}
 use Rattle.record.specs.declared.command.Command.{Command}
@@ -55,7 +55,7 @@ module _ (s p : Str) (at : ℕ) (c : Command) (k : Cursor) (e : stepAt s at ≡ 
   unfolding handleFields
   own-fields n = let f = step-found s at c k e in rw (ne-eqb (getD s at 0) 9 n, ← f .wide)
 
-  pub family-fields : getD s at 0 ≡ 9 → handleFields s p at ≡ prefix (familyOf p (familyAt (drop at s)) [] []) ++ fieldsAt s p (k .at)
+  pub family-fields : getD s at 0 ≡ 9 → handleFields s p at ≡ famPrefix (familyOf p (familyAt (drop at s)) [] []) ++ fieldsAt s p (k .at)
   unfolding handleFields
   family-fields n = let f = step-found s at c k e in rw (eq-eqb (getD s at 0) 9 n, ← f .wide)
 
@@ -96,9 +96,9 @@ module _ (s p : Str) (w : List Scalar) (small : length s ≤ 32768) where
     laid-struct b = layout-is at (nameAt s p at) own (plain-name at inside) (rw (plain-place at inside) (own-fields s p at c k e (λ q. omega arith)))
 
     laid-family : getD s at 0 ≡ 9 → (vs : List Variant) → layoutOf R at ≡ layFamily S (familyOf p (familyAt (drop at s)) own vs)
-    unfolding layFamily nameAt prefix fieldsAt
+    unfolding layFamily nameAt famPrefix fieldsAt
     laid-family b vs =
-        layout-is at (nameAt s p at) (prefix (familyOf p (familyAt (drop at s)) [] []) ++ own) (plain-name at inside) (rw (plain-place at inside) (family-fields s p at c k e b))
+        layout-is at (nameAt s p at) (famPrefix (familyOf p (familyAt (drop at s)) [] []) ++ own) (plain-name at inside) (rw (plain-place at inside) (family-fields s p at c k e b))
 
     laid-variant : (f : ℕ) (m : Family) → m .name ≡ nameAt s p f → getD s at 0 ≡ 10 → layoutOf R (65536 * (f + 1) + at) ≡ layVariant S m (variantOf p (variantAt (drop at s)) own)
     unfolding layVariant nameAt fieldsAt

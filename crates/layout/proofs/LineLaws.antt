@@ -16,7 +16,7 @@ use Rattle.record.specs.Seek.{SoughtFrom}
 use Rattle.record.specs.Lists.{fieldOf}
 use Rattle.record.specs.Scalars.{Scalar}
 use Rattle.record.specs.Fill.{joined}
-use Rattle.record.specs.Shapes.{shapeType, Place, places, capped}
+use Rattle.record.specs.Shapes.{shapeType, FieldLayout, places, capped}
 use Rattle.record.specs.Describe.{describedAs}
 use Rattle.record.specs.Reading.{Rec, rec, schemaOf}
 use Rattle.record.specs.Read.{Exact}
@@ -40,7 +40,7 @@ use Rattle.layout.specs.Handles.{layoutOf}
 use Rattle.layout.specs.Names.{nameOf, stretchesOf}
 use Rattle.layout.specs.Table.{Typed}
 use Rattle.layout.specs.FieldSizes.{SizesFrom, SizesTable}
-use Rattle.layout.specs.Spots.{spotOf, placeAt, cursorAt, bodyPlace, fieldsAhead, aheadLeft, spotsLeft, placesFrom, Sound, SpotsFrom, TypeSpots}
+use Rattle.layout.specs.Spots.{spotOf, placeAt, cursorAt, bodyPlace, fieldsAhead, aheadLeft, spotsLeft, placesFrom, SoundCursor, SpotsFrom, TypeSpots}
 use Rattle.layout.specs.Lines.{LinesFrom, linesMost}
 use Rattle.layout.specs.Tables.{Tables}
 use Rattle.layout.proofs.NameLaws.{stretches-read}
@@ -53,7 +53,7 @@ module _ (p : Str) {out after : Str} {at r : ℕ} where
       → Puts out at (a ++ (b ++ (c ++ d))) after r
   put-four a b c d = puts-then a (puts-then b (puts-then c d))
 
-  line-put : (t : Str) (f : Place) {m₁ m₂ m₃ : Str} {q₁ q₂ q₃ : ℕ} → Puts out at (t ++ (bytes "." ++ (f .name ++ bytes " "))) m₁ q₁
+  line-put : (t : Str) (f : FieldLayout) {m₁ m₂ m₃ : Str} {q₁ q₂ q₃ : ℕ} → Puts out at (t ++ (bytes "." ++ (f .name ++ bytes " "))) m₁ q₁
       → Puts m₁ q₁ (decimal (f .offset) ++ (bytes " " ++ (decimal (f .size) ++ bytes " "))) m₂ q₂ → Puts m₂ q₂ (f .described) m₃ q₃ → Puts m₃ q₃ (bytes "\n") after r
       → Puts out at (lineOf t f) after r
   unfolding lineOf joined
@@ -76,12 +76,12 @@ pub field-long : (p y : Str) (x : Text) (z : Str) (offset size a b c : ℕ) → 
 unfolding lineOf joined bytes
 field-long p y x z offset size a b c d e f g h = rw (h, f, g, e, d) (simp length-append (omega arith))
 
-line-long : (t : Str) (f : Place) → length (lineOf t f) ≡ length t + length (lineOf [] f)
+line-long : (t : Str) (f : FieldLayout) → length (lineOf t f) ≡ length t + length (lineOf [] f)
 unfolding lineOf joined
 line-long t f = length-append t (lineOf [] f)
 
 -- a line that is only measured
-line-measured : (t : Str) (f : Place) (n k end r : ℕ) → n ≡ length t → k ≡ length (lineOf [] f) → r ≡ saturated (end + (n + k)) → Puts [] end (lineOf t f) [] r
+line-measured : (t : Str) (f : FieldLayout) (n k end r : ℕ) → n ≡ length t → k ≡ length (lineOf [] f) → r ≡ saturated (end + (n + k)) → Puts [] end (lineOf t f) [] r
 line-measured t f n k end r a b e =
     let l = line-long t f in
     let m : end + (n + k) ≡ end + length (lineOf t f) = omega arith in
@@ -91,8 +91,8 @@ line-measured t f n k end r a b e =
 
 -- how far they have come: whatever puts the rest puts all from the first cursor on
 pub record FieldLines (s p : Str) (z : List ℕ) (n : Str) (c₀ : SpotCursor) (out₀ : Str) (at : ℕ) (out : Str) (c : SpotCursor) (end : ℕ) : Type 0 where
-  pub sound : (w : List Scalar) → Sound (rec s p w) z c₀ → Sound (rec s p w) z c
-  pub rest : (w : List Scalar) → Sound (rec s p w) z c₀ → {after : Str} {q : ℕ} → Puts out end (linesOf n (placesFrom (rec s p w) c)) after q
+  pub sound : (w : List Scalar) → SoundCursor (rec s p w) z c₀ → SoundCursor (rec s p w) z c
+  pub rest : (w : List Scalar) → SoundCursor (rec s p w) z c₀ → {after : Str} {q : ℕ} → Puts out end (linesOf n (placesFrom (rec s p w) c)) after q
       → Puts out₀ at (linesOf n (placesFrom (rec s p w) c₀)) after q
   pub near : end + 2048 * spotsLeft s c ≤ at + 2048 * spotsLeft s c₀
   pub long : length out ≡ length out₀
@@ -164,7 +164,7 @@ module _ (s p : Str) (z : List ℕ) (n : ℕ) where
 
 -- how far the lines of a type have come: whatever puts the rest puts the whole
 pub record Lining (r : Rec) (z : List ℕ) (t : TypeLayout) (out₀ : Str) (at : ℕ) (out : Str) (c : SpotCursor) (end : ℕ) : Type 0 where
-  pub sound : Sound r z c
+  pub sound : SoundCursor r z c
   pub rest : {after : Str} {q : ℕ} → Puts out end (linesOf (t .name) (placesFrom r c)) after q → Puts out₀ at (linesOf (t .name) (t .fields)) after q
   pub near : end + 2048 * spotsLeft (r .stream) c ≤ at + linesMost (r .stream)
   pub long : length out ≡ length out₀
@@ -198,10 +198,10 @@ module _ (s p : Str) (w : List Scalar) (z : List ℕ) (h : ℕ) where
       lining-body =
           let v : nameOf p n ≡ T .name = ap (nameOf p) e ∙ stretches-read s p h in
           let same : placesFrom R c ≡ placesFrom R (cursorAt (Body (place (k .at))) (c .offset)) = ap (λ (a : Ahead). places (schemaOf R) (c .offset) (fieldsAhead s p a)) m in
-          let d : Sound R z (cursorAt (Body (place (k .at))) (c .offset)) =
+          let d : SoundCursor R z (cursorAt (Body (place (k .at))) (c .offset)) =
           record {
             sizes = subst (λ (a : Ahead). SizesFrom R z (bodyPlace a)) m (l .sound .sizes);
-            ends = λ x i. l .sound .ends x (subst (λ (y : List Place). List·Memᴰ x y) (sym same) i);
+            ends = λ x i. l .sound .ends x (subst (λ (y : List FieldLayout). List·Memᴰ x y) (sym same) i);
           }
           in
           l .rest (puts-as (f .lines w d) (ap₂ linesOf v (sym same)))

@@ -21,7 +21,7 @@ use Rattle.record.specs.declared.read.Outcome.the-variants.{Readable, Refused}
 use Rattle.record.proofs.ScalarLaws.{built-in}
 use Rattle.record.proofs.WriterLaws.{puts-exact, puts-front}
 use Rattle.layout.specs.Listing.{listOf}
-use Rattle.layout.specs.Answer.{refusalOf, textOr, listed, list, Answered}
+use Rattle.layout.specs.Answer.{refusalOf, textOr, listAnswer, list, Answered}
 use Rattle.layout.specs.declared.answer.Answer as D
 use Rattle.layout.proofs.Readable.{reading-refused, reading-read, read-short}
 
@@ -73,7 +73,7 @@ refused-is side x at n m a b out = record { number = a; side = b; place = refl; 
 module _ (side : Side) (s p rows : Str) (o : Outcome) (e : rows ≡ builtInRows) (h : Read side (rec s p (scalarsOf rows)) o) where
   pub list-refused : (out : Str) (x : Refusal) (at : ℕ) (r : D.Answer) → o ≡ Refused x at → ((a : Str) → Answered a a (refusalOf side x at) r)
       → Answered out out (list (length out) side (rec s p builtIn)) r
-  unfolding list listed
+  unfolding list listAnswer
   list-refused out x at r k a = rw (reading-refused side s p rows o e h x at k) (a out)
 
   pub list-premise : o ≡ Readable → (length s ≤ 32768) × Exact (rec s p (scalarsOf rows))
@@ -81,7 +81,7 @@ module _ (side : Side) (s p rows : Str) (o : Outcome) (e : rows ≡ builtInRows)
 
   pub list-readable : (out after : Str) (r : D.Answer) → o ≡ Readable → Answered out after (textOr (length out) 0 (listOf (schemaOf (rec s p (scalarsOf rows))))) r
       → Answered out after (list (length out) side (rec s p builtIn)) r
-  unfolding list listed
+  unfolding list listAnswer
   list-readable out after r k a =
       rw (reading-read side s p rows o e h k)
       (subst (λ (w : List Scalar). Answered out after (textOr (length out) 0 (listOf (schemaOf (rec s p w)))) r) (ap scalarsOf e ∙ built-in) a)

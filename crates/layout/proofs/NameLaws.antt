@@ -19,7 +19,7 @@ use Rattle.record.proofs.WriterLaws.{puts-then}
 use Rattle.record.specs.Words.{Skipped}
 use Rattle.layout.specs.Layout.{variantName}
 use Rattle.layout.specs.Handles.{nameAt, familyPart, placePart, typeName}
-use Rattle.layout.specs.Names.{joined, frontOf, colonsOf, backOf, hasParts, Parts, nameOf, nameTextAt, stretchesOf}
+use Rattle.layout.specs.Names.{composed, frontOf, colonsOf, backOf, hasParts, Parts, nameOf, nameTextAt, stretchesOf}
 use Rattle.layout.specs.declared.names.TypeName.{TypeName}
 use Rattle.record.proofs.WordLaws.{before-next, before-below, before-above, before-longer, before-shorter, before-end, before-skip}
 
@@ -63,12 +63,12 @@ abbrev colons : Str
 colons = 58 ∷ 58 ∷ []
 
 module _ (f : Str) (k : ℕ) (b : Str) (i : ℕ) where
-  pub byte-front : i < length f → getD f i 0 ≡ getD (joined f k b) i 0
-  unfolding joined
+  pub byte-front : i < length f → getD f i 0 ≡ getD (composed f k b) i 0
+  unfolding composed
   byte-front h = sym (List·getD-append f (take k colons ++ b) 0 i h)
 
-  split : length f ≤ i → getD (joined f k b) i 0 ≡ getD (take k colons ++ b) (i - length f) 0
-  unfolding joined
+  split : length f ≤ i → getD (composed f k b) i 0 ≡ getD (take k colons ++ b) (i - length f) 0
+  unfolding composed
   split h =
       let e : length f + (i - length f) ≡ i = omega arith in
       subst (λ (n : ℕ). getD (f ++ (take k colons ++ b)) n 0 ≡ getD (take k colons ++ b) (i - length f) 0) e (getD-append-add f (take k colons ++ b) (i - length f) 0)
@@ -87,31 +87,31 @@ after-colons k j b h l =
     sym (subst (λ (m : ℕ). getD (take k colons ++ b) m 0 ≡ getD b (j - k) 0) e (getD-append-add (take k colons) b (j - k) 0))
 
 module _ (f : Str) (k : ℕ) (b : Str) (i : ℕ) where
-  pub byte-colon : k ≤ 2 → length f ≤ i → i - length f < k → 58 ≡ getD (joined f k b) i 0
+  pub byte-colon : k ≤ 2 → length f ≤ i → i - length f < k → 58 ≡ getD (composed f k b) i 0
   byte-colon h l m = colon k (i - length f) b h m ∙ sym (split f k b i l)
 
-  pub byte-back : (r : ℕ) → k ≤ 2 → length f ≤ i → k ≤ i - length f → r ≡ getD b (i - length f - k) 0 → r ≡ getD (joined f k b) i 0
+  pub byte-back : (r : ℕ) → k ≤ 2 → length f ≤ i → k ≤ i - length f → r ≡ getD b (i - length f - k) 0 → r ≡ getD (composed f k b) i 0
   byte-back r h l m e = e ∙ after-colons k (i - length f) b h m ∙ sym (split f k b i l)
 
 pub ruleset byte-laws = (byte-front, byte-colon, byte-back)
 
-pub joined-length : (f : Str) (k : ℕ) (b : Str) → Parts f k b → length f + k + length b ≡ length (joined f k b)
-unfolding joined
-joined-length f k b h =
+pub composed-length : (f : Str) (k : ℕ) (b : Str) → Parts f k b → length f + k + length b ≡ length (composed f k b)
+unfolding composed
+composed-length f k b h =
     let n : length (take k colons) ≡ k = length-take-le k colons (h .few) in
     sym (simp length-append (omega arith))
 
 -- order of names in parts -------------------------------------------------------------------------------------------------
 
-front-long : (f : Str) (k : ℕ) (b : Str) (i : ℕ) → i ≤ length f → i ≤ length (joined f k b)
-unfolding joined
+front-long : (f : Str) (k : ℕ) (b : Str) (i : ℕ) → i ≤ length f → i ≤ length (composed f k b)
+unfolding composed
 front-long f k b i h = rw length-append (omega arith)
 
 -- what the fronts agree in, the names do
-pub joined-skip : (f : Str) (k : ℕ) (b g : Str) (l : ℕ) (d : Str) (i : ℕ) → Skipped f g i
-    → before (joined f k b) (joined g l d) ≡ before (drop i (joined f k b)) (drop i (joined g l d))
-joined-skip f k b g l d i s =
-    before-skip (joined f k b) (joined g l d) i
+pub composed-skip : (f : Str) (k : ℕ) (b g : Str) (l : ℕ) (d : Str) (i : ℕ) → Skipped f g i
+    → before (composed f k b) (composed g l d) ≡ before (drop i (composed f k b)) (drop i (composed g l d))
+composed-skip f k b g l d i s =
+    before-skip (composed f k b) (composed g l d) i
     (record {
       agree = λ j h. let p = s .in-first in let q = s .in-second in sym (byte-front f k b j (omega arith)) ∙ s .agree j h ∙ byte-front g l d j (omega arith);
       in-first = front-long f k b i (s .in-first);
@@ -160,12 +160,12 @@ other-front (a ∷ f) (b ∷ g) x y e h = go (eqb a b) h (other-front f g x y (o
     go false k ih = refl
 
 module _ (f : Str) (k : ℕ) (b g : Str) (l : ℕ) (d : Str) where
-  pub parts-other : (t r : Bool) → length f ≡ length g → t ≡ eqs f g → t ≡ false → r ≡ before f g → r ≡ before (joined f k b) (joined g l d)
-  unfolding joined
+  pub parts-other : (t r : Bool) → length f ≡ length g → t ≡ eqs f g → t ≡ false → r ≡ before f g → r ≡ before (composed f k b) (composed g l d)
+  unfolding composed
   parts-other t r e h z w = w ∙ sym (other-front f g (take k colons ++ b) (take l colons ++ d) e (sym h ∙ z))
 
-  pub parts-same : (t r : Bool) → t ≡ eqs f g → t ≡ true → k ≡ l → r ≡ before b d → r ≡ before (joined f k b) (joined g l d)
-  unfolding joined
+  pub parts-same : (t r : Bool) → t ≡ eqs f g → t ≡ true → k ≡ l → r ≡ before b d → r ≡ before (composed f k b) (composed g l d)
+  unfolding composed
   parts-same t r h z e w = w ∙ sym (rw (eqs→eq f g (sym h ∙ z), e) (same-front g (take l colons ++ b) (take l colons ++ d) ∙ same-front (take l colons) b d))
 
 pub ruleset parts-laws = (parts-other, parts-same)
@@ -198,8 +198,8 @@ module _ (s p : Str) (h : ℕ) where
   back-own x i at e z f g = g ∙ rw (f, ← e, ne-eqb i 0 z)
 
   -- a type's name is its parts
-  pub type-parts : typeName s p h ≡ joined (frontOf s p h) (colonsOf h) (backOf s p h)
-  unfolding typeName variantName joined frontOf colonsOf backOf
+  pub type-parts : typeName s p h ≡ composed (frontOf s p h) (colonsOf h) (backOf s p h)
+  unfolding typeName variantName composed frontOf colonsOf backOf
   type-parts = go (eqb (familyPart h) 0)
     where
       go : (t : Bool)
@@ -209,13 +209,13 @@ module _ (s p : Str) (h : ℕ) where
       go false = refl
 
   module _ (f b : Str) (k : ℕ) (u : f ≡ frontOf s p h) (v : k ≡ colonsOf h) (w : b ≡ backOf s p h) where
-    pub parts-type : joined f k b ≡ typeName s p h
+    pub parts-type : composed f k b ≡ typeName s p h
     parts-type = rw (u, v, w) (sym type-parts)
 
-    pub under-is : (y : Str) (r : Bool) → r ≡ before (joined f k b) y → r ≡ before (typeName s p h) y
+    pub under-is : (y : Str) (r : Bool) → r ≡ before (composed f k b) y → r ≡ before (typeName s p h) y
     under-is y r e = e ∙ ap (λ (x : Str). before x y) parts-type
 
-    pub over-is : (x : Str) (r : Bool) → r ≡ before x (joined f k b) → r ≡ before x (typeName s p h)
+    pub over-is : (x : Str) (r : Bool) → r ≡ before x (composed f k b) → r ≡ before x (typeName s p h)
     over-is x r e = e ∙ ap (before x) parts-type
 
   -- its parts compared one by one
@@ -233,7 +233,7 @@ module _ (s p : Str) (h : ℕ) where
       unfolding hasParts
       has-all y r z a g = g ∙ rw (eq-eqb (colonsOf h) k (sym u ∙ e), ← v, ← w, z, ← a)
 
-  pub named-so : (f b : Str) (k : ℕ) → hasParts s p h f k b ≡ true → typeName s p h ≡ joined f k b
+  pub named-so : (f b : Str) (k : ℕ) → hasParts s p h f k b ≡ true → typeName s p h ≡ composed f k b
   unfolding hasParts
   named-so f b k e =
       let x = both (eqb (colonsOf h) k) (eqs (backOf s p h) b && eqs (frontOf s p h) f) e in

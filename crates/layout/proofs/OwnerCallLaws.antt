@@ -5,7 +5,7 @@ use Rattle.record.specs.Base.{Str}
 use Rattle.record.specs.Scalars.{scalarsOf, builtIn, builtInRows}
 use Rattle.record.specs.Reading.{Rec, rec, read, refuse, reading, schemaOf}
 use Rattle.record.specs.Read.{Read}
-use Rattle.record.specs.Ownership.{Answered, OwnerFound, ownerMeant}
+use Rattle.record.specs.Ownership.{IsOwner, OwnerFound, ownerMeant}
 use Rattle.record.specs.declared.text.Text.{Text}
 use Rattle.record.specs.declared.refusal.Refusal.{Refusal}
 use Rattle.record.specs.declared.refusal.Side.the-variants.{Current}
@@ -30,7 +30,7 @@ module _ (s p n rows : Str) (o : Outcome) (e : rows ≡ builtInRows) (h : Read C
       record { answer = sym (ap (ownerRead R n) g); name = sym (ap (nameRead R n) g) }
 
   module _ (w : Owner) (k : o ≡ Readable) (f : OwnerFound 32768 s p n w) where
-    found : Answered s p n w
+    found : IsOwner s p n w
     found = f .within (read-short Current s p rows o e h k)
 
     is-read : reading Current R ≡ read (schemaOf R)

@@ -22,8 +22,8 @@ use Rattle.record.specs.declared.seek.Sought.{Sought}
 use Rattle.record.specs.declared.seek.Sought.the-variants.{Nowhere, At}
 use Rattle.record.specs.Lists.{optOf, fieldOf, familyOf}
 use Rattle.record.specs.Steps.{enumsAt, fieldKeyAt, fieldsAt, FieldsFrom, FieldPlace}
-use Rattle.record.specs.Kind.{words, meaning, kindOf, isPadding}
-use Rattle.record.specs.Shapes.{enumSize, sized, scalarSize, sizeAs, shapeSize, spaced, named, restAs, shapeType, Place, placeOf, places, plain, prefix, limit, capped}
+use Rattle.record.specs.Kind.{words, kindAmong, kindOf, isPadding}
+use Rattle.record.specs.Shapes.{enumSize, sized, scalarSize, sizeAs, shapeSize, spaced, named, restAs, shapeType, FieldLayout, placeOf, places, plain, famPrefix, limit, capped}
 use Rattle.record.specs.Describe.{describedAs, Shaped}
 use Rattle.record.specs.Reading.{Rec, rec, schemaFrom, schemaOf}
 use Rattle.record.specs.declared.text.Text.{Text}
@@ -56,7 +56,7 @@ use Rattle.layout.specs.declared.spots.SpotStep.the-variants.{NoSpot, AS
 use Rattle.layout.specs.Handles.{nameAt, placePart, handleFields, layoutOf}
 use Rattle.layout.specs.Table.{Typed}
 use Rattle.layout.specs.FieldSizes.{fieldSize, SizesFrom}
-use Rattle.layout.specs.Spots.{spotOf, placeAt, cursorAt, bodyPlace, fieldsAhead, placesFrom, aheadLeft, spotsLeft, Sound, spotsOf, soundAfter, stepLeft, SpotsFrom, TypeSpots, OthersPassed}
+use Rattle.layout.specs.Spots.{spotOf, placeAt, cursorAt, bodyPlace, fieldsAhead, placesFrom, aheadLeft, spotsLeft, SoundCursor, spotsOf, soundAfter, stepLeft, SpotsFrom, TypeSpots, OthersPassed}
 use Rattle.layout.proofs.Along.{place-stands}
 use Rattle.layout.proofs.Flattened.{own-fields, family-fields}
 use Rattle.layout.proofs.Openings.{typed-place, typed-opened}
@@ -73,10 +73,10 @@ module _ (r : Rec) (t : List ℕ) (a b : Ahead) (offset : ℕ) (f : Field) (more
   unfolding placesFrom places
   all-places = ap (places S offset) more
 
-  module _ (d : Sound r t (cursorAt a offset)) where
+  module _ (d : SoundCursor r t (cursorAt a offset)) where
     first-ends : offset + shapeSize S f ≤ limit
     unfolding placeOf
-    first-ends = d .ends (placeOf S offset f) (subst (λ (l : List Place). List·Memᴰ (placeOf S offset f) l) (sym all-places) (List·Memᴰ·head refl))
+    first-ends = d .ends (placeOf S offset f) (subst (λ (l : List FieldLayout). List·Memᴰ (placeOf S offset f) l) (sym all-places) (List·Memᴰ·head refl))
 
     size-exact : (z : ℕ) → z ≡ capped (shapeSize S f) → z ≡ shapeSize S f
     size-exact z e = let l = first-ends in e ∙ sym (cap-low (shapeSize S f) (omega arith))
@@ -84,19 +84,19 @@ module _ (r : Rec) (t : List ℕ) (a b : Ahead) (offset : ℕ) (f : Field) (more
     end-exact : (z e : ℕ) → z ≡ shapeSize S f → e ≡ capped (offset + z) → e ≡ offset + shapeSize S f
     end-exact z e q u = u ∙ ap (λ (n : ℕ). capped (offset + n)) q ∙ sym (cap-low (offset + shapeSize S f) first-ends)
 
-  module _ (z e : ℕ) (size : Sound r t (cursorAt a offset) → z ≡ shapeSize S f) (u : e ≡ capped (offset + z)) (kept : SizesFrom r t (bodyPlace a) → SizesFrom r t (bodyPlace b)) where
-    one-more : Sound r t (cursorAt a offset) → placesFrom r (cursorAt a offset) ≡ placeOf S offset f ∷ placesFrom r (cursorAt b e)
+  module _ (z e : ℕ) (size : SoundCursor r t (cursorAt a offset) → z ≡ shapeSize S f) (u : e ≡ capped (offset + z)) (kept : SizesFrom r t (bodyPlace a) → SizesFrom r t (bodyPlace b)) where
+    one-more : SoundCursor r t (cursorAt a offset) → placesFrom r (cursorAt a offset) ≡ placeOf S offset f ∷ placesFrom r (cursorAt b e)
     unfolding placesFrom
     one-more d = all-places ∙ ap (λ (n : ℕ). placeOf S offset f ∷ places S n (fieldsAhead (r .stream) (r .pool) b)) (sym (end-exact d z e (size d) u))
 
-    still-sound : Sound r t (cursorAt a offset) → Sound r t (cursorAt b e)
-    still-sound d = record { sizes = kept (d .sizes); ends = λ g m. d .ends g (subst (λ (l : List Place). List·Memᴰ g l) (sym (one-more d)) (List·Memᴰ·tail m)) }
+    still-sound : SoundCursor r t (cursorAt a offset) → SoundCursor r t (cursorAt b e)
+    still-sound d = record { sizes = kept (d .sizes); ends = λ g m. d .ends g (subst (λ (l : List FieldLayout). List·Memᴰ g l) (sym (one-more d)) (List·Memᴰ·tail m)) }
 
     stepped : (x : Spot) → (z ≡ shapeSize S f → spotOf (r .pool) x ≡ placeOf S offset f) → suc (aheadLeft (r .stream) b) ≤ aheadLeft (r .stream) a
         → SpotsFrom r t (cursorAt a offset) (ASpot x (cursorAt b e))
     stepped x is left =
         record {
-          list = λ d. one-more d ∙ ap (λ (y : Place). y ∷ placesFrom r (cursorAt b e)) (sym (is (size d)));
+          list = λ d. one-more d ∙ ap (λ (y : FieldLayout). y ∷ placesFrom r (cursorAt b e)) (sym (is (size d)));
           sound = still-sound;
           left = left;
         }
@@ -114,29 +114,29 @@ module _ (s p : Str) (w : List Scalar) (t : List ℕ) (f : D.Family.Family) (k :
   len = plain (textOf p (f .«param_len_field»)) (bytes "scalar") (orElse (optOf p (f .«param_len_type»)) (bytes "u8"))
 
   disc-size : shapeSize (schemaOf R) disc ≡ sized (some (textOf p (f .«discriminant_type»))) (enumSize (enumsAt s p 0)) 1
-  unfolding shapeSize plain kindOf meaning words eqs bytes sizeAs schemaOf schemaFrom enumsAt
+  unfolding shapeSize plain kindOf kindAmong words eqs bytes sizeAs schemaOf schemaFrom enumsAt
   disc-size = refl
 
   len-size : shapeSize (schemaOf R) len ≡ primSize w (orElse (optOf p (f .«param_len_type»)) (bytes "u8"))
-  unfolding shapeSize plain kindOf meaning words eqs bytes sizeAs scalarSize orElse schemaOf schemaFrom
+  unfolding shapeSize plain kindOf kindAmong words eqs bytes sizeAs scalarSize orElse schemaOf schemaFrom
   len-size = refl
 
   disc-place : (z : ℕ) → z ≡ shapeSize (schemaOf R) disc
-      → _≡_ {A = Place} (record { name = textOf p (f .«discriminant_field»); offset = offset; size = z; described = describedAs p (Discriminant (f .«discriminant_type»)); padding = false })
+      → _≡_ {A = FieldLayout} (record { name = textOf p (f .«discriminant_field»); offset = offset; size = z; described = describedAs p (Discriminant (f .«discriminant_type»)); padding = false })
       (placeOf (schemaOf R) offset disc)
-  unfolding placeOf plain shapeType kindOf meaning words eqs bytes restAs named spaced orOption
+  unfolding placeOf plain shapeType kindOf kindAmong words eqs bytes restAs named spaced orOption
   disc-place z e i = record { name = disc .name; offset = offset; size = e i; described = shapeType disc; padding = false }
 
   len-place : (z : ℕ) → z ≡ shapeSize (schemaOf R) len
-      → _≡_ {A = Place} (record { name = textOf p (f .«param_len_field»); offset = offset; size = z; described = describedAs p (Length (f .«param_len_type»)); padding = false })
+      → _≡_ {A = FieldLayout} (record { name = textOf p (f .«param_len_field»); offset = offset; size = z; described = describedAs p (Length (f .«param_len_type»)); padding = false })
       (placeOf (schemaOf R) offset len)
-  unfolding placeOf plain shapeType kindOf meaning words eqs bytes restAs named spaced orOption
+  unfolding placeOf plain shapeType kindOf kindAmong words eqs bytes restAs named spaced orOption
   len-place z e i = record { name = len .name; offset = offset; size = e i; described = shapeType len; padding = false }
 
   pub spot-disc : (o : OptText) (b z e : ℕ) → o ≡ Given (f .«discriminant_type») → b ≡ sized (optOf p o) (enumSize (enumsAt s p 0)) 1 → z ≡ b → e ≡ capped (offset + z)
       → SpotsFrom R t (cursorAt (Front f k) offset)
       (ASpot (record { name = f .«discriminant_field»; offset = offset; size = z; described = Discriminant (f .«discriminant_type»); padding = false }) (cursorAt (Middle f k) e))
-  unfolding prefix
+  unfolding famPrefix
   spot-disc o b z e g h j u =
       stepped R t (Front f k) (Middle f k) offset disc refl z e
       (λ d. j ∙ h ∙ ap (λ (y : OptText). sized (optOf p y) (enumSize (enumsAt s p 0)) 1) g ∙ sym disc-size) u (λ q. q) _ (disc-place z) (omega arith)
@@ -144,7 +144,7 @@ module _ (s p : Str) (w : List Scalar) (t : List ℕ) (f : D.Family.Family) (k :
   pub spot-len : (b z e : ℕ) → b ≡ primSize w (orElse (optOf p (f .«param_len_type»)) (bytes "u8")) → z ≡ b → e ≡ capped (offset + z)
       → SpotsFrom R t (cursorAt (Middle f k) offset)
       (ASpot (record { name = f .«param_len_field»; offset = offset; size = z; described = Length (f .«param_len_type»); padding = false }) (cursorAt (Body k) e))
-  unfolding prefix
+  unfolding famPrefix
   spot-len b z e h j u = stepped R t (Middle f k) (Body k) offset len refl z e (λ d. j ∙ h ∙ sym len-size) u (λ q. q) _ (len-place z) (omega arith)
 
 -- after a field the bound is less
@@ -210,20 +210,20 @@ module _ (s p : Str) (w : List Scalar) (t : List ℕ) (k : Cursor) (offset : ℕ
         (λ y a. record { name = textOf p (f .name); offset = offset; size = y a; described = read a; padding = g a }) (omega arith)
 
     -- a field that is passed over
-    module _ (z e : ℕ) (u : z ≡ getD t (j .at / 33) 0) (i : e ≡ capped (offset + z)) (d : Sound (rec s p w) t (cursorAt (Body k) offset)) where
+    module _ (z e : ℕ) (u : z ≡ getD t (j .at / 33) 0) (i : e ≡ capped (offset + z)) (d : SoundCursor (rec s p w) t (cursorAt (Body k) offset)) where
       more : fieldsAt s p (k .at) ≡ whole ∷ fieldsAt s p (j .at)
       more = fields-now s (k .at) r h p f j m
 
-      sized-so : Sound (rec s p w) t (cursorAt (Body k) offset) → z ≡ shapeSize T whole
+      sized-so : SoundCursor (rec s p w) t (cursorAt (Body k) offset) → z ≡ shapeSize T whole
       sized-so y = size-exact (rec s p w) t (Body k) (Body j) offset whole more y z (u ∙ table-size (y .sizes))
 
       field-passed : placesFrom (rec s p w) (cursorAt (Body k) offset) ≡ placeOf T offset whole ∷ placesFrom (rec s p w) (cursorAt (Body j) e)
       field-passed = one-more (rec s p w) t (Body k) (Body j) offset whole more z e sized-so i table-kept d
 
-      passed-sound : Sound (rec s p w) t (cursorAt (Body j) e)
+      passed-sound : SoundCursor (rec s p w) t (cursorAt (Body j) e)
       passed-sound = still-sound (rec s p w) t (Body k) (Body j) offset whole more z e sized-so i table-kept d
 
--- the same by the place of its command
+-- a field by the place of its command
 module _ (s p : Str) (w : List Scalar) (t : List ℕ) (k : Cursor) (offset : ℕ) (r : Sought) (i : SoughtFrom s Keys 11 (k .at) r) where
   pub no-spot : r ≡ Nowhere → SpotsFrom (rec s p w) t (cursorAt (Body k) offset) NoSpot
   no-spot m = spot-none s p w t k offset NoField (fields-none s (k .at) r i m) refl
@@ -241,7 +241,7 @@ module _ (s p : Str) (w : List Scalar) (t : List ℕ) (k : Cursor) (offset : ℕ
 
 -- a field of which only the place is known
 module _ (s p : Str) (w : List Scalar) (t : List ℕ) (at offset : ℕ) (r : Sought) (i : SoughtFrom s Keys 11 at r) (a k : ℕ) (m : r ≡ At a k) (z e : ℕ) (u : z ≡ getD t (k / 33) 0)
-    (v : e ≡ capped (offset + z)) (d : Sound (rec s p w) t (cursorAt (Body (place at)) offset)) where
+    (v : e ≡ capped (offset + z)) (d : SoundCursor (rec s p w) t (cursorAt (Body (place at)) offset)) where
   abbrev found-field : D.Field.Field
   found-field = fieldAt (drop a s)
 
@@ -263,7 +263,7 @@ module _ (s p : Str) (w : List Scalar) (t : List ℕ) (at offset : ℕ) (r : Sou
       }
       ∷ placesFrom (rec s p w) (cursorAt (Body (place k)) e))
 
-  pub place-sound : Sound (rec s p w) t (cursorAt (Body (place k)) e)
+  pub place-sound : SoundCursor (rec s p w) t (cursorAt (Body (place k)) e)
   place-sound = passed-sound s p w t (place at) offset (AField found-field (place k)) found found-field (place k) refl z e u v d
 
 -- a step from any cursor ---------------------------------------------------------------------------------------------------
@@ -303,7 +303,7 @@ module _ (s p : Str) (t : List ℕ) (n : Str) (c : SpotCursor) where
           record {
             same = λ w d.
                 o .same w d
-                ∙ find-miss (λ (f : Place). eqs (f .name) n) _ _ _ (place-passed s p w t at offset r i a k m z e u v (o .sound w d)) (ap (λ (y : Str). eqs y n) (sym g) ∙ sym h ∙ q);
+                ∙ find-miss (λ (f : FieldLayout). eqs (f .name) n) _ _ _ (place-passed s p w t at offset r i a k m z e u v (o .sound w d)) (ap (λ (y : Str). eqs y n) (sym g) ∙ sym h ∙ q);
             sound = λ w d. place-sound s p w t at offset r i a k m z e u v (o .sound w d);
             left = omega arith;
           }
@@ -345,7 +345,7 @@ module _ (s : Str) (h n : ℕ) (e : n ≡ placePart h) (r : Step) (i : r ≡ ste
     pub first-family : (f : D.Family.Family) → c ≡ C.Family f → TypeSpots s h (cursorAt (Front f k) 0)
     first-family f g =
         begins (Front f k) refl
-        (λ p. ap (λ (x : D.Family.Family). prefix (familyOf p x [] []) ++ fieldsAt s p (k .at)) (sym (family-is f g))
+        (λ p. ap (λ (x : D.Family.Family). famPrefix (familyOf p x [] []) ++ fieldsAt s p (k .at)) (sym (family-is f g))
         ∙ sym (family-fields s p (placePart h) c k at-step (byte-is s (placePart h) c k at-step ∙ ap byteOf g)))
 
     pub first-body : OneOf (0 ∷ 1 ∷ 2 ∷ 3 ∷ 4 ∷ 5 ∷ 6 ∷ 7 ∷ 9 ∷ 10 ∷ 11 ∷ 12 ∷ 13 ∷ []) (tagOf the-type c) → TypeSpots s h (cursorAt (Body k) 0)
@@ -375,15 +375,15 @@ pub ruleset first-laws = (first-none, first-family, first-body, first-plain)
 -- for loops over the fields --------------------------------------------------------------------------------------------------
 
 module _ (s p : Str) (w : List Scalar) (t : List ℕ) (c : SpotCursor) (o : SpotStep) (f : SpotsFrom (rec s p w) t c o) where
-  pub spots-over-now : Sound (rec s p w) t c → o ≡ NoSpot → placesFrom (rec s p w) c ≡ []
+  pub spots-over-now : SoundCursor (rec s p w) t c → o ≡ NoSpot → placesFrom (rec s p w) c ≡ []
   spots-over-now d m = f .list d ∙ ap (spotsOf (rec s p w)) m
 
   module _ (x : Spot) (k : SpotCursor) (m : o ≡ ASpot x k) where
-    pub spots-now : Sound (rec s p w) t c → placesFrom (rec s p w) c ≡ spotOf p x ∷ placesFrom (rec s p w) k
+    pub spots-now : SoundCursor (rec s p w) t c → placesFrom (rec s p w) c ≡ spotOf p x ∷ placesFrom (rec s p w) k
     spots-now d = f .list d ∙ ap (spotsOf (rec s p w)) m
 
     -- the cursor after a step is sound too
-    pub spots-sound : Sound (rec s p w) t c → Sound (rec s p w) t k
+    pub spots-sound : SoundCursor (rec s p w) t c → SoundCursor (rec s p w) t k
     spots-sound d = subst (λ (y : SpotStep). soundAfter (rec s p w) t y) m (f .sound d)
 
     pub spots-nearer : spotsLeft s k < spotsLeft s c

@@ -23,7 +23,7 @@ use Rattle.layout.specs.Sorted.{sorted}
 use Rattle.layout.specs.Layout.{TypeLayout, variantName, types, typeIn}
 use Rattle.record.specs.Fill.{fronted}
 use Rattle.layout.specs.Handles.{typeName, handlesOf, layoutOf}
-use Rattle.layout.specs.Names.{joined, frontOf, colonsOf, backOf, hasParts, nameOf}
+use Rattle.layout.specs.Names.{composed, frontOf, colonsOf, backOf, hasParts, nameOf}
 use Rattle.layout.specs.Sort.{arranged, lasts, ascends}
 use Rattle.layout.specs.Table.{TypesTable, foundIn, FoundType}
 use Rattle.layout.proofs.Origin.{sorted-mem}
@@ -241,9 +241,9 @@ module _ (s p : Str) (t : List ℕ) (y : TypesTable s p t) where
 
 -- a name that stands at an index is found there
 module _ (s p : Str) (t : List ℕ) (f b : Str) (k i : ℕ) where
-  pub found-here : (c : Bool) → i < length t → c ≡ hasParts s p (getD t i 0) f k b → c ≡ true → FoundType s p t (joined f k b) (At i)
+  pub found-here : (c : Bool) → i < length t → c ≡ hasParts s p (getD t i 0) f k b → c ≡ true → FoundType s p t (composed f k b) (At i)
   found-here c h e z =
-      let n : typeName s p (getD t i 0) ≡ joined f k b = named-so s p (getD t i 0) f b k (sym e ∙ z) in
+      let n : typeName s p (getD t i 0) ≡ composed f k b = named-so s p (getD t i 0) f b k (sym e ∙ z) in
       record {
         layout = λ y w. ap (λ (m : Str). typeIn m (types (schemaOf (rec s p w)))) (sym n) ∙ own-type s p t y w i h;
         inside = omega arith;
@@ -251,12 +251,12 @@ module _ (s p : Str) (t : List ℕ) (f b : Str) (k i : ℕ) where
 
 -- names in parts ----------------------------------------------------------------------------------------------------------
 
-pub found-whole : (s p : Str) (t : List ℕ) (n : Str) (r : TypeFound) → FoundType s p t (joined n 0 []) r → FoundType s p t n r
-unfolding joined
+pub found-whole : (s p : Str) (t : List ℕ) (n : Str) (r : TypeFound) → FoundType s p t (composed n 0 []) r → FoundType s p t n r
+unfolding composed
 found-whole s p t n r f = subst (λ (m : Str). FoundType s p t m r) (append-nil n) f
 
 pub found-parts : (s p past old : Str) (t : List ℕ) (f b : Str) (h k : ℕ) (r : TypeFound) → f ≡ frontOf past old h → k ≡ colonsOf h → b ≡ backOf past old h
-    → FoundType s p t (joined f k b) r → FoundType s p t (typeName past old h) r
+    → FoundType s p t (composed f k b) r → FoundType s p t (typeName past old h) r
 found-parts s p past old t f b h k r u v w g = subst (λ (m : Str). FoundType s p t m r) (parts-type past old h f b k u v w) g
 
 -- a name of a pool, alone or a family's with a variant's
@@ -264,6 +264,6 @@ module _ (s p q : Str) (t : List ℕ) (n : TypeName) (x : Str) (e : x ≡ textOf
   pub found-alone : n .back ≡ Absent → FoundType s p t x r → FoundType s p t (nameOf q n) r
   found-alone a f = rw (a, ← e) f
 
-  pub found-variant : (d : Text) (y : Str) → n .back ≡ Given d → y ≡ textOf q d → FoundType s p t (joined x 2 y) r → FoundType s p t (nameOf q n) r
-  unfolding joined variantName
+  pub found-variant : (d : Text) (y : Str) → n .back ≡ Given d → y ≡ textOf q d → FoundType s p t (composed x 2 y) r → FoundType s p t (nameOf q n) r
+  unfolding composed variantName
   found-variant d y a g f = rw (a, ← e, ← g) f

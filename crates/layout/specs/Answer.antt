@@ -1,4 +1,5 @@
--- The answers of 01, What a check returns: number, side, place, length of the text, and the text; and what a call's answer says of one. Assumes nothing.
+-- The answers of 01, What a check returns: number, side, place, length of the text, and the text; and what a call's answer says of one.
+-- Assumes nothing.
 use mathlib.Core.Path.{_≡_}
 use mathlib.Core.List.{[]}
 use mathlib.Core.Bool.{cond}
@@ -34,12 +35,12 @@ textOr room number m =
     (record { number = 10; side = 0; place = 0; len = length m; text = [] })
 
 -- the list of a record's layouts, read as one side
-unfoldable pub listed : ℕ → Side → Reading → Answer
-listed room side (refuse n p) = refusalOf side n p
-listed room side (read s) = textOr room 0 (listOf s)
+unfoldable pub listAnswer : ℕ → Side → Reading → Answer
+listAnswer room side (refuse n p) = refusalOf side n p
+listAnswer room side (read s) = textOr room 0 (listOf s)
 
 unfoldable pub list : ℕ → Side → Rec → Answer
-list room side r = listed room side (reading side r)
+list room side r = listAnswer room side (reading side r)
 
 -- the buffer before and after, what is to be answered, and the answer: the text stands at the front, and the rest is as it was
 pub record Answered (out after : Str) (a : Answer) (r : D.Answer) : Type 0 where

@@ -1,5 +1,5 @@
--- The sorted table of a record's constants: the place of one command a name, in byte order of the names. The code's way to the map of constants in layout.rs
--- (of_schema, of_released). Assumes nothing.
+-- The sorted table of a record's constants: the place of one command a name, in byte order of the names. The code's way to the map of constants in
+-- layout.rs (of_schema, of_released). Assumes nothing.
 use mathlib.Core.Path.{_≡_}
 use mathlib.Core.List.{List, map}
 use Prim.Native.Nat.{ℕ}

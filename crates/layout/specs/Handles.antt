@@ -1,4 +1,5 @@
--- A type by a number: the types of a record in flattening order as the places of their commands. The code's way to the layouts of Layout. Assumes nothing.
+-- A type by a number: the types of a record in flattening order as the places of their commands. The code's way to the layouts of Layout.
+-- Assumes nothing.
 use mathlib.Core.List.{List, [], _∷_, _++_}
 use mathlib.Core.Bool.{cond}
 use Prim.Native.Nat.{ℕ, _+_, _-_, _*_, _/_, _%_}
@@ -13,7 +14,7 @@ use Rattle.record.specs.Lists.{listed, anything, aField, familyOf}
 use Rattle.record.specs.Steps.{fieldsAt}
 use Rattle.record.specs.Seek.{placesOf}
 use Rattle.record.specs.declared.seek.Between.the-variants.{Anything}
-use Rattle.record.specs.Shapes.{places, prefix}
+use Rattle.record.specs.Shapes.{places, famPrefix}
 use Rattle.record.specs.Reading.{Rec, schemaOf}
 use Rattle.layout.specs.Layout.{TypeLayout, variantName}
 
@@ -51,7 +52,7 @@ handlesOf s = placesOf s Anything 8 0 ++ familyHandles s (commandsAt s 0)
 -- the fields of a type, those in front of a family with them
 unfoldable pub handleFields : Str → Str → ℕ → List Field
 handleFields s p at =
-    cond (eqb (getD s at 0) 9) (prefix (familyOf p (familyAt (drop at s)) [] []) ++ fieldsAt s p (at + widthOf (getD s at 0)))
+    cond (eqb (getD s at 0) 9) (famPrefix (familyOf p (familyAt (drop at s)) [] []) ++ fieldsAt s p (at + widthOf (getD s at 0)))
     (fieldsAt s p (at + widthOf (getD s at 0)))
 
 -- the layout of a handle

@@ -1,14 +1,15 @@
--- Flattening: add_type, variant_name, of_schema and of_released of layout.rs, and 01, Flattening. Both sides are flattened by one function. Assumes nothing.
+-- Flattening: add_type, variant_name, of_schema and of_released of layout.rs, and 01, Flattening. Both sides are flattened by one function.
+-- Assumes nothing.
 use mathlib.Core.List.{List, [], _∷_, _++_, map}
 use mathlib.Core.Option.{Option}
 use Rattle.record.specs.Base.{Str, eqs, find}
 use Rattle.record.specs.Schema.{Schema, Struct, Family, Variant}
-use Rattle.record.specs.Shapes.{Place, places, prefix}
+use Rattle.record.specs.Shapes.{FieldLayout, places, famPrefix}
 use Rattle.layout.specs.Sorted.{sorted}
 
 pub record TypeLayout : Type 0 where
   pub name : Str
-  pub fields : List Place
+  pub fields : List FieldLayout
 
 -- a family's name, "::" and a discriminant
 unfoldable pub variantName : Str → Str → Str
@@ -19,7 +20,7 @@ layStruct s t = record { name = t .name; fields = places s 0 (t .fields) }
 
 -- 01: family layouts begin with discriminant and length field
 unfoldable pub layFamily : Schema → Family → TypeLayout
-layFamily s m = record { name = m .name; fields = places s 0 (prefix m ++ m .common) }
+layFamily s m = record { name = m .name; fields = places s 0 (famPrefix m ++ m .common) }
 
 unfoldable pub layVariant : Schema → Family → Variant → TypeLayout
 layVariant s m v = record { name = variantName (m .name) (v .disc); fields = places s 0 (v .fields) }

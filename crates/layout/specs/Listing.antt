@@ -3,15 +3,15 @@ use mathlib.Core.List.{List, [], _∷_, _++_}
 use Rattle.record.specs.Base.{Str, bytes, decimal}
 use Rattle.record.specs.Fill.{joined}
 use Rattle.record.specs.Schema.{Schema}
-use Rattle.record.specs.Shapes.{Place}
+use Rattle.record.specs.Shapes.{FieldLayout}
 use Rattle.layout.specs.Layout.{TypeLayout, types}
 
 -- 01: type name, dot, field name, space, offset, space, size, space, description, line feed
-unfoldable pub lineOf : Str → Place → Str
+unfoldable pub lineOf : Str → FieldLayout → Str
 lineOf t f =
     joined (t ∷ bytes "." ∷ f .name ∷ bytes " " ∷ decimal (f .offset) ∷ bytes " " ∷ decimal (f .size) ∷ bytes " " ∷ f .described ∷ bytes "\n" ∷ [])
 
-unfoldable pub linesOf : Str → List Place → Str
+unfoldable pub linesOf : Str → List FieldLayout → Str
 linesOf t [] = []
 linesOf t (f ∷ fs) = lineOf t f ++ linesOf t fs
 

@@ -1,5 +1,5 @@
--- The name of a type in parts, as the code compares and puts it: a front, up to two colons and a back. The name itself is variant_name of layout.rs, defined
--- in Layout. Assumes nothing.
+-- The name of a type in parts, as the code compares and puts it: a front, up to two colons and a back. The name itself is variant_name of
+-- layout.rs, defined in Layout. Assumes nothing.
 use mathlib.Core.List.{[], _∷_, _++_}
 use mathlib.Core.Option.{Option, none, some}
 use mathlib.Core.Bool.{Bool, cond, _&&_}
@@ -16,8 +16,8 @@ use Rattle.layout.specs.Layout.{variantName}
 use Rattle.layout.specs.Handles.{nameAt, familyPart, placePart}
 use Rattle.layout.specs.declared.names.TypeName.{TypeName}
 
-unfoldable pub joined : Str → ℕ → Str → Str
-joined f k b = f ++ (take k (58 ∷ 58 ∷ []) ++ b)
+unfoldable pub composed : Str → ℕ → Str → Str
+composed f k b = f ++ (take k (58 ∷ 58 ∷ []) ++ b)
 
 -- the parts of a type's name: for a variant the family's name, both colons and its own; else the name and nothing
 unfoldable pub frontOf : Str → Str → ℕ → Str

@@ -1,4 +1,5 @@
--- How long the lent tables have to be, by the length of the stream: a type and a constant take four bytes of it at least, a field 33. Assumes nothing.
+-- How long the lent tables have to be, by the length of the stream: a type and a constant take four bytes of it at least, a field 33.
+-- Assumes nothing.
 use mathlib.Core.List.{List}
 use Prim.Native.Nat.{ℕ, _/_, _≤_, _<_}
 use lib.ListN.{length}

@@ -1,5 +1,5 @@
--- The sorted table of a record's types: one handle a type, in byte order of the names. The code's way to the layouts of Layout, and 01's "walk to the next
--- name in byte order". Assumes nothing.
+-- The sorted table of a record's types: one handle a type, in byte order of the names. The code's way to the layouts of Layout, and 01's "walk to
+-- the next name in byte order". Assumes nothing.
 use mathlib.Core.Path.{_≡_}
 use mathlib.Core.List.{List, map, List·Memᴰ}
 use mathlib.Core.Option.{Option, none, some}

@@ -7,6 +7,7 @@ use record::cut::from;
 ghost use Prim.Native.Nat.{_/_, _≤_};
 ghost use mathlib.Core.Path.{_≡_};
 ghost use lib.ListN.{length, take, drop};
+ghost use Rattle.record.specs.Base.{Str};
 ghost use Rattle.record.specs.Commands.{constantAt};
 ghost use Rattle.layout.specs.Room.{Room};
 ghost use Rattle.layout.specs.Constants.{ConstantsTable};
@@ -14,7 +15,9 @@ ghost use Rattle.layout.specs.Constants.{ConstantsTable};
 // The table, where the record is within its limit and the lent tables are long enough.
 fn fill_constants(stream: &[u8], pool: &[u8], table: &mut [u32], scratch: &mut [u32]) -> usize
     requires { ⌜ (length (now stream) ≤ 32768) × Room (now stream) (now table) × Room (now stream) (now scratch) ⌝ }
-    ensures { λ r. ⌜ ConstantsTable (now (stream .entry)) (now (pool .entry)) (take r (now (table .exit))) × (r ≤ length (now (stream .entry)) / 4) ⌝ }
+    ensures { λ r.
+        let s : Str = now (stream .entry) in
+        ⌜ ConstantsTable s (now (pool .entry)) (take r (now (table .exit))) × (r ≤ length s / 4) ⌝ }
 {
     let n = fill_places(stream, 2, table);
     arrange_few(stream, pool, &mut table[..n], &mut scratch[..n])
@@ -22,7 +25,10 @@ fn fill_constants(stream: &[u8], pool: &[u8], table: &mut [u32], scratch: &mut [
 
 // The table of a record's constants at the front of `table`; and how many they are.
 pub fn constant_table(stream: &[u8], pool: &[u8], table: &mut [u32], scratch: &mut [u32]) -> usize
-    ensures { λ r. ⌜ (length (now (stream .entry)) ≤ 32768 → Room (now (stream .entry)) (now (table .entry)) → Room (now (stream .entry)) (now (scratch .entry)) → ConstantsTable (now (stream .entry)) (now (pool .entry)) (take r (now (table .exit)))) × (r ≤ length (now (table .entry))) ⌝ }
+    ensures { λ r.
+        let s : Str = now (stream .entry) in
+        ⌜ (length s ≤ 32768 → Room s (now (table .entry)) → Room s (now (scratch .entry))
+        → ConstantsTable s (now (pool .entry)) (take r (now (table .exit)))) × (r ≤ length (now (table .entry))) ⌝ }
 {
     if 32768 < stream.len() {
         return 0;

@@ -9,7 +9,7 @@ ghost use mathlib.Core.Path.{_≡_};
 ghost use lib.ListN.{getD, set};
 ghost use Rattle.record.specs.Scalars.{scalarsOf};
 ghost use Rattle.record.specs.Index.{Findable};
-ghost use Rattle.record.specs.Reading.{rec};
+ghost use Rattle.record.specs.Reading.{Rec, rec};
 ghost use Rattle.layout.specs.Room.{SizesRoom};
 ghost use Rattle.layout.specs.FieldSizes.{SizesTable};
 
@@ -37,7 +37,10 @@ pub fn size_before(sizes: &[u64], after: usize) -> u64
 
 // The sizes of all fields.
 pub fn fill_sizes(rows: &[u8], stream: &[u8], pool: &[u8], index: &[u16], sizes: &mut [u64])
-    ensures { λ r. ⌜ (Findable (now (stream .entry)) (now (pool .entry)) (now (index .entry)) → SizesRoom (now (stream .entry)) (now (sizes .entry)) → SizesTable (rec (now (stream .entry)) (now (pool .entry)) (scalarsOf (now (rows .entry)))) (now (sizes .exit))) ⌝ }
+    requires { ⌜ Findable (now stream) (now pool) (now index) × SizesRoom (now stream) (now sizes) ⌝ }
+    ensures { λ r.
+        let cur : Rec = rec (now (stream .entry)) (now (pool .entry)) (scalarsOf (now (rows .entry))) in
+        ⌜ SizesTable cur (now (sizes .exit)) ⌝ }
 {
     let mut at = 0;
     loop {

@@ -4,8 +4,9 @@ use crate::names::name_at;
 use crate::names::place_part;
 use crate::names::type_before;
 use record::words::front_of;
+ghost use Prim.Native.Nat.{ℕ};
 ghost use mathlib.Core.Path.{_≡_};
-ghost use Rattle.record.specs.Base.{before};
+ghost use Rattle.record.specs.Base.{Str, before};
 ghost use Rattle.record.specs.Marks.{Clear};
 ghost use Rattle.layout.specs.Handles.{typeName};
 ghost use Rattle.layout.specs.Fronts.{FrontPut, FrontRead, Fronts};
@@ -65,7 +66,9 @@ pub(crate) fn fill_fronts(stream: &[u8], pool: &[u8], handles: &[u32], fronts: &
 // Whether one type's name goes before another's, by the table where it tells.
 pub(crate) fn fronted_before(stream: &[u8], pool: &[u8], fronts: &[u64], g: u32, h: u32) -> bool
     requires { ⌜ Fronts (now stream) (now pool) (now fronts) ⌝ }
-    ensures { λ r. ⌜ r ≡ before (typeName (now (stream .entry)) (now (pool .entry)) g) (typeName (now (stream .entry)) (now (pool .entry)) h) ⌝ }
+    ensures { λ r.
+        let key : ℕ → Str = typeName (now (stream .entry)) (now (pool .entry)) in
+        ⌜ r ≡ before (key g) (key h) ⌝ }
 {
     if family_part(g) != family_part(h) {
         return type_before(stream, pool, g, h);

@@ -5,9 +5,11 @@ use record::seek::Sought;
 use record::seek::after_at;
 use record::seek::passes;
 use record::seek::seek;
-ghost use Prim.Native.Nat.{_+_, _/_, _≤_};
+ghost use Prim.Native.Nat.{ℕ, _+_, _/_, _≤_};
+ghost use mathlib.Core.List.{List};
 ghost use mathlib.Core.Path.{_≡_};
 ghost use lib.ListN.{length};
+ghost use Rattle.record.specs.Base.{Str};
 ghost use Rattle.record.specs.Fill.{fronted};
 ghost use Rattle.record.specs.Seek.{placesOf};
 ghost use Rattle.record.specs.declared.seek.Between.the-variants.{Anything};
@@ -25,7 +27,9 @@ fn narrow(at: usize) -> u32
 // The places of the commands of one number at the front of the table, the rest as it was; and how many they are.
 pub(crate) fn fill_places(stream: &[u8], number: u8, out: &mut [u32]) -> usize
     requires { ⌜ (length (now stream) ≤ 32768) × Room (now stream) (now out) ⌝ }
-    ensures { λ r. ⌜ (r ≡ length (placesOf (now (stream .entry)) Anything number 0)) × (now (out .exit) ≡ fronted (now (out .entry)) (placesOf (now (stream .entry)) Anything number 0)) × (r ≤ length (now (stream .entry)) / 4) ⌝ }
+    ensures { λ r.
+        let places : List ℕ = placesOf (now (stream .entry)) Anything number 0 in
+        ⌜ (r ≡ length places) × (now (out .exit) ≡ fronted (now (out .entry)) places) × (r ≤ length (now (stream .entry)) / 4) ⌝ }
 {
     let mut at = 0;
     let mut n = 0;
@@ -48,7 +52,12 @@ struct Structs {
 // The structures' handles at the front of the table, and where the families begin; there is room for the families' after them.
 fn fill_structs(stream: &[u8], out: &mut [u32]) -> Structs
     requires { ⌜ (length (now stream) ≤ 32768) × Room (now stream) (now out) ⌝ }
-    ensures { λ r. ⌜ (r .n ≡ length (placesOf (now (stream .entry)) Anything 8 0)) × (now (out .exit) ≡ fronted (now (out .entry)) (placesOf (now (stream .entry)) Anything 8 0)) × (r .n + length (familiesFrom (now (stream .entry)) 0 (r .family)) ≤ length (now (stream .entry)) / 4) × (familiesFrom (now (stream .entry)) 0 0 ≡ familiesFrom (now (stream .entry)) 0 (r .family)) ⌝ }
+    ensures { λ r.
+        let s : Str = now (stream .entry) in
+        let structs : List ℕ = placesOf s Anything 8 0 in
+        let families : List ℕ = familiesFrom s 0 (r .family) in
+        ⌜ (r .n ≡ length structs) × (now (out .exit) ≡ fronted (now (out .entry)) structs)
+        × (r .n + length families ≤ length s / 4) × (familiesFrom s 0 0 ≡ families) ⌝ }
 {
     let mut at = 0;
     let mut family = stream.len();
@@ -76,10 +85,13 @@ fn fill_structs(stream: &[u8], out: &mut [u32]) -> Structs
     }
 }
 
-// The families' handles from a place on, each followed by its variants'; `family` is one more than the place of the family whose variants may follow.
+// The families' handles from a place on, each followed by its variants'; `family` is one more than the place of the family whose variants may
+// follow.
 fn fill_families(stream: &[u8], from: usize, out: &mut [u32]) -> usize
     requires { ⌜ (length (now stream) ≤ 32768) × (length (familiesFrom (now stream) 0 from) ≤ length (now out)) ⌝ }
-    ensures { λ r. ⌜ (r ≡ length (familiesFrom (now (stream .entry)) 0 from)) × (now (out .exit) ≡ fronted (now (out .entry)) (familiesFrom (now (stream .entry)) 0 from)) ⌝ }
+    ensures { λ r.
+        let families : List ℕ = familiesFrom (now (stream .entry)) 0 from in
+        ⌜ (r ≡ length families) × (now (out .exit) ≡ fronted (now (out .entry)) families) ⌝ }
 {
     let mut at = from;
     let mut family: u32 = 0;
@@ -116,7 +128,9 @@ fn fill_families(stream: &[u8], from: usize, out: &mut [u32]) -> usize
 // The handles of a record's types at the front of the table, the rest as it was; and how many they are.
 pub(crate) fn fill_handles(stream: &[u8], out: &mut [u32]) -> usize
     requires { ⌜ (length (now stream) ≤ 32768) × Room (now stream) (now out) ⌝ }
-    ensures { λ r. ⌜ (r ≡ length (handlesOf (now (stream .entry)))) × (now (out .exit) ≡ fronted (now (out .entry)) (handlesOf (now (stream .entry)))) × (r ≤ length (now (stream .entry)) / 4) ⌝ }
+    ensures { λ r.
+        let handles : List ℕ = handlesOf (now (stream .entry)) in
+        ⌜ (r ≡ length handles) × (now (out .exit) ≡ fronted (now (out .entry)) handles) × (r ≤ length (now (stream .entry)) / 4) ⌝ }
 {
     let structs = fill_structs(stream, out);
     let n = structs.n;

@@ -24,13 +24,15 @@ use record::writer::put_text;
 ghost use Prim.Native.Nat.{_+_, _*_, _≤_};
 ghost use mathlib.Core.List.{_++_};
 ghost use lib.ListN.{length};
-ghost use Rattle.record.specs.Base.{bytes, decimal};
+ghost use Rattle.record.specs.Base.{Str, bytes, decimal};
 ghost use Rattle.record.specs.Stretch.{textOf};
 ghost use Rattle.record.specs.Commands.{place};
 ghost use Rattle.record.specs.Scalars.{scalarsOf};
-ghost use Rattle.record.specs.Reading.{rec, schemaOf};
+ghost use Rattle.record.specs.Reading.{Rec, rec, schemaOf};
 ghost use Rattle.record.specs.Read.{Exact};
 ghost use Rattle.record.specs.Write.{Puts};
+ghost use Rattle.layout.specs.declared.spots.SpotCursor.{SpotCursor};
+ghost use Rattle.layout.specs.Layout.{TypeLayout};
 ghost use Rattle.layout.specs.Listing.{lineOf, linesOf, listOf};
 ghost use Rattle.layout.specs.Handles.{layoutOf};
 ghost use Rattle.layout.specs.Names.{nameOf};
@@ -42,7 +44,10 @@ ghost use Rattle.layout.specs.Tables.{Tables};
 
 // Puts the names of a type and of its field, each with what follows it.
 fn put_names(out: &mut [u8], at: usize, pool: &[u8], owner: TypeName, name: Text) -> usize
-    ensures { λ r. ⌜ Puts (now (out .entry)) at (nameOf (now (pool .entry)) owner ++ (bytes "." ++ (textOf (now (pool .entry)) name ++ bytes " "))) (now (out .exit)) r × (r ≤ at + 769) ⌝ }
+    ensures { λ r.
+        let p : Str = now (pool .entry) in
+        let text : Str = nameOf p owner ++ (bytes "." ++ (textOf p name ++ bytes " ")) in
+        ⌜ Puts (now (out .entry)) at text (now (out .exit)) r × (r ≤ at + 769) ⌝ }
 {
     let a = put_name(out, at, pool, owner);
     let b = put(out, a, b".");
@@ -52,7 +57,9 @@ fn put_names(out: &mut [u8], at: usize, pool: &[u8], owner: TypeName, name: Text
 
 // Puts an offset and a size, each with a space after it.
 fn put_extent(out: &mut [u8], at: usize, offset: u64, size: u64) -> usize
-    ensures { λ r. ⌜ Puts (now (out .entry)) at (decimal offset ++ (bytes " " ++ (decimal size ++ bytes " "))) (now (out .exit)) r × (r ≤ at + 44) ⌝ }
+    ensures { λ r.
+        let text : Str = decimal offset ++ (bytes " " ++ (decimal size ++ bytes " ")) in
+        ⌜ Puts (now (out .entry)) at text (now (out .exit)) r × (r ≤ at + 44) ⌝ }
 {
     let a = put_number(out, at, offset);
     let b = put(out, a, b" ");
@@ -62,7 +69,10 @@ fn put_extent(out: &mut [u8], at: usize, offset: u64, size: u64) -> usize
 
 // Puts the line of one field.
 fn put_line(out: &mut [u8], at: usize, pool: &[u8], owner: TypeName, x: Spot) -> usize
-    ensures { λ r. ⌜ Puts (now (out .entry)) at (lineOf (nameOf (now (pool .entry)) owner) (spotOf (now (pool .entry)) x)) (now (out .exit)) r × (r ≤ at + 2048) ⌝ }
+    ensures { λ r.
+        let p : Str = now (pool .entry) in
+        let line : Str = lineOf (nameOf p owner) (spotOf p x) in
+        ⌜ Puts (now (out .entry)) at line (now (out .exit)) r × (r ≤ at + 2048) ⌝ }
 {
     let name = x.name;
     let described = x.described;
@@ -82,7 +92,10 @@ fn put_field(
     offset: u64,
     size: u64,
 ) -> usize
-    ensures { λ r. ⌜ Puts (now (out .entry)) at (lineOf (nameOf (now (pool .entry)) owner) (placeAt (now (pool .entry)) (now (s .entry)) offset size)) (now (out .exit)) r × (r ≤ at + 2048) ⌝ }
+    ensures { λ r.
+        let p : Str = now (pool .entry) in
+        let line : Str = lineOf (nameOf p owner) (placeAt p (now (s .entry)) offset size) in
+        ⌜ Puts (now (out .entry)) at line (now (out .exit)) r × (r ≤ at + 2048) ⌝ }
 {
     let name = text_at(s, 1);
     let a = put_names(out, at, pool, owner, name);
@@ -102,7 +115,10 @@ fn put_fields(
     from: usize,
     start: u64,
 ) -> usize
-    ensures { λ r. ⌜ LinesFrom (now (stream .entry)) (now (pool .entry)) (now (sizes .entry)) (nameOf (now (pool .entry)) owner) (cursorAt (Ahead.Body (place from)) start) (now (out .entry)) at (now (out .exit)) r ⌝ }
+    ensures { λ r.
+        let p : Str = now (pool .entry) in
+        let ahead : SpotCursor = cursorAt (Ahead.Body (place from)) start in
+        ⌜ LinesFrom (now (stream .entry)) p (now (sizes .entry)) (nameOf p owner) ahead (now (out .entry)) at (now (out .exit)) r ⌝ }
 {
     let mut end = at;
     let mut next = from;
@@ -118,7 +134,7 @@ fn put_fields(
     }
 }
 
-// The same; where the buffer is at its end the lines are only measured.
+// Puts the lines of a record's fields from a place on, or only measures them, where the buffer is at its end.
 fn put_body(
     out: &mut [u8],
     at: usize,
@@ -129,7 +145,10 @@ fn put_body(
     from: usize,
     start: u64,
 ) -> usize
-    ensures { λ r. ⌜ LinesFrom (now (stream .entry)) (now (pool .entry)) (now (sizes .entry)) (nameOf (now (pool .entry)) owner) (cursorAt (Ahead.Body (place from)) start) (now (out .entry)) at (now (out .exit)) r ⌝ }
+    ensures { λ r.
+        let p : Str = now (pool .entry) in
+        let ahead : SpotCursor = cursorAt (Ahead.Body (place from)) start in
+        ⌜ LinesFrom (now (stream .entry)) p (now (sizes .entry)) (nameOf p owner) ahead (now (out .entry)) at (now (out .exit)) r ⌝ }
 {
     if out.len() <= at {
         return measure_fields(at, stream, pool, sizes, owner, from, start);
@@ -147,8 +166,12 @@ fn put_type(
     sizes: &[u64],
     handle: u32,
 ) -> usize
-    requires { ⌜ Typed (now stream) handle × SizesTable (rec (now stream) (now pool) (scalarsOf (now rows))) (now sizes) × Exact (rec (now stream) (now pool) (scalarsOf (now rows))) ⌝ }
-    ensures { λ r. ⌜ Puts (now (out .entry)) at (linesOf (layoutOf (rec (now (stream .entry)) (now (pool .entry)) (scalarsOf (now (rows .entry)))) handle .name) (layoutOf (rec (now (stream .entry)) (now (pool .entry)) (scalarsOf (now (rows .entry)))) handle .fields)) (now (out .exit)) r × (r ≤ at + linesMost (now (stream .entry))) ⌝ }
+    requires { let cur : Rec = rec (now stream) (now pool) (scalarsOf (now rows)) in
+        ⌜ Typed (cur .stream) handle × SizesTable cur (now sizes) × Exact cur ⌝ }
+    ensures { λ r.
+        let cur : Rec = rec (now (stream .entry)) (now (pool .entry)) (scalarsOf (now (rows .entry))) in
+        let laid : TypeLayout = layoutOf cur handle in
+        ⌜ Puts (now (out .entry)) at (linesOf (laid .name) (laid .fields)) (now (out .exit)) r × (r ≤ at + linesMost (cur .stream)) ⌝ }
 {
     let owner = type_name(stream, handle);
     let mut cursor = first_spot(stream, handle);
@@ -175,8 +198,12 @@ pub(crate) fn put_types(
     types: &[u32],
     sizes: &[u64],
 ) -> usize
-    requires { ⌜ Tables (rec (now stream) (now pool) (scalarsOf (now rows))) (now types) (now sizes) ⌝ }
-    ensures { λ r. ⌜ Puts (now (out .entry)) 0 (listOf (schemaOf (rec (now (stream .entry)) (now (pool .entry)) (scalarsOf (now (rows .entry)))))) (now (out .exit)) r × (r ≤ length (now (types .entry)) * linesMost (now (stream .entry))) × (r ≤ 1099511627776) ⌝ }
+    requires { let cur : Rec = rec (now stream) (now pool) (scalarsOf (now rows)) in
+        ⌜ Tables cur (now types) (now sizes) ⌝ }
+    ensures { λ r.
+        let cur : Rec = rec (now (stream .entry)) (now (pool .entry)) (scalarsOf (now (rows .entry))) in
+        ⌜ Puts (now (out .entry)) 0 (listOf (schemaOf cur)) (now (out .exit)) r
+        × (r ≤ length (now (types .entry)) * linesMost (cur .stream)) × (r ≤ 1099511627776) ⌝ }
 {
     let mut end: usize = 0;
     let mut i = 0;

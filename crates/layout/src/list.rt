@@ -13,7 +13,7 @@ ghost use Prim.Native.Nat.{_≤_};
 ghost use lib.ListN.{length};
 ghost use Rattle.record.specs.Scalars.{scalarsOf, builtIn};
 ghost use Rattle.record.specs.Index.{IndexRoom};
-ghost use Rattle.record.specs.Reading.{rec, schemaOf};
+ghost use Rattle.record.specs.Reading.{Rec, rec, schemaOf};
 ghost use Rattle.record.specs.Read.{Exact};
 ghost use Rattle.layout.specs.Room.{Room, SizesRoom};
 ghost use Rattle.layout.specs.Listing.{listOf};
@@ -29,8 +29,11 @@ fn list_measured(
     sizes: &[u64],
     out: &mut [u8],
 ) -> Answer
-    requires { ⌜ Tables (rec (now stream) (now pool) (scalarsOf (now rows))) (now types) (now sizes) ⌝ }
-    ensures { λ r. ⌜ Answered (now (out .entry)) (now (out .exit)) (textOr (length (now (out .entry))) 0 (listOf (schemaOf (rec (now (stream .entry)) (now (pool .entry)) (scalarsOf (now (rows .entry))))))) r ⌝ }
+    requires { let cur : Rec = rec (now stream) (now pool) (scalarsOf (now rows)) in
+        ⌜ Tables cur (now types) (now sizes) ⌝ }
+    ensures { λ r.
+        let cur : Rec = rec (now (stream .entry)) (now (pool .entry)) (scalarsOf (now (rows .entry))) in
+        ⌜ Answered (now (out .entry)) (now (out .exit)) (textOr (length (now (out .entry))) 0 (listOf (schemaOf cur))) r ⌝ }
 {
     let len = put_types(&mut out[..0], rows, stream, pool, types, sizes);
     if out.len() < len {
@@ -50,7 +53,7 @@ fn list_measured(
     }
 }
 
-// The same. A buffer that has room for the longest lines of so many types needs no measure.
+// The list of a record by its tables. A buffer that has room for the longest lines of so many types needs no measure.
 fn list_tables(
     rows: &[u8],
     stream: &[u8],
@@ -59,8 +62,11 @@ fn list_tables(
     sizes: &[u64],
     out: &mut [u8],
 ) -> Answer
-    requires { ⌜ Tables (rec (now stream) (now pool) (scalarsOf (now rows))) (now types) (now sizes) ⌝ }
-    ensures { λ r. ⌜ Answered (now (out .entry)) (now (out .exit)) (textOr (length (now (out .entry))) 0 (listOf (schemaOf (rec (now (stream .entry)) (now (pool .entry)) (scalarsOf (now (rows .entry))))))) r ⌝ }
+    requires { let cur : Rec = rec (now stream) (now pool) (scalarsOf (now rows)) in
+        ⌜ Tables cur (now types) (now sizes) ⌝ }
+    ensures { λ r.
+        let cur : Rec = rec (now (stream .entry)) (now (pool .entry)) (scalarsOf (now (rows .entry))) in
+        ⌜ Answered (now (out .entry)) (now (out .exit)) (textOr (length (now (out .entry))) 0 (listOf (schemaOf cur))) r ⌝ }
 {
     let most = 2048 * (stream.len() / 33 + 2);
     if types.len() * most <= out.len() {
@@ -86,18 +92,26 @@ fn list_lent(
     sizes: &mut [u64],
     out: &mut [u8],
 ) -> Answer
-    requires { ⌜ (length (now stream) ≤ 32768) × Exact (rec (now stream) (now pool) (scalarsOf (now rows))) × Room (now stream) (now types) × Room (now stream) (now scratch) × SizesRoom (now stream) (now sizes) × IndexRoom (now stream) (now index) ⌝ }
-    ensures { λ r. ⌜ Answered (now (out .entry)) (now (out .exit)) (textOr (length (now (out .entry))) 0 (listOf (schemaOf (rec (now (stream .entry)) (now (pool .entry)) (scalarsOf (now (rows .entry))))))) r ⌝ }
+    requires { let cur : Rec = rec (now stream) (now pool) (scalarsOf (now rows)) in
+        ⌜ (length (cur .stream) ≤ 32768) × Exact cur
+        × Room (cur .stream) (now types) × Room (cur .stream) (now scratch)
+        × SizesRoom (cur .stream) (now sizes) × IndexRoom (cur .stream) (now index) ⌝ }
+    ensures { λ r.
+        let cur : Rec = rec (now (stream .entry)) (now (pool .entry)) (scalarsOf (now (rows .entry))) in
+        ⌜ Answered (now (out .entry)) (now (out .exit)) (textOr (length (now (out .entry))) 0 (listOf (schemaOf cur))) r ⌝ }
 {
     fill_index(stream, pool, index);
     let n = fill_tables(rows, stream, pool, index, types, scratch, sizes);
     list_tables(rows, stream, pool, &types[..n], sizes, out)
 }
 
-// The same with tables for the longest stream that number 8 lets pass.
+// The list of a record that can be read, with tables for the longest stream that number 8 lets pass.
 fn list_long(rows: &[u8], stream: &[u8], pool: &[u8], out: &mut [u8]) -> Answer
-    requires { ⌜ (length (now stream) ≤ 32768) × Exact (rec (now stream) (now pool) (scalarsOf (now rows))) ⌝ }
-    ensures { λ r. ⌜ Answered (now (out .entry)) (now (out .exit)) (textOr (length (now (out .entry))) 0 (listOf (schemaOf (rec (now (stream .entry)) (now (pool .entry)) (scalarsOf (now (rows .entry))))))) r ⌝ }
+    requires { let cur : Rec = rec (now stream) (now pool) (scalarsOf (now rows)) in
+        ⌜ (length (cur .stream) ≤ 32768) × Exact cur ⌝ }
+    ensures { λ r.
+        let cur : Rec = rec (now (stream .entry)) (now (pool .entry)) (scalarsOf (now (rows .entry))) in
+        ⌜ Answered (now (out .entry)) (now (out .exit)) (textOr (length (now (out .entry))) 0 (listOf (schemaOf cur))) r ⌝ }
 {
     let mut index = [0u16; 4938];
     let mut types = [0u32; 8192];
@@ -115,10 +129,13 @@ fn list_long(rows: &[u8], stream: &[u8], pool: &[u8], out: &mut [u8]) -> Answer
     )
 }
 
-// The same for a short stream, since clearing the tables for a long one takes longer than its list.
+// The list of a short record, with tables of its own, since clearing those for a long one takes longer than its list.
 fn list_short(rows: &[u8], stream: &[u8], pool: &[u8], out: &mut [u8]) -> Answer
-    requires { ⌜ (length (now stream) ≤ 2048) × Exact (rec (now stream) (now pool) (scalarsOf (now rows))) ⌝ }
-    ensures { λ r. ⌜ Answered (now (out .entry)) (now (out .exit)) (textOr (length (now (out .entry))) 0 (listOf (schemaOf (rec (now (stream .entry)) (now (pool .entry)) (scalarsOf (now (rows .entry))))))) r ⌝ }
+    requires { let cur : Rec = rec (now stream) (now pool) (scalarsOf (now rows)) in
+        ⌜ (length (cur .stream) ≤ 2048) × Exact cur ⌝ }
+    ensures { λ r.
+        let cur : Rec = rec (now (stream .entry)) (now (pool .entry)) (scalarsOf (now (rows .entry))) in
+        ⌜ Answered (now (out .entry)) (now (out .exit)) (textOr (length (now (out .entry))) 0 (listOf (schemaOf cur))) r ⌝ }
 {
     let mut index = [0u16; 549];
     let mut types = [0u32; 512];
@@ -136,10 +153,14 @@ fn list_short(rows: &[u8], stream: &[u8], pool: &[u8], out: &mut [u8]) -> Answer
     )
 }
 
-// The same for the shortest streams, without an index: few names are looked up, and a look at all commands finds them sooner than an index is filled.
+// The list of the shortest records, without an index: few names are looked up, and a look at all commands finds them sooner than an index is
+// filled.
 fn list_tiny(rows: &[u8], stream: &[u8], pool: &[u8], out: &mut [u8]) -> Answer
-    requires { ⌜ (length (now stream) ≤ 512) × Exact (rec (now stream) (now pool) (scalarsOf (now rows))) ⌝ }
-    ensures { λ r. ⌜ Answered (now (out .entry)) (now (out .exit)) (textOr (length (now (out .entry))) 0 (listOf (schemaOf (rec (now (stream .entry)) (now (pool .entry)) (scalarsOf (now (rows .entry))))))) r ⌝ }
+    requires { let cur : Rec = rec (now stream) (now pool) (scalarsOf (now rows)) in
+        ⌜ (length (cur .stream) ≤ 512) × Exact cur ⌝ }
+    ensures { λ r.
+        let cur : Rec = rec (now (stream .entry)) (now (pool .entry)) (scalarsOf (now (rows .entry))) in
+        ⌜ Answered (now (out .entry)) (now (out .exit)) (textOr (length (now (out .entry))) 0 (listOf (schemaOf cur))) r ⌝ }
 {
     let mut types = [0u32; 128];
     let mut scratch = [0u32; 128];
@@ -150,8 +171,11 @@ fn list_tiny(rows: &[u8], stream: &[u8], pool: &[u8], out: &mut [u8]) -> Answer
 
 // The list of a record that can be read.
 fn list_read(rows: &[u8], stream: &[u8], pool: &[u8], out: &mut [u8]) -> Answer
-    requires { ⌜ (length (now stream) ≤ 32768) × Exact (rec (now stream) (now pool) (scalarsOf (now rows))) ⌝ }
-    ensures { λ r. ⌜ Answered (now (out .entry)) (now (out .exit)) (textOr (length (now (out .entry))) 0 (listOf (schemaOf (rec (now (stream .entry)) (now (pool .entry)) (scalarsOf (now (rows .entry))))))) r ⌝ }
+    requires { let cur : Rec = rec (now stream) (now pool) (scalarsOf (now rows)) in
+        ⌜ (length (cur .stream) ≤ 32768) × Exact cur ⌝ }
+    ensures { λ r.
+        let cur : Rec = rec (now (stream .entry)) (now (pool .entry)) (scalarsOf (now (rows .entry))) in
+        ⌜ Answered (now (out .entry)) (now (out .exit)) (textOr (length (now (out .entry))) 0 (listOf (schemaOf cur))) r ⌝ }
 {
     if stream.len() <= 512 {
         return list_tiny(rows, stream, pool, out);
@@ -164,7 +188,9 @@ fn list_read(rows: &[u8], stream: &[u8], pool: &[u8], out: &mut [u8]) -> Answer
 
 // The list of a record, read as one side.
 pub fn list_layouts(side: Side, stream: &[u8], pool: &[u8], out: &mut [u8]) -> Answer
-    ensures { λ r. ⌜ Answered (now (out .entry)) (now (out .exit)) (list (length (now (out .entry))) side (rec (now (stream .entry)) (now (pool .entry)) builtIn)) r ⌝ }
+    ensures { λ r.
+        let cur : Rec = rec (now (stream .entry)) (now (pool .entry)) builtIn in
+        ⌜ Answered (now (out .entry)) (now (out .exit)) (list (length (now (out .entry))) side cur) r ⌝ }
 {
     let rows = built_in();
     if let Outcome::Refused(refusal, place) = read_record(side, &rows, stream, pool) {

@@ -16,11 +16,13 @@ ghost use Prim.Native.Nat.{_≤_};
 ghost use mathlib.Core.Path.{_≡_};
 ghost use mathlib.Core.List.{[]};
 ghost use lib.ListN.{length};
+ghost use Rattle.record.specs.Base.{Str};
 ghost use Rattle.record.specs.Commands.{place};
 ghost use Rattle.layout.specs.Listing.{lineOf};
 ghost use Rattle.layout.specs.Lines.{LinesFrom};
 ghost use Rattle.layout.specs.Names.{nameOf};
 ghost use Rattle.layout.specs.Spots.{placeAt, cursorAt};
+ghost use Rattle.layout.specs.declared.spots.SpotCursor.{SpotCursor};
 ghost use Rattle.layout.specs.declared.spots.Ahead.the-variants.{Body};
 
 // The length of a field's line without the name of its type, from the bytes that begin with the field's command.
@@ -42,7 +44,10 @@ pub(crate) fn measure_fields(
     from: usize,
     start: u64,
 ) -> usize
-    ensures { λ r. ⌜ LinesFrom (now (stream .entry)) (now (pool .entry)) (now (sizes .entry)) (nameOf (now (pool .entry)) owner) (cursorAt (Body (place from)) start) [] at [] r ⌝ }
+    ensures { λ r.
+        let p : Str = now (pool .entry) in
+        let ahead : SpotCursor = cursorAt (Body (place from)) start in
+        ⌜ LinesFrom (now (stream .entry)) p (now (sizes .entry)) (nameOf p owner) ahead [] at [] r ⌝ }
 {
     let n = name_len(pool, owner);
     let mut end = at;

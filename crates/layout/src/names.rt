@@ -10,13 +10,13 @@ use record::words::skip;
 use record::words::text_before;
 use record::writer::put_text;
 use record::writer::put_worded;
-ghost use Prim.Native.Nat.{_+_, _≤_};
+ghost use Prim.Native.Nat.{ℕ, _+_, _≤_};
 ghost use mathlib.Core.Path.{_≡_};
 ghost use lib.ListN.{length, getD};
-ghost use Rattle.record.specs.Base.{before};
+ghost use Rattle.record.specs.Base.{Str, before};
 ghost use Rattle.record.specs.Write.{Puts};
 ghost use Rattle.layout.specs.Handles.{nameAt, familyPart, placePart, typeName};
-ghost use Rattle.layout.specs.Names.{joined, frontOf, colonsOf, backOf, hasParts, Parts, nameOf, nameTextAt, stretchesOf};
+ghost use Rattle.layout.specs.Names.{composed, frontOf, colonsOf, backOf, hasParts, Parts, nameOf, nameTextAt, stretchesOf};
 
 // The place of a type's command.
 pub fn place_part(handle: u32) -> usize
@@ -101,9 +101,9 @@ pub fn back<'a>(stream: &[u8], pool: &'a [u8], handle: u32) -> &'a [u8]
 }
 
 // A byte of a name in parts; past its end 0.
-fn joined_byte(f: &[u8], k: usize, b: &[u8], i: usize) -> u8
+fn composed_byte(f: &[u8], k: usize, b: &[u8], i: usize) -> u8
     requires { ⌜ k ≤ 2 ⌝ }
-    ensures { λ r. ⌜ r ≡ getD (joined (now (f .entry)) k (now (b .entry))) i 0 ⌝ }
+    ensures { λ r. ⌜ r ≡ getD (composed (now (f .entry)) k (now (b .entry))) i 0 ⌝ }
 {
     if i < f.len() {
         return f[i];
@@ -115,27 +115,27 @@ fn joined_byte(f: &[u8], k: usize, b: &[u8], i: usize) -> u8
     byte_at(b, j - k)
 }
 
-fn joined_len(f: &[u8], k: usize, b: &[u8]) -> usize
+fn composed_len(f: &[u8], k: usize, b: &[u8]) -> usize
     requires { ⌜ Parts (now f) k (now b) ⌝ }
-    ensures { λ r. ⌜ r ≡ length (joined (now (f .entry)) k (now (b .entry))) ⌝ }
+    ensures { λ r. ⌜ r ≡ length (composed (now (f .entry)) k (now (b .entry))) ⌝ }
 {
     f.len() + k + b.len()
 }
 
 // Whether one name in parts goes before another: the first byte in which they differ decides.
-fn joined_before(f: &[u8], k: usize, b: &[u8], g: &[u8], l: usize, d: &[u8]) -> bool
+fn composed_before(f: &[u8], k: usize, b: &[u8], g: &[u8], l: usize, d: &[u8]) -> bool
     requires { ⌜ Parts (now f) k (now b) × Parts (now g) l (now d) ⌝ }
-    ensures { λ r. ⌜ r ≡ before (joined (now (f .entry)) k (now (b .entry))) (joined (now (g .entry)) l (now (d .entry))) ⌝ }
+    ensures { λ r. ⌜ r ≡ before (composed (now (f .entry)) k (now (b .entry))) (composed (now (g .entry)) l (now (d .entry))) ⌝ }
 {
-    let n = joined_len(f, k, b);
-    let m = joined_len(g, l, d);
+    let n = composed_len(f, k, b);
+    let m = composed_len(g, l, d);
     let mut i = skip(f, g);
     while i < n {
         if m <= i {
             return false;
         }
-        let x = joined_byte(f, k, b, i);
-        let y = joined_byte(g, l, d, i);
+        let x = composed_byte(f, k, b, i);
+        let y = composed_byte(g, l, d, i);
         if x < y {
             return true;
         }
@@ -150,10 +150,10 @@ fn joined_before(f: &[u8], k: usize, b: &[u8], g: &[u8], l: usize, d: &[u8]) -> 
     false
 }
 
-// The same, by words where the fronts are of one length: if they differ they decide, else what follows.
+// Whether one name in parts goes before another, by words where the fronts are of one length: if they differ they decide, else what follows.
 fn parts_before(f: &[u8], k: usize, b: &[u8], g: &[u8], l: usize, d: &[u8]) -> bool
     requires { ⌜ Parts (now f) k (now b) × Parts (now g) l (now d) ⌝ }
-    ensures { λ r. ⌜ r ≡ before (joined (now (f .entry)) k (now (b .entry))) (joined (now (g .entry)) l (now (d .entry))) ⌝ }
+    ensures { λ r. ⌜ r ≡ before (composed (now (f .entry)) k (now (b .entry))) (composed (now (g .entry)) l (now (d .entry))) ⌝ }
 {
     if f.len() == g.len() {
         if same(f, g) {
@@ -164,7 +164,7 @@ fn parts_before(f: &[u8], k: usize, b: &[u8], g: &[u8], l: usize, d: &[u8]) -> b
             return text_before(f, g);
         }
     }
-    joined_before(f, k, b, g, l, d)
+    composed_before(f, k, b, g, l, d)
 }
 
 // Whether a type's name goes before a name in parts.
@@ -177,7 +177,7 @@ pub(crate) fn type_under(
     d: &[u8],
 ) -> bool
     requires { ⌜ Parts (now g) l (now d) ⌝ }
-    ensures { λ r. ⌜ r ≡ before (typeName (now (stream .entry)) (now (pool .entry)) handle) (joined (now (g .entry)) l (now (d .entry))) ⌝ }
+    ensures { λ r. ⌜ r ≡ before (typeName (now (stream .entry)) (now (pool .entry)) handle) (composed (now (g .entry)) l (now (d .entry))) ⌝ }
 {
     let f = front(stream, pool, handle);
     let b = back(stream, pool, handle);
@@ -194,7 +194,7 @@ pub(crate) fn type_over(
     d: &[u8],
 ) -> bool
     requires { ⌜ Parts (now g) l (now d) ⌝ }
-    ensures { λ r. ⌜ r ≡ before (joined (now (g .entry)) l (now (d .entry))) (typeName (now (stream .entry)) (now (pool .entry)) handle) ⌝ }
+    ensures { λ r. ⌜ r ≡ before (composed (now (g .entry)) l (now (d .entry))) (typeName (now (stream .entry)) (now (pool .entry)) handle) ⌝ }
 {
     let f = front(stream, pool, handle);
     let b = back(stream, pool, handle);
@@ -223,7 +223,9 @@ pub(crate) fn type_has(
 
 // Whether one type's name goes before another's; in one family, and of two that are no variants, the own names decide.
 pub fn type_before(stream: &[u8], pool: &[u8], g: u32, h: u32) -> bool
-    ensures { λ r. ⌜ r ≡ before (typeName (now (stream .entry)) (now (pool .entry)) g) (typeName (now (stream .entry)) (now (pool .entry)) h) ⌝ }
+    ensures { λ r.
+        let key : ℕ → Str = typeName (now (stream .entry)) (now (pool .entry)) in
+        ⌜ r ≡ before (key g) (key h) ⌝ }
 {
     if family_part(g) == family_part(h) {
         let a = name_at(stream, pool, place_part(g));

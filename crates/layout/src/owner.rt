@@ -9,7 +9,7 @@ use record::scalars::built_in;
 use record::text::Text;
 ghost use mathlib.Core.Path.{_≡_};
 ghost use Rattle.record.specs.Scalars.{builtIn};
-ghost use Rattle.record.specs.Reading.{rec};
+ghost use Rattle.record.specs.Reading.{Rec, rec};
 ghost use Rattle.layout.specs.OwnerCall.{ownerFields, OwnerAsked};
 
 // The owner's name, as the stretch that the root's own command gives; or none; or the record's refusal with its place.
@@ -19,7 +19,7 @@ pub enum OwnerAnswer {
     Unreadable(Refusal, usize),
 }
 
-// The same as numbers; what has no meaning is 0.
+// The owner's answer as numbers; what has no meaning is 0.
 #[repr(C)]
 pub struct OwnerFields {
     pub number: u32,
@@ -61,7 +61,9 @@ impl OwnerAnswer {
 
 // The owner of a name, which is not shortened at "::".
 pub fn ask_owner(stream: &[u8], pool: &[u8], name: &[u8]) -> OwnerAnswer
-    ensures { λ r. ⌜ OwnerAsked (rec (now (stream .entry)) (now (pool .entry)) builtIn) (now (name .entry)) r ⌝ }
+    ensures { λ r.
+        let cur : Rec = rec (now (stream .entry)) (now (pool .entry)) builtIn in
+        ⌜ OwnerAsked cur (now (name .entry)) r ⌝ }
 {
     let rows = built_in();
     if let Outcome::Refused(refusal, place) = read_record(Side::Current, &rows, stream, pool) {

@@ -1,9 +1,10 @@
 // Handles in the byte order of their types' names: a stable merge sort, and of two of one name the later.
 use crate::fronts::fronted_before;
 use crate::names::type_before;
-ghost use Prim.Native.Nat.{_+_, _≤_, _<_};
+ghost use Prim.Native.Nat.{ℕ, _+_, _≤_, _<_};
 ghost use mathlib.Core.Path.{_≡_};
 ghost use lib.ListN.{length, take, drop};
+ghost use Rattle.record.specs.Base.{Str};
 ghost use Rattle.layout.specs.Handles.{typeName};
 ghost use Rattle.layout.specs.Fronts.{Fronts};
 ghost use Rattle.layout.specs.Sort.{arranged, secondNext, merge, chunks, halves, Bounded, endsRun, lasts, ascends};
@@ -19,7 +20,9 @@ fn second_next(
     j: usize,
 ) -> bool
     requires { ⌜ Fronts (now stream) (now pool) (now fronts) ⌝ }
-    ensures { λ r. ⌜ r ≡ secondNext (typeName (now (stream .entry)) (now (pool .entry))) (drop i (now (left .entry))) (drop j (now (right .entry))) ⌝ }
+    ensures { λ r.
+        let key : ℕ → Str = typeName (now (stream .entry)) (now (pool .entry)) in
+        ⌜ r ≡ secondNext key (drop i (now (left .entry))) (drop j (now (right .entry))) ⌝ }
 {
     if left.len() <= i {
         return true;
@@ -40,7 +43,9 @@ fn merge_runs(
     out: &mut [u32],
 )
     requires { ⌜ (length (now out) ≡ length (now left) + length (now right)) × Fronts (now stream) (now pool) (now fronts) ⌝ }
-    ensures { λ r. ⌜ now (out .exit) ≡ merge (typeName (now (stream .entry)) (now (pool .entry))) (now (left .entry)) (now (right .entry)) ⌝ }
+    ensures { λ r.
+        let key : ℕ → Str = typeName (now (stream .entry)) (now (pool .entry)) in
+        ⌜ now (out .exit) ≡ merge key (now (left .entry)) (now (right .entry)) ⌝ }
 {
     let mut i = 0;
     let mut j = 0;
@@ -69,7 +74,9 @@ fn bound(a: usize, w: usize, n: usize) -> usize
 // Each two stretches of w handles merged.
 fn pass(stream: &[u8], pool: &[u8], fronts: &[u64], src: &[u32], dst: &mut [u32], w: usize)
     requires { ⌜ (0 < w) × (length (now dst) ≡ length (now src)) × Fronts (now stream) (now pool) (now fronts) ⌝ }
-    ensures { λ r. ⌜ now (dst .exit) ≡ chunks (halves (typeName (now (stream .entry)) (now (pool .entry))) w) (w + w) (now (src .entry)) ⌝ }
+    ensures { λ r.
+        let key : ℕ → Str = typeName (now (stream .entry)) (now (pool .entry)) in
+        ⌜ now (dst .exit) ≡ chunks (halves key w) (w + w) (now (src .entry)) ⌝ }
 {
     let n = src.len();
     let mut lo = 0;
@@ -97,7 +104,9 @@ pub(crate) fn sort_handles(
     scratch: &mut [u32],
 )
     requires { ⌜ (length (now scratch) ≡ length (now handles)) × (length (now handles) ≤ 65536) × Fronts (now stream) (now pool) (now fronts) ⌝ }
-    ensures { λ r. ⌜ now (handles .exit) ≡ arranged (typeName (now (stream .entry)) (now (pool .entry))) (now (handles .entry)) ⌝ }
+    ensures { λ r.
+        let key : ℕ → Str = typeName (now (stream .entry)) (now (pool .entry)) in
+        ⌜ now (handles .exit) ≡ arranged key (now (handles .entry)) ⌝ }
 {
     let mut w = 1;
     while w < handles.len() {
@@ -111,7 +120,9 @@ pub(crate) fn sort_handles(
 // Whether a handle is the last of its name.
 fn ends_run(stream: &[u8], pool: &[u8], fronts: &[u64], handles: &[u32], i: usize) -> bool
     requires { ⌜ (i < length (now handles)) × Fronts (now stream) (now pool) (now fronts) ⌝ }
-    ensures { λ r. ⌜ r ≡ endsRun (typeName (now (stream .entry)) (now (pool .entry))) (drop i (now (handles .entry))) ⌝ }
+    ensures { λ r.
+        let key : ℕ → Str = typeName (now (stream .entry)) (now (pool .entry)) in
+        ⌜ r ≡ endsRun key (drop i (now (handles .entry))) ⌝ }
 {
     let j = i + 1;
     if handles.len() <= j {
@@ -123,7 +134,9 @@ fn ends_run(stream: &[u8], pool: &[u8], fronts: &[u64], handles: &[u32], i: usiz
 // The last handle of each name, moved to the front; and how many they are.
 pub(crate) fn keep_last(stream: &[u8], pool: &[u8], fronts: &[u64], handles: &mut [u32]) -> usize
     requires { ⌜ Fronts (now stream) (now pool) (now fronts) ⌝ }
-    ensures { λ r. ⌜ (take r (now (handles .exit)) ≡ lasts (typeName (now (stream .entry)) (now (pool .entry))) (now (handles .entry))) × (r ≤ length (now (handles .entry))) ⌝ }
+    ensures { λ r.
+        let key : ℕ → Str = typeName (now (stream .entry)) (now (pool .entry)) in
+        ⌜ (take r (now (handles .exit)) ≡ lasts key (now (handles .entry))) × (r ≤ length (now (handles .entry))) ⌝ }
 {
     let mut i = 0;
     let mut n = 0;
@@ -141,7 +154,9 @@ pub(crate) fn keep_last(stream: &[u8], pool: &[u8], fronts: &[u64], handles: &mu
 
 // Whether each handle's name goes before the next one's.
 pub(crate) fn ascending(stream: &[u8], pool: &[u8], handles: &[u32]) -> bool
-    ensures { λ r. ⌜ r ≡ ascends (typeName (now (stream .entry)) (now (pool .entry))) (now (handles .entry)) ⌝ }
+    ensures { λ r.
+        let key : ℕ → Str = typeName (now (stream .entry)) (now (pool .entry)) in
+        ⌜ r ≡ ascends key (now (handles .entry)) ⌝ }
 {
     let mut i = 0;
     while i + 1 < handles.len() {

@@ -28,7 +28,8 @@ ghost use Prim.Native.Nat.{ℕ};
 ghost use Rattle.record.specs.Base.{Str};
 ghost use Rattle.record.specs.Scalars.{Scalar, scalarsOf};
 ghost use Rattle.record.specs.Commands.{place};
-ghost use Rattle.record.specs.Reading.{rec};
+ghost use Rattle.record.specs.Reading.{Rec, rec};
+ghost use Rattle.layout.specs.declared.spots.SpotCursor.{SpotCursor};
 ghost use Rattle.layout.specs.Spots.{cursorAt, SpotsFrom, TypeSpots, OthersPassed};
 
 // A field of a type: where it is and how it reads.
@@ -90,7 +91,9 @@ pub fn first_spot(stream: &[u8], handle: u32) -> SpotCursor
 
 // The next field of a type.
 pub fn next_spot(rows: &[u8], stream: &[u8], pool: &[u8], sizes: &[u64], c: SpotCursor) -> SpotStep
-    ensures { λ r. ⌜ SpotsFrom (rec (now (stream .entry)) (now (pool .entry)) (scalarsOf (now (rows .entry)))) (now (sizes .entry)) c r ⌝ }
+    ensures { λ r.
+        let cur : Rec = rec (now (stream .entry)) (now (pool .entry)) (scalarsOf (now (rows .entry))) in
+        ⌜ SpotsFrom cur (now (sizes .entry)) c r ⌝ }
 {
     let ahead = c.ahead;
     let offset = c.offset;
@@ -103,7 +106,9 @@ pub fn next_spot(rows: &[u8], stream: &[u8], pool: &[u8], sizes: &[u64], c: Spot
 
 // A family's discriminant, an enum.
 fn discriminant_spot(stream: &[u8], pool: &[u8], f: Family, k: Cursor, offset: u64) -> SpotStep
-    ensures { λ r. ⌜ ((w : List Scalar) (t : List ℕ) → SpotsFrom (rec (now (stream .entry)) (now (pool .entry)) w) t (cursorAt (Ahead.Front f k) offset) r) ⌝ }
+    ensures { λ r.
+        let ahead : SpotCursor = cursorAt (Ahead.Front f k) offset in
+        ⌜ ((w : List Scalar) (t : List ℕ) → SpotsFrom (rec (now (stream .entry)) (now (pool .entry)) w) t ahead r) ⌝ }
 {
     let name = f.discriminant_field;
     let named = f.discriminant_type;
@@ -125,7 +130,9 @@ fn discriminant_spot(stream: &[u8], pool: &[u8], f: Family, k: Cursor, offset: u
 
 // A family's length field, a scalar.
 fn length_spot(rows: &[u8], pool: &[u8], f: Family, k: Cursor, offset: u64) -> SpotStep
-    ensures { λ r. ⌜ ((s : Str) (t : List ℕ) → SpotsFrom (rec s (now (pool .entry)) (scalarsOf (now (rows .entry)))) t (cursorAt (Ahead.Middle f k) offset) r) ⌝ }
+    ensures { λ r.
+        let ahead : SpotCursor = cursorAt (Ahead.Middle f k) offset in
+        ⌜ ((s : Str) (t : List ℕ) → SpotsFrom (rec s (now (pool .entry)) (scalarsOf (now (rows .entry)))) t ahead r) ⌝ }
 {
     let name = f.param_len_field;
     let word = f.param_len_type;
@@ -147,7 +154,9 @@ fn length_spot(rows: &[u8], pool: &[u8], f: Family, k: Cursor, offset: u64) -> S
 
 // The next field of the record, its size from the table.
 fn field_spot(stream: &[u8], pool: &[u8], sizes: &[u64], k: Cursor, offset: u64) -> SpotStep
-    ensures { λ r. ⌜ ((w : List Scalar) → SpotsFrom (rec (now (stream .entry)) (now (pool .entry)) w) (now (sizes .entry)) (cursorAt (Ahead.Body k) offset) r) ⌝ }
+    ensures { λ r.
+        let ahead : SpotCursor = cursorAt (Ahead.Body k) offset in
+        ⌜ ((w : List Scalar) → SpotsFrom (rec (now (stream .entry)) (now (pool .entry)) w) (now (sizes .entry)) ahead r) ⌝ }
 {
     let Sought::At(place, after) = seek(stream, k.at, 11, Between::Keys) else {
         return SpotStep::NoSpot;
@@ -188,7 +197,8 @@ pub fn pass_others(
     pass_fields(stream, pool, sizes, k.at, c.offset, name)
 }
 
-// The same from a place on, by the names alone: what a field has beside its name is not read.
+// The fields from a place on without those at their front that have another name, by the names alone: what a field has beside its name is not
+// read.
 fn pass_fields(
     stream: &[u8],
     pool: &[u8],
@@ -197,7 +207,9 @@ fn pass_fields(
     start: u64,
     name: &[u8],
 ) -> SpotCursor
-    ensures { λ r. ⌜ OthersPassed (now (stream .entry)) (now (pool .entry)) (now (sizes .entry)) (now (name .entry)) (cursorAt (Ahead.Body (place from)) start) r ⌝ }
+    ensures { λ r.
+        let ahead : SpotCursor = cursorAt (Ahead.Body (place from)) start in
+        ⌜ OthersPassed (now (stream .entry)) (now (pool .entry)) (now (sizes .entry)) (now (name .entry)) ahead r ⌝ }
 {
     let mut at = from;
     let mut offset = start;

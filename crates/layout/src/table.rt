@@ -13,14 +13,15 @@ use crate::sort::keep_last;
 use crate::sort::sort_handles;
 use record::operands::OptText;
 use record::text::bytes_of;
-ghost use Prim.Native.Nat.{_/_, _≤_, _<_};
+ghost use Prim.Native.Nat.{ℕ, _/_, _≤_, _<_};
 ghost use mathlib.Core.Path.{_≡_};
 ghost use lib.ListN.{length, take};
+ghost use Rattle.record.specs.Base.{Str};
 ghost use Rattle.record.specs.Marks.{Clear};
 ghost use Rattle.layout.specs.Room.{Room};
 ghost use Rattle.layout.specs.Handles.{typeName};
 ghost use Rattle.layout.specs.Fronts.{Fronts};
-ghost use Rattle.layout.specs.Names.{joined, Parts, nameOf};
+ghost use Rattle.layout.specs.Names.{composed, Parts, nameOf};
 ghost use Rattle.layout.specs.Sort.{arranged, lasts};
 ghost use Rattle.layout.specs.Table.{TypesTable, FoundType};
 
@@ -33,13 +34,15 @@ fn arrange_by(
     scratch: &mut [u32],
 ) -> usize
     requires { ⌜ (length (now scratch) ≡ length (now handles)) × (length (now handles) ≤ 65536) × Fronts (now stream) (now pool) (now fronts) ⌝ }
-    ensures { λ r. ⌜ (take r (now (handles .exit)) ≡ lasts (typeName (now (stream .entry)) (now (pool .entry))) (arranged (typeName (now (stream .entry)) (now (pool .entry))) (now (handles .entry)))) × (r ≤ length (now (handles .entry))) ⌝ }
+    ensures { λ r.
+        let key : ℕ → Str = typeName (now (stream .entry)) (now (pool .entry)) in
+        ⌜ (take r (now (handles .exit)) ≡ lasts key (arranged key (now (handles .entry)))) × (r ≤ length (now (handles .entry))) ⌝ }
 {
     sort_handles(stream, pool, fronts, handles, scratch);
     keep_last(stream, pool, fronts, handles)
 }
 
-// The same, by the fronts of their names in a lent table.
+// Arranges handles by the fronts of their names in a lent table.
 fn arrange_lent(
     stream: &[u8],
     pool: &[u8],
@@ -48,31 +51,37 @@ fn arrange_lent(
     scratch: &mut [u32],
 ) -> usize
     requires { ⌜ (length (now scratch) ≡ length (now handles)) × (length (now handles) ≤ 65536) × Clear (now fronts) ⌝ }
-    ensures { λ r. ⌜ (take r (now (handles .exit)) ≡ lasts (typeName (now (stream .entry)) (now (pool .entry))) (arranged (typeName (now (stream .entry)) (now (pool .entry))) (now (handles .entry)))) × (r ≤ length (now (handles .entry))) ⌝ }
+    ensures { λ r.
+        let key : ℕ → Str = typeName (now (stream .entry)) (now (pool .entry)) in
+        ⌜ (take r (now (handles .exit)) ≡ lasts key (arranged key (now (handles .entry)))) × (r ≤ length (now (handles .entry))) ⌝ }
 {
     fill_fronts(stream, pool, handles, fronts);
     arrange_by(stream, pool, fronts, handles, scratch)
 }
 
-// The same without fronts: a table of one entry has hardly one.
+// Arranges a few handles without fronts: a table of one entry has hardly one.
 fn arrange(stream: &[u8], pool: &[u8], handles: &mut [u32], scratch: &mut [u32]) -> usize
     requires { ⌜ (length (now scratch) ≡ length (now handles)) × (length (now handles) ≤ 65536) ⌝ }
-    ensures { λ r. ⌜ (take r (now (handles .exit)) ≡ lasts (typeName (now (stream .entry)) (now (pool .entry))) (arranged (typeName (now (stream .entry)) (now (pool .entry))) (now (handles .entry)))) × (r ≤ length (now (handles .entry))) ⌝ }
+    ensures { λ r.
+        let key : ℕ → Str = typeName (now (stream .entry)) (now (pool .entry)) in
+        ⌜ (take r (now (handles .exit)) ≡ lasts key (arranged key (now (handles .entry)))) × (r ≤ length (now (handles .entry))) ⌝ }
 {
     let mut fronts = [0u64; 1];
     arrange_lent(stream, pool, &mut fronts, handles, scratch)
 }
 
-// The same, with a table that stands in this call.
+// Arranges many handles, with a table of fronts that stands in this call.
 fn arrange_many(stream: &[u8], pool: &[u8], handles: &mut [u32], scratch: &mut [u32]) -> usize
     requires { ⌜ (length (now scratch) ≡ length (now handles)) × (length (now handles) ≤ 65536) ⌝ }
-    ensures { λ r. ⌜ (take r (now (handles .exit)) ≡ lasts (typeName (now (stream .entry)) (now (pool .entry))) (arranged (typeName (now (stream .entry)) (now (pool .entry))) (now (handles .entry)))) × (r ≤ length (now (handles .entry))) ⌝ }
+    ensures { λ r.
+        let key : ℕ → Str = typeName (now (stream .entry)) (now (pool .entry)) in
+        ⌜ (take r (now (handles .exit)) ≡ lasts key (arranged key (now (handles .entry)))) × (r ≤ length (now (handles .entry))) ⌝ }
 {
     let mut fronts = [0u64; 8192];
     arrange_lent(stream, pool, &mut fronts, handles, scratch)
 }
 
-// The same for types and constants, which often go up already.
+// Arranges the handles of types or constants, which often go up already.
 pub(crate) fn arrange_few(
     stream: &[u8],
     pool: &[u8],
@@ -80,7 +89,9 @@ pub(crate) fn arrange_few(
     scratch: &mut [u32],
 ) -> usize
     requires { ⌜ (length (now scratch) ≡ length (now handles)) × (length (now handles) ≤ 65536) ⌝ }
-    ensures { λ r. ⌜ (take r (now (handles .exit)) ≡ lasts (typeName (now (stream .entry)) (now (pool .entry))) (arranged (typeName (now (stream .entry)) (now (pool .entry))) (now (handles .entry)))) × (r ≤ length (now (handles .entry))) ⌝ }
+    ensures { λ r.
+        let key : ℕ → Str = typeName (now (stream .entry)) (now (pool .entry)) in
+        ⌜ (take r (now (handles .exit)) ≡ lasts key (arranged key (now (handles .entry)))) × (r ≤ length (now (handles .entry))) ⌝ }
 {
     if ascending(stream, pool, handles) {
         return handles.len();
@@ -88,10 +99,12 @@ pub(crate) fn arrange_few(
     arrange(stream, pool, handles, scratch)
 }
 
-// The same where there may be thousands of them; for a few a table of fronts costs more than it saves.
+// Arranges types, of which there may be thousands; for a few a table of fronts costs more than it saves.
 fn arrange_types(stream: &[u8], pool: &[u8], types: &mut [u32], scratch: &mut [u32]) -> usize
     requires { ⌜ (length (now scratch) ≡ length (now types)) × (length (now types) ≤ 65536) ⌝ }
-    ensures { λ r. ⌜ (take r (now (types .exit)) ≡ lasts (typeName (now (stream .entry)) (now (pool .entry))) (arranged (typeName (now (stream .entry)) (now (pool .entry))) (now (types .entry)))) × (r ≤ length (now (types .entry))) ⌝ }
+    ensures { λ r.
+        let key : ℕ → Str = typeName (now (stream .entry)) (now (pool .entry)) in
+        ⌜ (take r (now (types .exit)) ≡ lasts key (arranged key (now (types .entry)))) × (r ≤ length (now (types .entry))) ⌝ }
 {
     if types.len() < 64 {
         return arrange_few(stream, pool, types, scratch);
@@ -116,7 +129,7 @@ pub(crate) fn type_table(
     arrange_types(stream, pool, &mut types[..n], &mut scratch[..n])
 }
 
-// The same for a short record, without room for the fronts of names.
+// The table of a short record's types, without room for the fronts of names.
 pub(crate) fn few_types(stream: &[u8], pool: &[u8], types: &mut [u32], scratch: &mut [u32]) -> usize
     requires { ⌜ (length (now stream) ≤ 32768) × Room (now stream) (now types) × Room (now stream) (now scratch) ⌝ }
     ensures { λ r. ⌜ TypesTable (now (stream .entry)) (now (pool .entry)) (take r (now (types .exit))) × (r ≤ length (now (stream .entry)) / 4) ⌝ }
@@ -162,7 +175,7 @@ fn find_parts(
     near: usize,
 ) -> TypeFound
     requires { ⌜ Parts (now f) k (now b) ⌝ }
-    ensures { λ r. ⌜ FoundType (now (stream .entry)) (now (pool .entry)) (now (types .entry)) (joined (now (f .entry)) k (now (b .entry))) r ⌝ }
+    ensures { λ r. ⌜ FoundType (now (stream .entry)) (now (pool .entry)) (now (types .entry)) (composed (now (f .entry)) k (now (b .entry))) r ⌝ }
 {
     let mut lo = 0;
     let mut hi = types.len();
@@ -205,7 +218,9 @@ pub fn find_same(
     handle: u32,
     near: usize,
 ) -> TypeFound
-    ensures { λ r. ⌜ FoundType (now (stream .entry)) (now (pool .entry)) (now (types .entry)) (typeName (now (past .entry)) (now (old .entry)) handle) r ⌝ }
+    ensures { λ r.
+        let name : Str = typeName (now (past .entry)) (now (old .entry)) handle in
+        ⌜ FoundType (now (stream .entry)) (now (pool .entry)) (now (types .entry)) name r ⌝ }
 {
     let f = front(past, old, handle);
     let b = back(past, old, handle);

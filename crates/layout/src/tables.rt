@@ -2,49 +2,16 @@
 use crate::field_sizes::fill_sizes;
 use crate::table::few_types;
 use crate::table::type_table;
-ghost use Prim.Native.Nat.{_/_, _≤_};
+ghost use Prim.Native.Nat.{_≤_};
 ghost use lib.ListN.{length, take};
 ghost use Rattle.record.specs.Scalars.{scalarsOf};
-ghost use Rattle.record.specs.Index.{Indexed, Findable};
-ghost use Rattle.record.specs.Reading.{rec};
+ghost use Rattle.record.specs.Index.{Indexed};
+ghost use Rattle.record.specs.Reading.{Rec, rec};
 ghost use Rattle.record.specs.Read.{Exact};
 ghost use Rattle.layout.specs.Room.{Room, SizesRoom};
 ghost use Rattle.layout.specs.Tables.{Tables};
 
-// Fills the tables, where the record is within its limit and they are long enough.
-fn fill_both(
-    rows: &[u8],
-    stream: &[u8],
-    pool: &[u8],
-    index: &[u16],
-    types: &mut [u32],
-    scratch: &mut [u32],
-    sizes: &mut [u64],
-) -> usize
-    requires { ⌜ (length (now stream) ≤ 32768) × Room (now stream) (now types) × Room (now stream) (now scratch) × SizesRoom (now stream) (now sizes) ⌝ }
-    ensures { λ r. ⌜ (Findable (now (stream .entry)) (now (pool .entry)) (now (index .entry)) → Exact (rec (now (stream .entry)) (now (pool .entry)) (scalarsOf (now (rows .entry)))) → Tables (rec (now (stream .entry)) (now (pool .entry)) (scalarsOf (now (rows .entry)))) (take r (now (types .exit))) (now (sizes .exit))) × (r ≤ length (now (stream .entry)) / 4) ⌝ }
-{
-    fill_sizes(rows, stream, pool, index, sizes);
-    type_table(stream, pool, types, scratch)
-}
-
-// The same for a short record, without an index and without room for the fronts of names.
-pub(crate) fn fill_few(
-    rows: &[u8],
-    stream: &[u8],
-    pool: &[u8],
-    types: &mut [u32],
-    scratch: &mut [u32],
-    sizes: &mut [u64],
-) -> usize
-    requires { ⌜ (length (now stream) ≤ 32768) × Room (now stream) (now types) × Room (now stream) (now scratch) × SizesRoom (now stream) (now sizes) ⌝ }
-    ensures { λ r. ⌜ (Exact (rec (now (stream .entry)) (now (pool .entry)) (scalarsOf (now (rows .entry)))) → Tables (rec (now (stream .entry)) (now (pool .entry)) (scalarsOf (now (rows .entry)))) (take r (now (types .exit))) (now (sizes .exit))) × (r ≤ length (now (stream .entry)) / 4) ⌝ }
-{
-    fill_sizes(rows, stream, pool, &[], sizes);
-    few_types(stream, pool, types, scratch)
-}
-
-// Fills the tables; answers how many types there are.
+// Fills the tables of a record that has its index; answers how many types there are.
 pub fn fill_tables(
     rows: &[u8],
     stream: &[u8],
@@ -54,19 +21,33 @@ pub fn fill_tables(
     scratch: &mut [u32],
     sizes: &mut [u64],
 ) -> usize
-    ensures { λ r. ⌜ (Indexed (now (stream .entry)) (now (pool .entry)) (now (index .entry)) → length (now (stream .entry)) ≤ 32768 → Room (now (stream .entry)) (now (types .entry)) → Room (now (stream .entry)) (now (scratch .entry)) → SizesRoom (now (stream .entry)) (now (sizes .entry)) → Exact (rec (now (stream .entry)) (now (pool .entry)) (scalarsOf (now (rows .entry)))) → Tables (rec (now (stream .entry)) (now (pool .entry)) (scalarsOf (now (rows .entry)))) (take r (now (types .exit))) (now (sizes .exit))) × (r ≤ length (now (types .entry))) ⌝ }
+    requires { let cur : Rec = rec (now stream) (now pool) (scalarsOf (now rows)) in
+        ⌜ (length (cur .stream) ≤ 32768) × Exact cur × Indexed (cur .stream) (cur .pool) (now index)
+        × Room (cur .stream) (now types) × Room (cur .stream) (now scratch) × SizesRoom (cur .stream) (now sizes) ⌝ }
+    ensures { λ r.
+        let cur : Rec = rec (now (stream .entry)) (now (pool .entry)) (scalarsOf (now (rows .entry))) in
+        ⌜ Tables cur (take r (now (types .exit))) (now (sizes .exit)) × (r ≤ length (now (types .exit))) ⌝ }
 {
-    if 32768 < stream.len() {
-        return 0;
-    }
-    if types.len() < stream.len() / 4 {
-        return 0;
-    }
-    if scratch.len() < stream.len() / 4 {
-        return 0;
-    }
-    if sizes.len() <= stream.len() / 33 {
-        return 0;
-    }
-    fill_both(rows, stream, pool, index, types, scratch, sizes)
+    fill_sizes(rows, stream, pool, index, sizes);
+    type_table(stream, pool, types, scratch)
+}
+
+// Fills the tables of a short record, without an index and without room for the fronts of names; answers how many types there are.
+pub(crate) fn fill_few(
+    rows: &[u8],
+    stream: &[u8],
+    pool: &[u8],
+    types: &mut [u32],
+    scratch: &mut [u32],
+    sizes: &mut [u64],
+) -> usize
+    requires { let cur : Rec = rec (now stream) (now pool) (scalarsOf (now rows)) in
+        ⌜ (length (cur .stream) ≤ 32768) × Exact cur
+        × Room (cur .stream) (now types) × Room (cur .stream) (now scratch) × SizesRoom (cur .stream) (now sizes) ⌝ }
+    ensures { λ r.
+        let cur : Rec = rec (now (stream .entry)) (now (pool .entry)) (scalarsOf (now (rows .entry))) in
+        ⌜ Tables cur (take r (now (types .exit))) (now (sizes .exit)) × (r ≤ length (now (types .exit))) ⌝ }
+{
+    fill_sizes(rows, stream, pool, &[], sizes);
+    few_types(stream, pool, types, scratch)
 }

@@ -12,7 +12,7 @@ use Rattle.record.specs.Stretch.{textOf}
 use Rattle.record.specs.Operands.{optText}
 use Rattle.record.specs.Scalars.{builtIn, scalarIn, primSize}
 use Rattle.record.specs.Steps.{enumIn, aliasIn, bitfieldIn}
-use Rattle.record.specs.Kind.{kindOf, words, meaning}
+use Rattle.record.specs.Kind.{kindOf, words, kindAmong}
 use Rattle.record.specs.Shapes.{enumSize, aliasSize, bitfieldSize, sized, sizeAs, scalarSize, shapeSize}
 use Rattle.record.specs.declared.text.Text.{Text}
 use Rattle.record.specs.declared.kind.Kind.{Kind}
@@ -174,7 +174,7 @@ times w n a b = mul-le-mul {n₁ = w} {m₁ = n + 1} {n₂ = 4} {m₂ = 8} a (om
 
 module _ (g : Setting) where
   pub command-small : (k : Kind) (l a : ℕ) (nm : Text) (n t : ℕ) → n < 8 → t < 8 → shapeSize (released (planOf g)) (fieldMeant (Draws.fieldAs k l a nm n t)) ≤ 256
-  unfolding Draws.fieldAs shapeSize sizeAs scalarSize kindOf meaning words eqs fieldMeant textOf W.pool W.structNames W.fieldNames W.kindTexts W.wordTexts bytes released schemaWith planOf meantNumber orElse scalarSized
+  unfolding Draws.fieldAs shapeSize sizeAs scalarSize kindOf kindAmong words eqs fieldMeant textOf W.pool W.structNames W.fieldNames W.kindTexts W.wordTexts bytes released schemaWith planOf meantNumber orElse scalarSized
   command-small K.Scalar l a nm n t b c = up (scalarSized (t % 4)) (scalar-small (t % 4) (mod-lt t (lit< tt)))
   command-small K.Enum l a nm n t b c = up (sized (meantText (Draws.enumText (t % 2))) (enumSize enumList) 1) (enum-small (t % 2))
   command-small K.TypeAlias l a nm n t b c = up (sized (meantText (Draws.aliasText (t % 2))) (aliasSize builtIn aliasList) 2) (alias-small (t % 2))

@@ -15,8 +15,8 @@ use Rattle.record.specs.Operands.{optText}
 use Rattle.record.specs.Schema.{Field, Struct, Family}
 use Rattle.record.specs.Steps.{familyIn}
 use Rattle.record.specs.Scalars.{builtIn, scalarIn, primSize}
-use Rattle.record.specs.Kind.{kindOf, isPadding, words, meaning}
-use Rattle.record.specs.Shapes.{Place, sizeAs, scalarSize, shapeSize, placeOf, places, plain, prefix}
+use Rattle.record.specs.Kind.{kindOf, isPadding, words, kindAmong}
+use Rattle.record.specs.Shapes.{FieldLayout, sizeAs, scalarSize, shapeSize, placeOf, places, plain, famPrefix}
 use Rattle.record.specs.declared.text.Text.{Text}
 use Rattle.record.specs.declared.kind.Kind.{Kind}
 use Rattle.record.specs.declared.kind.Kind.the-variants as K
@@ -157,7 +157,7 @@ module _ (g : Setting) where
 
   -- the size of a scalar field
   pub scalar-size : (nm t : Text) → shapeSize (released (planOf g)) (fieldMeant (Draws.plainField nm W.k·scalar t W.absent)) ≡ primSize builtIn (orElse (meantText t) (bytes "u8"))
-  unfolding shapeSize sizeAs scalarSize kindOf meaning words eqs fieldMeant textOf W.pool W.structNames W.fieldNames W.kindTexts W.wordTexts bytes released schemaWith
+  unfolding shapeSize sizeAs scalarSize kindOf kindAmong words eqs fieldMeant textOf W.pool W.structNames W.fieldNames W.kindTexts W.wordTexts bytes released schemaWith
   scalar-size nm t = refl
 
 -- sizes of words -------------------------------------------------------------------------------------------------------------------------------------------
@@ -179,7 +179,7 @@ keyless-field f = refl
 
 module _ (g : Setting) where
   real-scalar : isPadding (kindOf (fieldMeant (Draws.targetField g) .kind)) ≡ false
-  unfolding kindOf meaning words eqs fieldMeant textOf W.pool W.structNames W.fieldNames W.kindTexts W.wordTexts bytes Draws.targetField
+  unfolding kindOf kindAmong words eqs fieldMeant textOf W.pool W.structNames W.fieldNames W.kindTexts W.wordTexts bytes Draws.targetField
   real-scalar = refl
 
   same-name : fieldMeant (Draws.retypedField g) .name ≡ fieldMeant (Draws.targetField g) .name
@@ -200,7 +200,7 @@ onceB-is (x ∷ xs) h =
     (λ m. any-none (λ (y : Str). eqs y x) xs (not-true (any (λ (y : Str). eqs y x) xs) (k .0)) m (eqs-refl x), onceB-is xs (k .1))
 
 apartB : Str → TypeLayout → Bool
-apartB n t = not (eqs (t .name) n) && onceB (map (λ (f : Place). f .name) (t .fields))
+apartB n t = not (eqs (t .name) n) && onceB (map (λ (f : FieldLayout). f .name) (t .fields))
 
 module _ (g : Setting) (r : InRange g) where
   root-low : g .root < 8
@@ -210,17 +210,17 @@ module _ (g : Setting) (r : InRange g) where
   starts = struct-starts (g .lengths) (r .lengths) (g .root) root-low
 
   families-test : (x : Str) → allOf (apartB (115 ∷ x)) (layFamilies (released (planOf g)) familyList) ≡ true
-  unfolding allOf apartB onceB any familyList layFamilies layFamily layVariant variantName prefix plain places placeOf eqs bytes
+  unfolding allOf apartB onceB any familyList layFamilies layFamily layVariant variantName famPrefix plain places placeOf eqs bytes
   families-test x = refl
 
   apart : (t : TypeLayout) → List·Memᴰ t (layFamilies (released (planOf g)) familyList) → Apart (structSpelt (g .lengths) (g .root)) t
   unfolding apartB
   apart t m =
       let a = all-of (apartB (115 ∷ structRest (g .lengths) (g .root))) (layFamilies (released (planOf g)) familyList) (families-test (structRest (g .lengths) (g .root))) m in
-      let k = both (not (eqs (t .name) (115 ∷ structRest (g .lengths) (g .root)))) (onceB (map (λ (f : Place). f .name) (t .fields))) a in
+      let k = both (not (eqs (t .name) (115 ∷ structRest (g .lengths) (g .root)))) (onceB (map (λ (f : FieldLayout). f .name) (t .fields))) a in
       record {
         named = ap (eqs (t .name)) starts ∙ not-true (eqs (t .name) (115 ∷ structRest (g .lengths) (g .root))) (k .0);
-        once = onceB-is (map (λ (f : Place). f .name) (t .fields)) (k .1);
+        once = onceB-is (map (λ (f : FieldLayout). f .name) (t .fields)) (k .1);
       }
 
   apart-test : (x : Str) → allOf (λ (m : Family). allOf (λ (k : Str). not (eqs (115 ∷ x) k)) (layoutsOf m)) familyList ≡ true

@@ -8,7 +8,7 @@ use Prim.Native.Nat.{ℕ, _+_}
 use Rattle.record.specs.Base.{Str, eqs}
 use Rattle.record.specs.Schema.{Schema, Const, Field, Struct, Family, Variant, Version}
 use Rattle.record.specs.Kind.{kindOf}
-use Rattle.record.specs.Shapes.{Place, sizeAs, scalarSize, shapeSize, placeOf, places, prefix}
+use Rattle.record.specs.Shapes.{FieldLayout, sizeAs, scalarSize, shapeSize, placeOf, places, famPrefix}
 use Rattle.record.specs.declared.kind.Kind.{Kind}
 use Rattle.record.specs.declared.kind.Kind.the-variants as K
 use Rattle.layout.specs.Sorted.{sorted}
@@ -51,26 +51,26 @@ module _ (p : Plan) (r : Str) (cs : List Const) (fs : List Field) (vs : List Ver
   places-same : (at : ℕ) (l : List Field) → places (schemaWith p r cs fs vs) at l ≡ places (released p) at l
   unfolding places placeOf
   places-same at [] = refl
-  places-same at (f ∷ l) = rw (size-same f) (ap (λ (x : List Place). placeOf (released p) at f ∷ x) (places-same (at + shapeSize (released p) f) l))
+  places-same at (f ∷ l) = rw (size-same f) (ap (λ (x : List FieldLayout). placeOf (released p) at f ∷ x) (places-same (at + shapeSize (released p) f) l))
 
   struct-same : (l : List Struct) → map (layStruct (schemaWith p r cs fs vs)) l ≡ map (layStruct (released p)) l
   unfolding layStruct
   struct-same [] = refl
-  struct-same (t ∷ l) = ap₂ _∷_ (ap (λ (x : List Place). record { name = t .name; fields = x }) (places-same 0 (t .fields))) (struct-same l)
+  struct-same (t ∷ l) = ap₂ _∷_ (ap (λ (x : List FieldLayout). record { name = t .name; fields = x }) (places-same 0 (t .fields))) (struct-same l)
 
   variants-same : (m : Family) (l : List Variant) → map (layVariant (schemaWith p r cs fs vs) m) l ≡ map (layVariant (released p) m) l
   unfolding layVariant
   variants-same m [] = refl
-  variants-same m (v ∷ l) = ap₂ _∷_ (ap (λ (x : List Place). layVariant·with m v x) (places-same 0 (v .fields))) (variants-same m l)
+  variants-same m (v ∷ l) = ap₂ _∷_ (ap (λ (x : List FieldLayout). layVariant·with m v x) (places-same 0 (v .fields))) (variants-same m l)
     where
-      layVariant·with : Family → Variant → List Place → TypeLayout
+      layVariant·with : Family → Variant → List FieldLayout → TypeLayout
       layVariant·with m v x = record { name = layVariant (released p) m v .name; fields = x }
 
   families-same : (l : List Family) → layFamilies (schemaWith p r cs fs vs) l ≡ layFamilies (released p) l
   unfolding layFamilies layFamily
   families-same [] = refl
   families-same (m ∷ l) =
-      ap₂ _∷_ (ap (λ (x : List Place). record { name = m .name; fields = x }) (places-same 0 (prefix m ++ m .common)))
+      ap₂ _∷_ (ap (λ (x : List FieldLayout). record { name = m .name; fields = x }) (places-same 0 (famPrefix m ++ m .common)))
       (ap₂ _++_ (variants-same m (m .variants)) (families-same l))
 
 -- all layouts of a record: those before the root's, the root's, and those after it -----------------------------------------------------------
@@ -106,7 +106,7 @@ eqs-swap s t h = go (eqs t s) refl
     go true e = absurd (false≢true (sym h ∙ ap (λ (x : Str). eqs x t) (sym (eqs→eq t s e)) ∙ eqs-refl t))
     go false e = refl
 
-pub place-names : (s : Schema) (at : ℕ) (fs : List Field) → map (λ (f : Place). f .name) (places s at fs) ≡ fieldNames fs
+pub place-names : (s : Schema) (at : ℕ) (fs : List Field) → map (λ (f : FieldLayout). f .name) (places s at fs) ≡ fieldNames fs
 unfolding places placeOf
 place-names s at [] = refl
 place-names s at (f ∷ fs) = ap (λ (x : List Str). f .name ∷ x) (place-names s (at + shapeSize s f) fs)

@@ -12,7 +12,7 @@ use borrow.Author.Tests.{not-true}
 use Rattle.record.specs.Base.{Str, first, find, any}
 use Rattle.record.specs.Scalars.{builtIn}
 use Rattle.record.specs.Schema.{Schema, Field}
-use Rattle.record.specs.Shapes.{places, prefix}
+use Rattle.record.specs.Shapes.{places, famPrefix}
 use Rattle.record.specs.Commands.{headAt, constantAt, aliasAt, enumAt, valueAt, bitfieldAt, memberAt, structAt, familyAt, variantAt, fieldAt, keyAt, versionAt}
 use Rattle.record.specs.Lists.{headOf, constantOf, aliasOf, enumOf, valueOf, bitfieldOf, memberOf, structOf, familyOf, variantOf, fieldOf, keyOf, versionOf, listed, anything, nothing, aKey, aField, heads, constants, aliases, values, enums, members, bitfields, keys, fields, structs, variants, families, unstored, versions}
 use Rattle.record.specs.Reading.{rec, releaseOf, unreleasedOf, schemaFrom, Opened, openedAt, opened, large, vast}
@@ -145,10 +145,10 @@ module _ (s p : Str) where
     where
       go : (a b : Bool) → a ≡ eqb (getD (c ++ streamOf cs) 0 0) 9 → b ≡ (eqb (getD (c ++ streamOf cs) 0 0) 8 || eqb (getD (c ++ streamOf cs) 0 0) 10)
           → fieldsOf (opened s p (placesFrom (length pre + length c) cs)) ≡ openedIn p cs → fields s p (placesFrom (length pre + length c) cs) ≡ fieldsIn p cs
-          → fieldsOf (cond a (record { place = length pre; fields = prefix (familyOf p (familyAt (drop (length pre) s)) [] []) ++ fields s p (placesFrom (length pre + length c) cs) } ∷ opened s p (placesFrom (length pre + length c) cs))
+          → fieldsOf (cond a (record { place = length pre; fields = famPrefix (familyOf p (familyAt (drop (length pre) s)) [] []) ++ fields s p (placesFrom (length pre + length c) cs) } ∷ opened s p (placesFrom (length pre + length c) cs))
           (cond b (record { place = length pre; fields = fields s p (placesFrom (length pre + length c) cs) } ∷ opened s p (placesFrom (length pre + length c) cs)) (opened s p (placesFrom (length pre + length c) cs))))
           ≡ openedIn p (c ∷ cs)
-      go true b q q2 r k = rw (← q) (λ i. (prefix (familyOf p (familyAt (at-seam s pre c cs e i)) [] []) ++ k i) ∷ r i)
+      go true b q q2 r k = rw (← q) (λ i. (famPrefix (familyOf p (familyAt (at-seam s pre c cs e i)) [] []) ++ k i) ∷ r i)
       go false true q q2 r k = rw (← q, ← q2) (λ i. k i ∷ r i)
       go false false q q2 r k = rw (← q, ← q2) r
 

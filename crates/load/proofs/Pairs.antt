@@ -13,9 +13,9 @@ use Rattle.record.specs.Le.{u16At, u32At}
 use Rattle.record.specs.Operands.{textAt, optText, optTextAt, flagAt, optNumberAt}
 use Rattle.record.specs.Scalars.{builtIn, scalarIn, primSize}
 use Rattle.record.specs.Steps.{enumIn, aliasIn}
-use Rattle.record.specs.Kind.{kindOf, words, meaning}
+use Rattle.record.specs.Kind.{kindOf, words, kindAmong}
 use Rattle.record.specs.Schema.{Schema, Const, Field, Struct, Version}
-use Rattle.record.specs.Shapes.{enumSize, aliasSize, sized, sizeAs, scalarSize, shapeSize, placeOf, places, plain, prefix}
+use Rattle.record.specs.Shapes.{enumSize, aliasSize, sized, sizeAs, scalarSize, shapeSize, placeOf, places, plain, famPrefix}
 use Rattle.record.specs.Reading.{Rec, rec, large, read, reading}
 use Rattle.record.specs.declared.text.Text.{Text}
 use Rattle.record.specs.declared.refusal.Side.{Side}
@@ -155,7 +155,7 @@ module _ (g : Setting) (r : Str) (cs : List Const) (fs : List Field) (vs : List 
     -- the families' types, computed
     slim-end : slim T (openedIn W.pool end) ≡ true
     unfolding slim openedIn integerBytes vendorBytes sharedCommands versionBytes fieldsIn keysIn listedIn first any large places placeOf shapeSize sizeAs scalarSize sized enumSize enumIn aliasSize aliasIn
-        mapOption orElse find kindOf meaning words eqs prefix plain primSize scalarIn builtIn schemaWith planOf enumList aliasList optTextAt optText optNumberAt textAt flagAt u16At u32At textOf W.pool W.structNames W.fieldNames W.kindTexts W.wordTexts bytes
+        mapOption orElse find kindOf kindAmong words eqs famPrefix plain primSize scalarIn builtIn schemaWith planOf enumList aliasList optTextAt optText optNumberAt textAt flagAt u16At u32At textOf W.pool W.structNames W.fieldNames W.kindTexts W.wordTexts bytes
     slim-end = slim-structs T ss (λ s m. struct-slim s (h s m))
 
     slim-without : (release : Text) → slim T (openedIn W.pool (headBytes release ∷ integerBytes W.t·GENERATION n 0 W.absent ∷ end)) ≡ true

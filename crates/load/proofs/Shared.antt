@@ -10,7 +10,7 @@ use Rattle.record.specs.Stretch.{textOf}
 use Rattle.record.specs.Schema
 use Rattle.record.specs.Schema.{integer, Const, Struct}
 use Rattle.record.specs.Steps.{enumIn, valueIn, bitfieldIn, memberIn}
-use Rattle.record.specs.Release.{ontoHead, parts, digit, allDigits, isDecimal, allDecimal, isRelease, number, parsed, parsedPart, releaseParts, earlier}
+use Rattle.record.specs.Release.{ontoHead, parts, digit, allDigits, isDecimal, allDecimal, isRelease, number, asU32, parsedPart, releaseParts, earlier}
 use Rattle.record.specs.Versioned.{slotOrder}
 use Rattle.record.proofs.Basics.{eqs-refl}
 use Rattle.layout.specs.Sorted.{insert, insertAll, sorted}
@@ -18,9 +18,9 @@ use Rattle.definition.specs.Verdicts.{Verdict, pass, constantGone}
 use Rattle.definition.specs.Pass.{_then_, ensure, required, each, onFound, empty}
 use Rattle.definition.specs.ReleaseOrder.{checkEarlier, checkCopy, checkReleaseOrder}
 use Rattle.definition.specs.FirstReleases.{constantRelease, apiEnum, enumRelease, valueRelease, keyRelease, checkArrival, checkConstantArrival, checkConstantArrivals, checkValueArrival, checkValueArrivals, checkEnumArrival, checkEnumArrivals, checkKeyArrival, checkKeyArrivals, checkFirstReleases}
-use Rattle.definition.specs.Constants.{valueText, lastConstant, isGeneration, checkConstant, checkConstantsIn, checkConstants}
+use Rattle.definition.specs.Constants.{constantText, lastConstant, isGeneration, checkConstant, checkConstantsIn, checkConstants}
 use Rattle.definition.specs.Enums.{numberIn, checkValue, checkValues, checkEnum, checkEnums}
-use Rattle.definition.specs.Bitfields.{widthOf, spanIn, checkMember, checkMembers, checkBitfield, checkBitfields}
+use Rattle.definition.specs.Bitfields.{memberWidth, spanIn, checkMember, checkMembers, checkBitfield, checkBitfields}
 use Rattle.definition.specs.BitfieldReleases.{bitfieldRelease, memberRelease, checkArrived, checkMemberArrived, checkMembersArrived, checkBitfieldArrived, checkBitfieldReleases}
 use Rattle.load.specs.Pool as W
 use Rattle.load.specs.Draws.{nowText, wasText, slotText}
@@ -47,7 +47,7 @@ order-at e = checkReleaseOrder (nowSpelt e) (some (wasSpelt e)) ≡ pass
 
 pub order-releases : (e : ℕ) → e < 4 → checkReleaseOrder (nowSpelt e) (some (wasSpelt e)) ≡ pass
 unfolding order-at nowSpelt wasSpelt nowText wasText textOf W.pool W.structNames W.fieldNames W.kindTexts W.wordTexts bytes
-    checkReleaseOrder checkCopy checkEarlier ensure releaseParts isRelease parts ontoHead allDecimal isDecimal allDigits digit eqs number parsed parsedPart earlier
+    checkReleaseOrder checkCopy checkEarlier ensure releaseParts isRelease parts ontoHead allDecimal isDecimal allDigits digit eqs number asU32 parsedPart earlier
 order-releases = four order-at refl refl refl refl
 
 -- the released and the current constants, with the spare one or without
@@ -80,7 +80,7 @@ unfolding enumList checkEnums checkEnum checkValues checkValue numberIn enumIn v
 enums-pass = refl
 
 pub bits-pass : checkBitfields bitfieldList bitfieldList ≡ pass
-unfolding bitfieldList checkBitfields checkBitfield checkMembers checkMember spanIn widthOf bitfieldIn memberIn find ensure each onFound _then_ eqs bytes orElse
+unfolding bitfieldList checkBitfields checkBitfield checkMembers checkMember spanIn memberWidth bitfieldIn memberIn find ensure each onFound _then_ eqs bytes orElse
 bits-pass = refl
 
 bits-dated-at : ℕ → Type 0
@@ -118,9 +118,9 @@ in-order n v = refl
 
 -- a constant that is found, with a value that is the same
 module _ (ss : List Struct) (cs : List Const) (c d : Const) (found : lastConstant (c .name) cs ≡ some d) where
-  stays : valueText (d .value) ≡ valueText (c .value) → checkConstant ss cs c ≡ pass
+  stays : constantText (d .value) ≡ constantText (c .value) → checkConstant ss cs c ≡ pass
   unfolding checkConstant onFound
-  stays e = rw (found, e) (same-value (isGeneration ss cs (c .name)) (valueText (c .value)) _)
+  stays e = rw (found, e) (same-value (isGeneration ss cs (c .name)) (constantText (c .value)) _)
 
   rises : isGeneration ss cs (c .name) ≡ true → checkConstant ss cs c ≡ pass
   unfolding checkConstant onFound ensure

@@ -7,7 +7,7 @@ use Prim.Native.Nat.{ℕ, _+_, _^_, _<_}
 use Rattle.record.specs.Base.{Str, eqs}
 use Rattle.record.specs.Schema.{Const, Field, Struct, Family}
 use Rattle.record.specs.Kind.{kindOf, isPadding}
-use Rattle.record.specs.Shapes.{Place, shapeSize}
+use Rattle.record.specs.Shapes.{FieldLayout, shapeSize}
 use Rattle.record.specs.Versioned.{slotOrder}
 use Rattle.layout.specs.Layout.{TypeLayout, layFamilies}
 use Rattle.definition.specs.Verdicts.{Verdict, pass, constantGone}
@@ -38,7 +38,7 @@ pub record Other (n : Str) (t : Struct) : Type 0 where
 -- a layout of a family or of a variant
 pub record Apart (n : Str) (t : TypeLayout) : Type 0 where
   pub named : eqs (t .name) n ≡ false
-  pub once : NoDup (map (λ (f : Place). f .name) (t .fields))
+  pub once : NoDup (map (λ (f : FieldLayout). f .name) (t .fields))
 
 -- what a family is judged by besides its layouts
 pub record Stands (p : Plan) (m : Family) : Type 0 where

@@ -9,7 +9,7 @@ use lib.ListN.{length, getD}
 use Rattle.record.specs.Base.{Str, first}
 use Rattle.record.specs.Scalars.{builtIn}
 use Rattle.record.specs.Schema.{Schema, Heading, Const, Alias, Enum, EnumValue, BitField, Member, Key, Field, Struct, Variant, Family, Version}
-use Rattle.record.specs.Shapes.{prefix}
+use Rattle.record.specs.Shapes.{famPrefix}
 use Rattle.record.specs.Commands.{operands, widths}
 use Rattle.record.specs.Commands.{headAt, constantAt, aliasAt, enumAt, valueAt, bitfieldAt, memberAt}
 use Rattle.record.specs.Commands.{structAt, familyAt, variantAt, fieldAt, keyAt, versionAt}
@@ -117,5 +117,5 @@ module _ (p : Str) where
   unfoldable pub openedIn : List Str → List (List Field)
   openedIn [] = []
   openedIn (c ∷ cs) =
-      cond (eqb (getD (c ++ streamOf cs) 0 0) 9) ((prefix (familyOf p (familyAt (c ++ streamOf cs)) [] []) ++ fieldsIn cs) ∷ openedIn cs)
+      cond (eqb (getD (c ++ streamOf cs) 0 0) 9) ((famPrefix (familyOf p (familyAt (c ++ streamOf cs)) [] []) ++ fieldsIn cs) ∷ openedIn cs)
       (cond (eqb (getD (c ++ streamOf cs) 0 0) 8 || eqb (getD (c ++ streamOf cs) 0 0) 10) (fieldsIn cs ∷ openedIn cs) (openedIn cs))

@@ -1,5 +1,5 @@
 // The exported calls, for programs in C and Rust: include/menqachu.h declares them. They are the calls of compare, layout, pointers, load, drafts
-// and texts, and have their contracts.
+// and texts; what each promises is a line of specs/Guarantees.
 use compare::check::check;
 use drafts::draft::draft_add;
 use drafts::draft::draft_count;
@@ -18,23 +18,12 @@ use load::pair::load;
 use pointers::check::check_pointers;
 use record::refusal::Side;
 use texts::back::pairs_compared;
-ghost use mathlib.Core.Path.{_≡_};
 ghost use mathlib.Core.List.{[]};
-ghost use mathlib.Core.Bool.{cond};
-ghost use lib.ListN.{length};
-ghost use Rattle.record.specs.Scalars.{builtIn};
 ghost use Rattle.record.specs.Reading.{Rec, rec};
-ghost use Rattle.record.specs.declared.refusal.Side.the-variants.{Current, Released};
-ghost use Rattle.layout.specs.Answer.{list, Answered};
-ghost use Rattle.layout.specs.OwnerCall.{ownerFields, ownerAsked};
-ghost use Rattle.definition.specs.Answer.{check};
-ghost use Rattle.load.specs.Load.{load};
-ghost use Rattle.pointers.specs.Pointers.{pointers, Answers};
-ghost use Rattle.drafts.specs.Edits.{count, adding, removing, edit};
-ghost use Rattle.drafts.specs.Answering.{editedAs};
-ghost use Rattle.drafts.specs.Shelf.{setDraft, backDraft};
-ghost use Rattle.drafts.specs.Shelving.{rowsOf, newShelf, shelvedAs};
-ghost use Rattle.texts.specs.Back.{pairsCompared};
+ghost use Rattle.menqachu.specs.Guarantees.{lent};
+ghost use Rattle.menqachu.specs.Guarantees.{CheckPromise, ListPromise, OwnerPromise, PointersPromise, LoadPromise, PairsComparedPromise};
+ghost use Rattle.menqachu.specs.Guarantees.{DraftCountPromise, DraftAddPromise, DraftRemovePromise};
+ghost use Rattle.menqachu.specs.Guarantees.{ShelfNewPromise, ShelfSetPromise, ShelfBackPromise};
 
 // A current record against a released one.
 #[no_mangle]
@@ -45,7 +34,10 @@ pub extern "C" fn menqachu_check(
     old: &[u8],
     out: &mut [u8],
 ) -> Answer
-    ensures { λ r. ⌜ Answered (now (out .entry)) (now (out .exit)) (check (length (now (out .entry))) (rec (now (stream .entry)) (now (pool .entry)) builtIn) (rec (now (past .entry)) (now (old .entry)) builtIn)) r ⌝ }
+    ensures { λ r.
+        let cur : Rec = lent (now (stream .entry)) (now (pool .entry)) in
+        let rel : Rec = lent (now (past .entry)) (now (old .entry)) in
+        ⌜ CheckPromise cur rel (now (out .entry)) (now (out .exit)) r ⌝ }
 {
     check(stream, pool, past, old, out)
 }
@@ -58,7 +50,9 @@ pub extern "C" fn menqachu_list(
     pool: &[u8],
     out: &mut [u8],
 ) -> Answer
-    ensures { λ r. ⌜ Answered (now (out .entry)) (now (out .exit)) (list (length (now (out .entry))) (cond released Released Current) (rec (now (stream .entry)) (now (pool .entry)) builtIn)) r ⌝ }
+    ensures { λ r.
+        let cur : Rec = lent (now (stream .entry)) (now (pool .entry)) in
+        ⌜ ListPromise released cur (now (out .entry)) (now (out .exit)) r ⌝ }
 {
     if released {
         return list_layouts(Side::Released, stream, pool, out);
@@ -69,7 +63,9 @@ pub extern "C" fn menqachu_list(
 // The owner of a name in a current record.
 #[no_mangle]
 pub extern "C" fn menqachu_owner(stream: &[u8], pool: &[u8], name: &[u8]) -> OwnerFields
-    ensures { λ r. ⌜ r ≡ ownerFields (ownerAsked (rec (now (stream .entry)) (now (pool .entry)) builtIn) (now (name .entry))) ⌝ }
+    ensures { λ r.
+        let cur : Rec = lent (now (stream .entry)) (now (pool .entry)) in
+        ⌜ OwnerPromise cur (now (name .entry)) r ⌝ }
 {
     ask_owner(stream, pool, name).fields()
 }
@@ -77,7 +73,9 @@ pub extern "C" fn menqachu_owner(stream: &[u8], pool: &[u8], name: &[u8]) -> Own
 // Whether the pointers of a current record name what they must.
 #[no_mangle]
 pub extern "C" fn menqachu_pointers(stream: &[u8], pool: &[u8]) -> Answer
-    ensures { λ r. ⌜ Answers (pointers (rec (now (stream .entry)) (now (pool .entry)) builtIn)) r ⌝ }
+    ensures { λ r.
+        let cur : Rec = lent (now (stream .entry)) (now (pool .entry)) in
+        ⌜ PointersPromise cur r ⌝ }
 {
     check_pointers(stream, pool)
 }
@@ -85,7 +83,7 @@ pub extern "C" fn menqachu_pointers(stream: &[u8], pool: &[u8]) -> Answer
 // A pair of records for a burn-in, whose check gives the wanted outcome.
 #[no_mangle]
 pub extern "C" fn menqachu_load(outcome: u32, seed: u32, out: &mut [u8]) -> Answer
-    ensures { λ r. ⌜ Answered (now (out .entry)) (now (out .exit)) (load (length (now (out .entry))) outcome seed) r ⌝ }
+    ensures { λ r. ⌜ LoadPromise outcome seed (now (out .entry)) (now (out .exit)) r ⌝ }
 {
     load(outcome, seed, out)
 }
@@ -94,8 +92,8 @@ pub extern "C" fn menqachu_load(outcome: u32, seed: u32, out: &mut [u8]) -> Answ
 #[no_mangle]
 pub extern "C" fn menqachu_draft_count(draft: &[u8], past: &[u8], old: &[u8]) -> DraftAnswer
     ensures { λ r.
-        let copy : Rec = rec (now (past .entry)) (now (old .entry)) builtIn in
-        ⌜ editedAs r (now (draft .entry)) ≡ count builtIn copy (now (draft .entry)) ⌝ }
+        let copy : Rec = lent (now (past .entry)) (now (old .entry)) in
+        ⌜ DraftCountPromise copy (now (draft .entry)) r ⌝ }
 {
     draft_count(draft, past, old)
 }
@@ -111,9 +109,9 @@ pub extern "C" fn menqachu_draft_add(
     old: &[u8],
 ) -> DraftAnswer
     ensures { λ r.
-        let copy : Rec = rec (now (past .entry)) (now (old .entry)) builtIn in
+        let copy : Rec = lent (now (past .entry)) (now (old .entry)) in
         let more : Rec = rec (now (more .entry)) (now (texts .entry)) [] in
-        ⌜ editedAs r (now (draft .exit)) ≡ edit builtIn copy changed (now (draft .entry)) (adding more) ⌝ }
+        ⌜ DraftAddPromise copy changed more (now (draft .entry)) (now (draft .exit)) r ⌝ }
 {
     draft_add(changed, draft, more, texts, past, old)
 }
@@ -128,8 +126,8 @@ pub extern "C" fn menqachu_draft_remove(
     old: &[u8],
 ) -> DraftAnswer
     ensures { λ r.
-        let copy : Rec = rec (now (past .entry)) (now (old .entry)) builtIn in
-        ⌜ editedAs r (now (draft .exit)) ≡ edit builtIn copy changed (now (draft .entry)) (removing (now (name .entry))) ⌝ }
+        let copy : Rec = lent (now (past .entry)) (now (old .entry)) in
+        ⌜ DraftRemovePromise copy changed (now (name .entry)) (now (draft .entry)) (now (draft .exit)) r ⌝ }
 {
     draft_remove(changed, draft, name, past, old)
 }
@@ -137,7 +135,7 @@ pub extern "C" fn menqachu_draft_remove(
 // How many pairs of bytes the comparison of two names looks at, for tests.
 #[no_mangle]
 pub extern "C" fn menqachu_pairs_compared(a: &[u8], b: &[u8]) -> usize
-    ensures { λ r. ⌜ r ≡ pairsCompared (now (a .entry)) (now (b .entry)) ⌝ }
+    ensures { λ r. ⌜ PairsComparedPromise (now (a .entry)) (now (b .entry)) r ⌝ }
 {
     pairs_compared(a, b)
 }
@@ -145,7 +143,7 @@ pub extern "C" fn menqachu_pairs_compared(a: &[u8], b: &[u8]) -> usize
 // A shelf on which no name is held.
 #[no_mangle]
 pub extern "C" fn menqachu_shelf_new() -> Shelf
-    ensures { λ r. ⌜ r ≡ newShelf ⌝ }
+    ensures { λ r. ⌜ ShelfNewPromise r ⌝ }
 {
     shelf_new()
 }
@@ -159,8 +157,7 @@ pub extern "C" fn menqachu_shelf_set(
     held: &mut [u8],
 ) -> ShelfAnswer
     ensures { λ r.
-        ⌜ shelvedAs r (now (held .exit))
-        ≡ setDraft builtIn (rowsOf shelf) (now (name .entry)) (now (draft .entry)) (now (held .entry)) ⌝ }
+        ⌜ ShelfSetPromise shelf (now (name .entry)) (now (draft .entry)) (now (held .entry)) (now (held .exit)) r ⌝ }
 {
     shelf_set(shelf, name, draft, held)
 }
@@ -176,9 +173,8 @@ pub extern "C" fn menqachu_shelf_back(
     old: &[u8],
 ) -> ShelfAnswer
     ensures { λ r.
-        let copy : Rec = rec (now (past .entry)) (now (old .entry)) builtIn in
-        ⌜ shelvedAs r (now (draft .exit))
-        ≡ backDraft builtIn copy (rowsOf shelf) (now (name .entry)) (now (draft .entry)) (now (held .entry)) ⌝ }
+        let copy : Rec = lent (now (past .entry)) (now (old .entry)) in
+        ⌜ ShelfBackPromise copy shelf (now (name .entry)) (now (held .entry)) (now (draft .entry)) (now (draft .exit)) r ⌝ }
 {
     shelf_back(shelf, name, draft, held, past, old)
 }

@@ -19,7 +19,7 @@ use Rattle.record.specs.Steps.{aliasIn, enumIn, bitfieldIn, structIn, familyIn}
 use Rattle.record.specs.Seek.{placesOf}
 use Rattle.record.specs.Kind.{words, kindOf}
 use Rattle.record.specs.Kind as Kind
-use Rattle.record.specs.Shapes.{enumSize, aliasSize, bitfieldSize, sized, scalarSize, sizeAs, shapeSize, placeOf, places, plain, prefix}
+use Rattle.record.specs.Shapes.{enumSize, aliasSize, bitfieldSize, sized, scalarSize, sizeAs, shapeSize, placeOf, places, plain, famPrefix}
 use Rattle.record.specs.Owner.{referencedAs, referenced}
 use Rattle.record.specs.Judge.{ifAbsent, flagFault, operandFault, faultsFrom, follows, mayStand, parentAfter, ready, judgedWith, judgedAt}
 use Rattle.texts.specs.Utf8.{inside, isTail, utf81, utf82, utf83, utf84, charOf, charLength, isControl, letterLength, oddAfter, oddPlace, noTail}
@@ -68,8 +68,8 @@ unfoldable pub says : String → Str → Str → ℕ → ℕ → Bool
 unfolding bytes eqs isSome orElse orOption mapOption find first any scalarIn primSize builtIn u16At u32At u64At textOf textAt optText optTextAt
     flagAt optNumberAt operands wide widths widthWith widthOf commandOf stepAt commandsFrom commandsAt
     listed heads constants aliases values enums members bitfields keys fields structs variants families unstored versions
-    aliasIn enumIn bitfieldIn structIn familyIn placesOf words kindOf Kind.meaning Kind.ofLength
-    enumSize aliasSize bitfieldSize sized scalarSize sizeAs shapeSize placeOf places plain prefix referencedAs referenced
+    aliasIn enumIn bitfieldIn structIn familyIn placesOf words kindOf Kind.kindAmong Kind.ofLength
+    enumSize aliasSize bitfieldSize sized scalarSize sizeAs shapeSize placeOf places plain famPrefix referencedAs referenced
     ifAbsent flagFault operandFault faultsFrom follows mayStand parentAfter ready judgedWith judgedAt
     inside isTail utf81 utf82 utf83 utf84 charOf charLength isControl letterLength oddAfter oddPlace noTail oddLetter
     releaseOf unreleasedOf schemaFrom openedAt opened large vast onto continued parse parsed streamLimit poolLimit vastOr sizesOf concluded reading

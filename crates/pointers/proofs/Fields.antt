@@ -15,7 +15,7 @@ use Rattle.record.specs.Schema.{Schema, Key, Field, Struct, Family, Variant}
 use Rattle.record.specs.Seek.{placesOf}
 use Rattle.record.specs.Commands.{widths, structAt, familyAt, variantAt, fieldAt, commandOf, commandsAt, start}
 use Rattle.record.specs.Lists.{structOf, familyOf, variantOf, fieldOf, listed, anything, aKey, aField, keys, fields, structs, variants, families}
-use Rattle.record.specs.Judge.{isOpen, inFamily, mayStand, parentAfter, moved, ready, judgedAt}
+use Rattle.record.specs.Judge.{isOpen, inFamily, mayStand, parentAfter, advanced, ready, judgedAt}
 use Rattle.record.specs.Owner.{Types, typesIn}
 use Rattle.record.specs.Reading.{Rec, read, reading, schemaFrom, schemaOf, ok, continued, parse, parsed}
 use Rattle.record.specs.declared.command as D
@@ -231,11 +231,11 @@ parent-after : (s : Str) (c : Cursor) (b w : ℕ) (d : Command) (k : Cursor) →
 unfolding ready
 parent-after s c b w d k e = go (eqb b 15) (eqb (c .at + w) (length s)) e
   where
-    go : (t u : Bool) → cond t (cond u Done (Refused R.Misplaced (c .at + w))) (Next (commandOf b (drop (c .at) s)) (moved c b w)) ≡ Next d k
+    go : (t u : Bool) → cond t (cond u Done (Refused R.Misplaced (c .at + w))) (Next (commandOf b (drop (c .at) s)) (advanced c b w)) ≡ Next d k
         → parentAfter (c .parent) b ≡ k .parent
     go true true h = absurd (let z : _≡_ {A = ℕ} 0 1 = cc in omega arith)
     go true false h = absurd (let z : _≡_ {A = ℕ} 0 1 = cc in omega arith)
-    go false u h = let z : moved c b w ≡ k = cc in ap (λ (x : Cursor). x .parent) z
+    go false u h = let z : advanced c b w ≡ k = cc in ap (λ (x : Cursor). x .parent) z
 
 module _ (side : Side) (s p : Str) where
   found : (k : ℕ) (c : Cursor) (ps : List ℕ) → parse k side s p c ≡ ok ps → (at : ℕ) → List·Memᴰ at ps → eqb (getD s at 0) 11 ≡ true

@@ -13,7 +13,7 @@ use Rattle.record.specs.Base.{Str, find}
 use Rattle.record.specs.Schema.{Schema}
 use Rattle.record.specs.Letters.{oddLetter}
 use Rattle.record.specs.Commands.{operands, widths, widthWith, widthOf, commandOf, stepAt, place, start, commandsAt}
-use Rattle.record.specs.Judge.{mayStand, moved, faultsFrom, ready, faulted, judgedWith, judgedAs, judgedAt}
+use Rattle.record.specs.Judge.{mayStand, advanced, faultsFrom, ready, faulted, judgedWith, judgedAs, judgedAt}
 use Rattle.record.specs.Reading.{Rec, schemaFrom, schemaOf, Opened, opened, vast, read, Parsed, ok, bad, onto, continued, parse, parsed, vastOr, sizesOf, streamLimit, poolLimit, concluded, reading}
 use Rattle.record.specs.declared.command.Cursor.{Cursor}
 use Rattle.record.specs.declared.command.Command.{Command}
@@ -78,13 +78,13 @@ module _ (side : Side) (s : Str) (pool : Str) (c : Cursor) (j : Judged) (l : Let
 record Taken (s : Str) (c : Cursor) (b w : ℕ) (d : Command) (k : Cursor) : Type 0 where
   going : b ≡ 15 → ⊥
   that : commandOf b (drop (c .at) s) ≡ d
-  next : moved c b w ≡ k
+  next : advanced c b w ≡ k
 
 taken : (s : Str) (c : Cursor) (b w : ℕ) (d : Command) (k : Cursor) → ready s c b w ≡ Next d k → Taken s c b w d k
 unfolding ready
 taken s c b w d k e = go (eqb b 15) refl (eqb (c .at + w) (length s)) e
   where
-    go : (t : Bool) → eqb b 15 ≡ t → (u : Bool) → cond t (cond u Done (Refused R.Misplaced (c .at + w))) (Next (commandOf b (drop (c .at) s)) (moved c b w)) ≡ Next d k → Taken s c b w d k
+    go : (t : Bool) → eqb b 15 ≡ t → (u : Bool) → cond t (cond u Done (Refused R.Misplaced (c .at + w))) (Next (commandOf b (drop (c .at) s)) (advanced c b w)) ≡ Next d k → Taken s c b w d k
     go true q true h = absurd (let z : _≡_ {A = ℕ} 0 1 = cc in omega arith)
     go true q false h = absurd (let z : _≡_ {A = ℕ} 0 1 = cc in omega arith)
     go false q u h = record { going = eqb-false b 15 q; that = cc; next = cc }
@@ -93,7 +93,7 @@ ended : (s : Str) (c : Cursor) (b w : ℕ) → ready s c b w ≡ Done → b ≡ 
 unfolding ready
 ended s c b w e = go (eqb b 15) refl (eqb (c .at + w) (length s)) e
   where
-    go : (t : Bool) → eqb b 15 ≡ t → (u : Bool) → cond t (cond u Done (Refused R.Misplaced (c .at + w))) (Next (commandOf b (drop (c .at) s)) (moved c b w)) ≡ Done → b ≡ 15
+    go : (t : Bool) → eqb b 15 ≡ t → (u : Bool) → cond t (cond u Done (Refused R.Misplaced (c .at + w))) (Next (commandOf b (drop (c .at) s)) (advanced c b w)) ≡ Done → b ≡ 15
     go true q u h = eqb-true b 15 q
     go false q u h = absurd (let z : _≡_ {A = ℕ} 0 1 = cc in omega arith)
 

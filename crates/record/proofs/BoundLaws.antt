@@ -19,10 +19,9 @@ use Rattle.record.specs.Seek.{afterAt}
 use Rattle.record.specs.Lists.{optOf, numberOf, enumOf, bitfieldOf, fieldOf, familyOf, listed, values, enums, members, bitfields, keys, fields}
 use Rattle.record.specs.Steps.{enumIn, aliasIn, bitfieldIn}
 use Rattle.record.specs.Kind.{kindOf}
-use Rattle.record.specs.Shapes.{enumSize, aliasSize, bitfieldSize, sized, scalarSize, sizeAs, shapeSize, placeOf, places, prefix, limit, capped}
+use Rattle.record.specs.Shapes.{enumSize, aliasSize, bitfieldSize, sized, scalarSize, sizeAs, shapeSize, placeOf, places, famPrefix, limit, capped}
 use Rattle.record.specs.Reading.{rec, schemaFrom, schemaOf, openedAt, opened, large, vast}
-use Rattle.record.specs.Vast.{openedFrom, discSize, lenSize, frontEnd, vastAt, firstVast}
-use Rattle.record.specs.Bound.{sumSizes, unitAt, numbersOf, extraAt, totalOf, unitOf, boundOf}
+use Rattle.record.specs.Vast.{openedFrom, discSize, lenSize, frontEnd, vastAt, firstVast, sumSizes, unitAt, numbersOf, extraAt, totalOf, unitOf, boundOf}
 use Rattle.record.specs.declared.kind.Kind.{Kind}
 use Rattle.record.specs.declared.kind.Kind.the-variants as K
 use Rattle.record.specs.declared.command as D
@@ -398,7 +397,7 @@ module _ (t : Schema) (u v : ℕ) (i : Units t u v) (s p : Str) where
           other false = refl
 
   module _ (x : ℕ) (ps : List ℕ) where
-    opened-front : eqb (getD s x 0) 9 ≡ true → opened s p (x ∷ ps) ≡ record { place = x; fields = prefix (familyOf p (familyAt (drop x s)) [] []) ++ fields s p ps } ∷ opened s p ps
+    opened-front : eqb (getD s x 0) 9 ≡ true → opened s p (x ∷ ps) ≡ record { place = x; fields = famPrefix (familyOf p (familyAt (drop x s)) [] []) ++ fields s p ps } ∷ opened s p ps
     unfolding opened openedAt
     opened-front q = rw q
 
@@ -426,7 +425,7 @@ module _ (t : Schema) (u v : ℕ) (i : Units t u v) (s p : Str) where
   unfolding frontEnd
   front-ends m = refl
 
-  front-below : (m : Family) (ps : List ℕ) → u + u + totalOf (boundAt u v s) ps ≤ limit → any large (places t 0 (prefix m ++ fields s p ps)) ≡ false
+  front-below : (m : Family) (ps : List ℕ) → u + u + totalOf (boundAt u v s) ps ≤ limit → any large (places t 0 (famPrefix m ++ fields s p ps)) ≡ false
   front-below m ps h =
       let a = disc-below m in
       let b = len-below m in

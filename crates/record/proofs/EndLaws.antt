@@ -90,7 +90,7 @@ module _ (s : Str) (at n : ℕ) (e : n ≡ afterAt s at) where
       keys = seen inKeys (r .keys) (h .reached) (h .keys);
     })
 
--- the same with the index that the walk fills
+-- what the walk has noted before a place, and the index that it fills
 pub record Noting (s p : Str) (before x : List ℕ) (r : Ends) (at : ℕ) : Type 0 where
   pub filling : Filling s p before x at
   pub ends : EndsTo s r at

@@ -19,7 +19,7 @@ use Rattle.record.specs.Commands.{operands, wide, widths, widthWith, wid
 use Rattle.record.specs.Lists.{anything, listed, constants, unstored, aliases, enums, bitfields, structs, families}
 use Rattle.record.specs.Steps.{valuesAt, membersAt, fieldsAt, variantsAt, constantsAt, aliasesAt, enumsAt, bitfieldsAt, structsAt, familiesAt, unstoredAt, constantIn, aliasIn, enumIn, bitfieldIn, structIn, familyIn}
 use Rattle.record.specs.Seek.{afterAt, SoughtFrom}
-use Rattle.record.specs.Index.{mixed, hashOf, declaredName, declares, isNamed, isFlagged, counts, onto, declaring, declaredPlaces, keyAt, putAt, latest, Linked, IndexRoom, Chained, Indexed, hitIn, firstIn, linkBefore, Headless, FirstNamed, LastNamed, soughtAt, constantPlaced, unstoredPlaced, aliasPlaced, enumPlaced, bitfieldPlaced, structPlaced, familyPlaced, PlaceNamed, Declared, LastDeclared, Alone, Findable, Looked}
+use Rattle.record.specs.Index.{mixed, hashOf, declaredName, declares, isNamed, isFlagged, counts, onto, declaring, declaredPlaces, hashAt, putAt, latest, Linked, IndexRoom, Chained, Indexed, hitIn, firstIn, linkBefore, Headless, firstPlace, FirstNamed, LastNamed, soughtAt, constantPlaced, unstoredPlaced, aliasPlaced, enumPlaced, bitfieldPlaced, structPlaced, familyPlaced, PlaceNamed, Declared, LastDeclared, Alone, Findable, Looked}
 use Rattle.record.specs.declared.text.Text.{Text}
 use Rattle.record.specs.declared.command.Cursor.{Cursor}
 use Rattle.record.specs.declared.command.Command.{Command}
@@ -151,8 +151,8 @@ module _ (s p : Str) (b f : ℕ) (n : Str) (at : ℕ) (v : Bool) (e : v ≡ isNa
 pub ruleset counts-laws = (counts-flag, counts-other)
 
 -- a command of the name has the name's number
-other-number : (s p : Str) (b : ℕ) (n : Str) (at : ℕ) → eqb (keyAt s p at) (hashOf n) ≡ false → isNamed s p b n at ≡ false
-unfolding isNamed keyAt
+other-number : (s p : Str) (b : ℕ) (n : Str) (at : ℕ) → eqb (hashAt s p at) (hashOf n) ≡ false → isNamed s p b n at ≡ false
+unfolding isNamed hashAt
 other-number s p b n at h = go (eqb (getD s at 0) b) (eqs (declaredName s p at) n) refl
   where
     go : (v w : Bool) → eqs (declaredName s p at) n ≡ w → v && w ≡ false
@@ -160,7 +160,7 @@ other-number s p b n at h = go (eqb (getD s at 0) b) (eqs (declaredName s p at) 
     go true false e = refl
     go false w e = refl
 
-flag-other : (s p : Str) (b f : ℕ) (n : Str) (at : ℕ) → eqb (keyAt s p at) (hashOf n) ≡ false → counts s p b f n at ≡ false
+flag-other : (s p : Str) (b f : ℕ) (n : Str) (at : ℕ) → eqb (hashAt s p at) (hashOf n) ≡ false → counts s p b f n at ≡ false
 unfolding counts
 flag-other s p b f n at h = ap (λ (v : Bool). isFlagged s f at && v) (other-number s p b n at h) ∙ and-false (isFlagged s f at)
 
@@ -228,11 +228,11 @@ module _ (s p : Str) (x : List ℕ) (at : ℕ) where
   unfolding declaring
   declaring-is w = w
 
-  key-below : keyAt s p at < 256
-  unfolding keyAt
+  key-below : hashAt s p at < 256
+  unfolding hashAt
   key-below = hash-below (declaredName s p at)
 
-  put-is : declaring s at ≡ true → putAt s p x at ≡ set (set x (256 + at / 7) (getD x (keyAt s p at) 0)) (keyAt s p at) (at + 1)
+  put-is : declaring s at ≡ true → putAt s p x at ≡ set (set x (256 + at / 7) (getD x (hashAt s p at) 0)) (hashAt s p at) (at + 1)
   unfolding putAt
   put-is w = rw w
 
@@ -249,7 +249,7 @@ module _ (s p : Str) (x : List ℕ) (at : ℕ) where
     put-over w = sym (put-not (declaring-so ∙ w))
 
     pub put-there : v ≡ true → (u : Str) (h : ℕ) (to : List ℕ) → u ≡ declaredName s p at → h ≡ hashOf u → to ≡ set (set x (256 + at / 7) (getD x h 0)) h (at + 1) → to ≡ putAt s p x at
-    unfolding keyAt
+    unfolding hashAt
     put-there w u h to a b q = q ∙ ap (λ (k : ℕ). set (set x (256 + at / 7) (getD x k 0)) k (at + 1)) (b ∙ ap hashOf a) ∙ sym (put-is (declaring-so ∙ w))
 
 pub ruleset put-laws = (put-over, put-there)
@@ -261,7 +261,7 @@ pub record Filling (s p : Str) (before x : List ℕ) (at : ℕ) : Type 0 where
   pub room : IndexRoom s x
   pub inside : at ≤ length s
   pub left : onto (declaring s) (commandsAt s at) places ≡ declaredPlaces s
-  pub chained : Chained x (keyAt s p) at places
+  pub chained : Chained x (hashAt s p) at places
 
 -- no number leads anywhere below i
 pub record HeadlessTo (before x : List ℕ) (i : ℕ) : Type 0 where
@@ -300,8 +300,8 @@ module _ (s p : Str) (before x : List ℕ) where
     fill-end z =
         let l : f .places ≡ declaredPlaces s = sym (ap (λ (q : List ℕ). onto (declaring s) q (f .places)) (commands-stop s at (ended-there s at n e z))) ∙ f .left in
         record {
-          chained = subst (Chained x (keyAt s p) (length s)) l
-              (record { heads = f .chained .heads; linked = linked-above (keyAt s p) x at (length s) (f .places) (f .inside) (f .chained .linked) });
+          chained = subst (Chained x (hashAt s p) (length s)) l
+              (record { heads = f .chained .heads; linked = linked-above (hashAt s p) x at (length s) (f .places) (f .inside) (f .chained .linked) });
         }
 
     module _ (z : n ≡ 0 → ⊥) where
@@ -340,7 +340,7 @@ module _ (s p : Str) (before x : List ℕ) where
             there v w = ap (λ (b : Bool). onto (declaring s) (commandsAt s n) (cond b (at ∷ f .places) (f .places))) (sym w) ∙ list
 
             h : ℕ
-            h = keyAt s p at
+            h = hashAt s p at
 
             go : (v : Bool) → declaring s at ≡ v → Filling s p before (putAt s p x at) n
             go true w = subst (λ (l : List ℕ). Filling s p before l n) (sym (put-is s p x at w)) (record {
@@ -349,7 +349,7 @@ module _ (s p : Str) (before x : List ℕ) where
               room = let k = length-set (set x (256 + at / 7) (getD x h 0)) h (at + 1) ∙ length-set x (256 + at / 7) (getD x h 0) in let j = f .room in omega arith;
               inside = within;
               left = there true w;
-              chained = chained-put (keyAt s p) x at n h (f .places) (f .chained) (key-below s p x at) refl fill-entry (far w);
+              chained = chained-put (hashAt s p) x at n h (f .places) (f .chained) (key-below s p x at) refl fill-entry (far w);
             })
             go false w = subst (λ (l : List ℕ). Filling s p before l n) (sym (put-not s p x at w)) (record {
               places = f .places;
@@ -357,7 +357,7 @@ module _ (s p : Str) (before x : List ℕ) where
               room = f .room;
               inside = within;
               left = there false w;
-              chained = record { heads = f .chained .heads; linked = linked-above (keyAt s p) x at n (f .places) (let k = before-it in omega arith) (f .chained .linked) };
+              chained = record { heads = f .chained .heads; linked = linked-above (hashAt s p) x at n (f .places) (let k = before-it in omega arith) (f .chained .linked) };
             })
 
 pub hash-small : (u : Str) (h : ℕ) → h ≡ hashOf u → h < 256
@@ -391,9 +391,9 @@ pub link-falls : (x : List ℕ) (link at to : ℕ) → (link ≡ 0 → ⊥) → 
 link-falls x link at to z e f = let h = before-falls x at in omega arith
 
 -- a test that none passes but commands of the name
-module _ (s p : Str) (x : List ℕ) (n : Str) (test : ℕ → Bool) (other : (q : ℕ) → eqb (keyAt s p q) (hashOf n) ≡ false → test q ≡ false) where
+module _ (s p : Str) (x : List ℕ) (n : Str) (test : ℕ → Bool) (other : (q : ℕ) → eqb (hashAt s p q) (hashOf n) ≡ false → test q ≡ false) where
   abbrev key : ℕ → ℕ
-  key = keyAt s p
+  key = hashAt s p
 
   -- where no place has the number, none passes
   none-hit : (l : List ℕ) (f : ℕ) → latest key (hashOf n) l ≡ 0 → hitIn test l f ≡ f
@@ -459,8 +459,8 @@ module _ (s p : Str) (x : List ℕ) (b : ℕ) (n : Str) where
   pub record Reached (link found : ℕ) : Type 0 where
     pub rest : List ℕ
     pub top : ℕ
-    pub linked : Linked x (keyAt s p) top rest
-    pub is : link ≡ latest (keyAt s p) (hashOf n) rest
+    pub linked : Linked x (hashAt s p) top rest
+    pub is : link ≡ latest (hashAt s p) (hashOf n) rest
     pub same : hitIn named-test (declaredPlaces s) 0 ≡ hitIn named-test rest found
 
   pub record Sighted (link found : ℕ) : Type 0 where
@@ -513,8 +513,8 @@ module _ (s p : Str) (x : List ℕ) (b fl : ℕ) (n : Str) where
   pub record Left (link : ℕ) : Type 0 where
     pub rest : List ℕ
     pub top : ℕ
-    pub linked : Linked x (keyAt s p) top rest
-    pub is : link ≡ latest (keyAt s p) (hashOf n) rest
+    pub linked : Linked x (hashAt s p) top rest
+    pub is : link ≡ latest (hashAt s p) (hashOf n) rest
     pub same : firstIn last-test (declaredPlaces s) ≡ firstIn last-test rest
 
   pub record Looking (link : ℕ) : Type 0 where
@@ -638,19 +638,43 @@ module _ {A : Type 0} (s p n : Str) (b : ℕ) (d : declares b ≡ true) (f : ℕ
   unfolding Finds hit
   found-in = along s Finds finds-stop finds-next
 
+-- the place of the first command of a number and a name is that of the first of its list
+pub first-placed : (s p n : Str) (b : ℕ) → PlaceNamed s p n b (soughtAt s (firstPlace s p b n))
+unfolding declaredPlaces hit declaredName declares constantIn aliasIn enumIn bitfieldIn structIn familyIn constantsAt aliasesAt enumsAt bitfieldsAt structsAt familiesAt constants aliases enums bitfields structs families valuesAt membersAt fieldsAt variantsAt
+first-placed s p n b = record {
+  constant = λ q. rw q (found-in s p n 2 refl _ _ (λ at rest. refl) (constantPlaced s p) refl (λ a k. refl) 0);
+  alias = λ q. rw q (found-in s p n 3 refl _ _ (λ at rest. refl) (aliasPlaced s p) refl (λ a k. refl) 0);
+  enum = λ q. rw q (found-in s p n 4 refl _ _ (λ at rest. refl) (enumPlaced s p) refl (λ a k. refl) 0);
+  bitfield = λ q. rw q (found-in s p n 6 refl _ _ (λ at rest. refl) (bitfieldPlaced s p) refl (λ a k. refl) 0);
+  struct = λ q. rw q (found-in s p n 8 refl _ _ (λ at rest. refl) (structPlaced s p) refl (λ a k. refl) 0);
+  family = λ q. rw q (found-in s p n 9 refl _ _ (λ at rest. refl) (familyPlaced s p) refl (λ a k. refl) 0);
+}
+
+-- what is found passes the test
+hit-passes : (t : ℕ → Bool) (l : List ℕ) (f q : ℕ) → (f ≡ suc q → t q ≡ true) → hitIn t l f ≡ suc q → t q ≡ true
+unfolding hitIn
+hit-passes t [] f q k e = k e
+hit-passes t (a ∷ l) f q k e = hit-passes t l (cond (t a) (suc a) f) q (go (t a) refl) e
+  where
+    go : (v : Bool) → t a ≡ v → cond v (suc a) f ≡ suc q → t q ≡ true
+    go true h z = let w : suc a ≡ suc q = z in let y : a ≡ q = omega arith in subst (λ (i : ℕ). t i ≡ true) y h
+    go false h z = k z
+
+-- a command has the number that it was found by
+pub first-number : (s p n : Str) (b q : ℕ) → firstPlace s p b n ≡ suc q → getD s q 0 ≡ b
+unfolding isNamed
+first-number s p n b q e = go (eqb (getD s q 0) b) refl (hit-passes (isNamed s p b n) (declaredPlaces s) 0 q (λ z. absurd (omega arith)) e)
+  where
+    go : (v : Bool) → eqb (getD s q 0) b ≡ v → (v && eqs (declaredName s p q) n) ≡ true → getD s q 0 ≡ b
+    go true h z = eqb-true (getD s q 0) b h
+    go false h z = absurd (false≢true z)
+
 module _ (s p : Str) (x : List ℕ) (b : ℕ) (n : Str) (found : ℕ) (g : FirstNamed s p x b n found) where
   placed-at : (r : Sought) → r ≡ soughtAt s found → Declared s p x b n r
-  unfolding declaredPlaces hit declaredName declares constantIn aliasIn enumIn bitfieldIn structIn familyIn constantsAt aliasesAt enumsAt bitfieldsAt structsAt familiesAt constants aliases enums bitfields structs families valuesAt membersAt fieldsAt variantsAt
-  placed-at r e = record {
-    named = λ i. let h : r ≡ soughtAt s (hitIn (isNamed s p b n) (declaredPlaces s) 0) = e ∙ ap (soughtAt s) (g .first i) in record {
-      constant = λ q. rw (h, q) (found-in s p n 2 refl _ _ (λ at rest. refl) (constantPlaced s p) refl (λ a k. refl) 0);
-      alias = λ q. rw (h, q) (found-in s p n 3 refl _ _ (λ at rest. refl) (aliasPlaced s p) refl (λ a k. refl) 0);
-      enum = λ q. rw (h, q) (found-in s p n 4 refl _ _ (λ at rest. refl) (enumPlaced s p) refl (λ a k. refl) 0);
-      bitfield = λ q. rw (h, q) (found-in s p n 6 refl _ _ (λ at rest. refl) (bitfieldPlaced s p) refl (λ a k. refl) 0);
-      struct = λ q. rw (h, q) (found-in s p n 8 refl _ _ (λ at rest. refl) (structPlaced s p) refl (λ a k. refl) 0);
-      family = λ q. rw (h, q) (found-in s p n 9 refl _ _ (λ at rest. refl) (familyPlaced s p) refl (λ a k. refl) 0);
-    };
-  }
+  placed-at r e = record { named = λ i. subst (PlaceNamed s p n b) (sym (there i)) (first-placed s p n b); first = there }
+    where
+      there : Indexed s p x → r ≡ soughtAt s (firstPlace s p b n)
+      there i = e ∙ ap (soughtAt s) (g .first i)
 
   pub declared-none : found ≡ 0 → Declared s p x b n Nowhere
   unfolding soughtAt

@@ -24,7 +24,7 @@ use Rattle.record.specs.Marks.{referenceAt, targetAt}
 use Rattle.record.specs.Leads.{LeadsTo}
 use Rattle.record.specs.Versioned.{structCommandsAt, commandFound, InSlot, InSlots}
 use Rattle.record.specs.Index.{IndexRoom, Indexed}
-use Rattle.record.specs.Ownership.{Within, Resolved, OwnerMarks, Known, OwnersMarked, EightClear, OwnerBy, MarkedName, NamedBy, Claims, OwnerIn, withStretch, stretchesIn, ownedBy, stretchOf, ownerAt, Answered, OwnerFound}
+use Rattle.record.specs.Ownership.{Within, Resolved, OwnerMarks, Known, RootsMarked, EightClear, OwnerBy, MarkedName, NamedBy, Claims, OwnerIn, withStretch, stretchesIn, ownedBy, stretchOf, ownerAt, IsOwner, OwnerFound}
 use Rattle.record.specs.declared.text.Text.{Text}
 use Rattle.record.specs.declared.operands.OptText.{OptText}
 use Rattle.record.specs.declared.kind.Kind.{Kind}
@@ -418,7 +418,7 @@ module _ (s p n : Str) where
       root-left slots x a = answer-left slot slots (o .filled) (o .fills) x none-leads a
 
   -- an answer of all three slots is the owner
-  answered : (r : Owner) → AnswerIn s p n ownershipOrder r → Answered s p n r
+  answered : (r : Owner) → AnswerIn s p n ownershipOrder r → IsOwner s p n r
   unfolding ownerAt stretchOf ownedBy roots
   answered Nobody a = record { owner = sym nobody; stretch = rw nobody }
     where
@@ -444,7 +444,7 @@ module _ (s p n : Str) where
     none-first : Within s p m 0 n → ⊥
     none-first h = h .marked (let l = h .most in omega arith)
 
-    pub answer-first : (t : Text) → a ≡ Owned t → Answered s p n (Owned t)
+    pub answer-first : (t : Text) → a ≡ Owned t → IsOwner s p n (Owned t)
     unfolding ownershipOrder
     answer-first t e = answered (Owned t) (root-taken m (bytes "metadata") 0 (g .metadata) a one _ t e)
 
@@ -458,7 +458,7 @@ module _ (s p n : Str) where
       past-first : (slots : List Str) (r : Owner) → AnswerIn s p n slots r → AnswerIn s p n (bytes "metadata" ∷ slots) r
       past-first = root-left m (bytes "metadata") 0 (g .metadata) a one none-first e
 
-      pub answer-second : (t : Text) → b ≡ Owned t → Answered s p n (Owned t)
+      pub answer-second : (t : Text) → b ≡ Owned t → IsOwner s p n (Owned t)
       unfolding ownershipOrder
       answer-second t h = answered (Owned t) (past-first _ (Owned t) (root-taken m (bytes "runtime") 1 (g .runtime) b two _ t h))
 
@@ -471,20 +471,20 @@ module _ (s p n : Str) where
             root-left m (bytes "info") 2 (g .info) c three (none-so-far m (bytes "runtime") 1 (g .runtime) b two none-second h) y [] Nobody answer-end
         last (Owned t) y = root-taken m (bytes "info") 2 (g .info) c three [] t y
 
-        pub answer-third : Answered s p n c
+        pub answer-third : IsOwner s p n c
         unfolding ownershipOrder
         answer-third = answered c (past-first _ c (root-left m (bytes "runtime") 1 (g .runtime) b two none-second h _ c (last c refl)))
 
 -- the call ---------------------------------------------------------------------------------------------------------------
 
 module _ (s p n : Str) (r : Owner) where
-  pub answered-lent : (before room after x : List ℕ) (roots : Versioned) → length s ≤ 32768 → length s ≤ length before → IndexRoom s room → (length s ≤ 32768 → IndexRoom s room → Indexed s p x) → OwnersMarked s p roots x before after
-      → InSlots s p roots → (Known s p after x → InSlots s p roots → LeadsTo s p after n Unknown → Answered s p n r) → Answered s p n r
-  answered-lent before room after x roots h e i fill f slots a =
+  pub answered-lent : (room after x : List ℕ) (roots : Versioned) → length s ≤ 32768 → IndexRoom s room → (length s ≤ 32768 → IndexRoom s room → Indexed s p x) → RootsMarked s p roots x after
+      → InSlots s p roots → (Known s p after x → InSlots s p roots → LeadsTo s p after n Unknown → IsOwner s p n r) → IsOwner s p n r
+  answered-lent room after x roots h i fill f slots a =
       let index = fill h i in
-      a (record { marks = f .within e slots index; index = index }) slots (leads-unknown s p after n)
+      a (record { marks = f .by slots index; index = index }) slots (leads-unknown s p after n)
 
-  pub found-within : length s ≤ 32768 → Answered s p n r → OwnerFound 32768 s p n r
+  pub found-within : length s ≤ 32768 → IsOwner s p n r → OwnerFound 32768 s p n r
   found-within h a = record { within = λ l. a; beyond = λ l. absurd (omega arith) }
 
 pub found-beyond : (s p n : Str) → 32768 < length s → OwnerFound 32768 s p n Nobody

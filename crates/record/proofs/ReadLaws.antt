@@ -16,7 +16,7 @@ use Rattle.record.specs.Schema.{Schema}
 use Rattle.record.specs.Letters.{oddLetter}
 use Rattle.record.specs.Commands.{start, commandsAt}
 use Rattle.record.specs.Judge.{judgedAt}
-use Rattle.record.specs.Shapes.{Place, places, limit}
+use Rattle.record.specs.Shapes.{FieldLayout, places, limit}
 use Rattle.record.specs.Reading.{Rec, rec, schemaFrom, schemaOf, Opened, opened, large, vast, read, refuse, Parsed, ok, bad, onto, continued, parse, parsed, vastOr, sizesOf, streamLimit, poolLimit, concluded, reading}
 use Rattle.record.specs.Vast.{openedFrom, vastAt, firstVast}
 use Rattle.record.specs.Read.{parsedFrom, outcomeOf, Exact, Read}
@@ -103,14 +103,14 @@ pub ruleset commands-laws = (commands-on, commands-done, commands-refused)
 none-some : {A : Type 0} {x : A} → none ≡ some x → ⊥
 none-some e = let z : _≡_ {A = ℕ} 0 1 = cc in omega arith
 
-not-large : (r : Rec) (t : Opened) (f : Place) → vast (schemaOf r) t ≡ false → List·Memᴰ f (places (schemaOf r) 0 (t .fields)) → ltb limit (f .offset + f .size) ≡ true → ⊥
+not-large : (r : Rec) (t : Opened) (f : FieldLayout) → vast (schemaOf r) t ≡ false → List·Memᴰ f (places (schemaOf r) 0 (t .fields)) → ltb limit (f .offset + f .size) ≡ true → ⊥
 unfolding vast large
 not-large r t f a b c = any-none large (places (schemaOf r) 0 (t .fields)) a b c
 
 -- where no type is vast, no field ends past the limit
 ends-within : (r : Rec) → find (vast (schemaOf r)) (opened (r .stream) (r .pool) (commandsAt (r .stream) 0)) ≡ none
     → (t : Opened) → List·Memᴰ t (opened (r .stream) (r .pool) (commandsAt (r .stream) 0))
-    → (f : Place) → List·Memᴰ f (places (schemaOf r) 0 (t .fields)) → f .offset + f .size ≤ limit
+    → (f : FieldLayout) → List·Memᴰ f (places (schemaOf r) 0 (t .fields)) → f .offset + f .size ≤ limit
 ends-within r h t m f i = go (vast (schemaOf r) t) refl
   where
     go : (b : Bool) → vast (schemaOf r) t ≡ b → f .offset + f .size ≤ limit

@@ -16,7 +16,7 @@ use Rattle.record.specs.declared.release.Release.{Release}
 use Rattle.record.specs.declared.release.ReleaseParts.the-variants.{NotARelease, Parts}
 use Rattle.record.specs.declared.release.Parsed.{Parsed}
 use Rattle.record.specs.declared.release.Parsed.the-variants.{Vast, Number}
-use Rattle.record.specs.Release.{ontoHead, parts, digit, allDigits, isDecimal, allDecimal, isRelease, number, parsed, parsedPart, ofNumbers, releaseParts, earlier}
+use Rattle.record.specs.Release.{ontoHead, parts, digit, allDigits, isDecimal, allDecimal, isRelease, number, asU32, parsedPart, ofNumbers, releaseParts, earlier}
 
 module _ (s : Str) (i : ℕ) where
   pub digits-odd : (b : Bool) → i < length s → b ≡ digit (getD s i 0) → not b ≡ true → allDigits (drop i s) ≡ false
@@ -161,23 +161,23 @@ grows [] n = omega arith
 grows (a ∷ s) n = omega (arith, grows s (n * 10 + (a - 48)))
 
 module _ (s : Str) (i n : ℕ) where
-  pub number-next : (d : ℕ) → i < length s → d ≡ getD s i 0 - 48 → parsed (number n (drop i s)) ≡ parsed (number (n * 10 + d) (drop (i + 1) s))
+  pub number-next : (d : ℕ) → i < length s → d ≡ getD s i 0 - 48 → asU32 (number n (drop i s)) ≡ asU32 (number (n * 10 + d) (drop (i + 1) s))
   unfolding number
   number-next d h e = rw (add-one, drop-cons s i 0, e)
 
-  pub number-vast : (d : ℕ) → i < length s → d ≡ getD s i 0 - 48 → 2 ^ 32 ≤ n * 10 + d → parsed (number n (drop i s)) ≡ Vast
-  unfolding parsed
+  pub number-vast : (d : ℕ) → i < length s → d ≡ getD s i 0 - 48 → 2 ^ 32 ≤ n * 10 + d → asU32 (number n (drop i s)) ≡ Vast
+  unfolding asU32
   number-vast d h e v = number-next d h e ∙ rw (le-ltb (number (n * 10 + d) (drop (i + 1) s)) (2 ^ 32) (omega (arith, grows (drop (i + 1) s) (n * 10 + d))))
 
-  pub number-end : length s ≤ i → n < 2 ^ 32 → parsed (number n (drop i s)) ≡ Number n
-  unfolding parsed number
+  pub number-end : length s ≤ i → n < 2 ^ 32 → asU32 (number n (drop i s)) ≡ Number n
+  unfolding asU32 number
   number-end h l = rw (drop-of-length-le s, lt-ltb n (2 ^ 32) l)
 
 pub ruleset number-laws = (number-next, number-vast, number-end)
 
 -- a release's parts, as the code cuts them
 the-numbers : (s : Str) → isRelease s ≡ true
-    → releaseParts s ≡ ofNumbers (parsed (number 0 (front s))) (parsed (number 0 (front (past s)))) (parsed (number 0 (past (past s))))
+    → releaseParts s ≡ ofNumbers (asU32 (number 0 (front s))) (asU32 (number 0 (front (past s)))) (asU32 (number 0 (past (past s))))
 unfolding releaseParts parsedPart
 the-numbers s h = rw (three-parts s h, h)
 
@@ -186,15 +186,15 @@ module _ (s t x y z : Str) (r : Bool) (e : r ≡ isRelease s) where
   unfolding releaseParts
   parts-none f = rw (← e, not-true r f)
 
-  module _ (f : not r ≡ false) (p : Parsed) (k : x ≡ front s) (h : p ≡ parsed (number 0 x)) where
+  module _ (f : not r ≡ false) (p : Parsed) (k : x ≡ front s) (h : p ≡ asU32 (number 0 x)) where
     pub parts-major : p ≡ Vast → NotARelease ≡ releaseParts s
     parts-major v = rw (the-numbers s (sym e ∙ not-false r f), ← k, ← h, v)
 
-    module _ (a : ℕ) (m : p ≡ Number a) (q : Parsed) (l : t ≡ past s) (u : y ≡ front t) (g : q ≡ parsed (number 0 y)) where
+    module _ (a : ℕ) (m : p ≡ Number a) (q : Parsed) (l : t ≡ past s) (u : y ≡ front t) (g : q ≡ asU32 (number 0 y)) where
       pub parts-minor : q ≡ Vast → NotARelease ≡ releaseParts s
       parts-minor v = rw (the-numbers s (sym e ∙ not-false r f), ← k, ← h, m, ← l, ← u, ← g, v)
 
-      module _ (b : ℕ) (n : q ≡ Number b) (o : Parsed) (w : z ≡ past t) (j : o ≡ parsed (number 0 z)) where
+      module _ (b : ℕ) (n : q ≡ Number b) (o : Parsed) (w : z ≡ past t) (j : o ≡ asU32 (number 0 z)) where
         pub parts-patch : o ≡ Vast → NotARelease ≡ releaseParts s
         parts-patch v = rw (the-numbers s (sym e ∙ not-false r f), ← k, ← h, m, ← l, ← u, ← g, n, ← w, ← j, v)
 

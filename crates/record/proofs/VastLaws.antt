@@ -15,8 +15,8 @@ use Rattle.record.specs.Commands.{familyAt, fieldAt, place, commandsAt}
 use Rattle.record.specs.Seek.{afterAt, SoughtFrom}
 use Rattle.record.specs.Lists.{optOf, fieldOf, familyOf, fields}
 use Rattle.record.specs.Steps.{enumsAt, fieldsAt, fieldKeyAt}
-use Rattle.record.specs.Kind.{kindOf, meaning, words}
-use Rattle.record.specs.Shapes.{enumSize, sized, scalarSize, sizeAs, shapeSize, Place, placeOf, places, plain, prefix, limit, capped}
+use Rattle.record.specs.Kind.{kindOf, kindAmong, words}
+use Rattle.record.specs.Shapes.{enumSize, sized, scalarSize, sizeAs, shapeSize, FieldLayout, placeOf, places, plain, famPrefix, limit, capped}
 use Rattle.record.specs.Reading.{rec, schemaFrom, schemaOf, openedAt, opened, large, vast}
 use Rattle.record.specs.Vast.{openedFrom, openedOf, openedLeft, OpenedFrom, discSize, lenSize, frontEnd, vastAt, firstVast}
 use Rattle.record.specs.declared.operands.OptText.{OptText}
@@ -80,7 +80,7 @@ module _ (s : Str) (a at n : ℕ) (o : Onward s a at) (e : n ≡ afterAt s at) w
         record {
           list = λ p.
               o .same p ∙ types-at p ∙ (rw (sym i ∙ h) refl)
-              ∙ ap₂ (λ (v : D.Family.Family) (j : ℕ). record { place = at; fields = prefix (familyOf p v [] []) ++ fields s p (commandsAt s j) } ∷ openedFrom s p j) (sym (f ∙ ap familyAt d)) (sym q);
+              ∙ ap₂ (λ (v : D.Family.Family) (j : ℕ). record { place = at; fields = famPrefix (familyOf p v [] []) ++ fields s p (commandsAt s j) } ∷ openedFrom s p j) (sym (f ∙ ap familyAt d)) (sym q);
           left = omega arith;
         }
 
@@ -146,14 +146,14 @@ module _ (a x z e : ℕ) (l : a ≤ limit) (u : z ≡ capped x) (v : e ≡ cappe
 
 module _ (s p : Str) (w : List Scalar) where
   -- what is left to judge: the fields at a place, the first of them at an offset
-  pub record Ending (fs : List Place) (offset at : ℕ) : Type 0 where
+  pub record Ending (fs : List FieldLayout) (offset at : ℕ) : Type 0 where
     pub so-far : any large fs ≡ any large (places (schemaOf (rec s p w)) offset (fieldsAt s p at))
     pub low : offset ≤ limit
 
   pub ending-begin : (offset at : ℕ) → offset ≤ limit → Ending (places (schemaOf (rec s p w)) offset (fieldsAt s p at)) offset at
   ending-begin offset at h = record { so-far = refl; low = h }
 
-  module _ (fs : List Place) (offset at : ℕ) (i : Ending fs offset at) (r : Sought) (f : SoughtFrom s Keys 11 at r) where
+  module _ (fs : List FieldLayout) (offset at : ℕ) (i : Ending fs offset at) (r : Sought) (f : SoughtFrom s Keys 11 at r) where
     pub ending-none : r ≡ Nowhere → false ≡ any large fs
     unfolding places any
     ending-none m = sym (i .so-far ∙ rw (fields-over-now s at NoField (fields-none s at r f m) p refl))
@@ -195,13 +195,13 @@ module _ (s p : Str) (w : List Scalar) (f : D.Family.Family) where
   front-is t a b x y r e g h i j q = q ∙ rw (i, j, g, h, e)
 
 module _ (t : Schema) (m : Family) where
-  front-as-it-stands : (fs : List Field) → any large (places t 0 (prefix m ++ fs))
+  front-as-it-stands : (fs : List Field) → any large (places t 0 (famPrefix m ++ fs))
       ≡ (ltb limit (0 + discSize t m) || (ltb limit (0 + discSize t m + lenSize t m) || any large (places t (0 + discSize t m + lenSize t m) fs)))
-  unfolding any large places placeOf prefix plain shapeSize kindOf meaning words eqs bytes sizeAs scalarSize orElse discSize lenSize
+  unfolding any large places placeOf famPrefix plain shapeSize kindOf kindAmong words eqs bytes sizeAs scalarSize orElse discSize lenSize
   front-as-it-stands fs = refl
 
   -- the front's second field ends where the front does, and the fields after it begin there
-  pub front-places : (fs : List Field) → any large (places t 0 (prefix m ++ fs)) ≡ (ltb limit (discSize t m) || (ltb limit (frontEnd t m) || any large (places t (frontEnd t m) fs)))
+  pub front-places : (fs : List Field) → any large (places t 0 (famPrefix m ++ fs)) ≡ (ltb limit (discSize t m) || (ltb limit (frontEnd t m) || any large (places t (frontEnd t m) fs)))
   unfolding frontEnd
   front-places fs =
       let e : 0 + discSize t m ≡ discSize t m = omega arith in
@@ -216,7 +216,7 @@ module _ (t : Schema) (m : Family) where
   or-true false = refl
 
   module _ (n : ℕ) (e : n ≡ capped (frontEnd t m)) (fs : List Field) where
-    pub front-past : limit < n → true ≡ any large (places t 0 (prefix m ++ fs))
+    pub front-past : limit < n → true ≡ any large (places t 0 (famPrefix m ++ fs))
     front-past h = sym (front-places fs ∙ rw (lt-ltb limit (frontEnd t m) past) (or-true (ltb limit (discSize t m))))
       where
         past : limit < frontEnd t m
@@ -229,7 +229,7 @@ module _ (t : Schema) (m : Family) where
                 let x : n ≡ frontEnd t m = e ∙ sym (cap-low (frontEnd t m) g) in
                 absurd (omega arith)
 
-    pub front-on : (r : Bool) → n ≤ limit → r ≡ any large (places t n fs) → r ≡ any large (places t 0 (prefix m ++ fs))
+    pub front-on : (r : Bool) → n ≤ limit → r ≡ any large (places t n fs) → r ≡ any large (places t 0 (famPrefix m ++ fs))
     front-on r h q =
         let g = disc-first in
         let x = exact in
@@ -265,7 +265,7 @@ module _ (s p : Str) (w : List Scalar) (at : ℕ) (r : TypeStep) (f : OpenedFrom
     pub plain-nearer : length s - k .at < length s - at
     plain-nearer = let h : suc (length s - k .at) ≤ length s - at = subst (λ x. openedLeft s x ≤ length s - at) m (f .left) in omega arith
 
-  module _ (q : ℕ) (x : D.Family.Family) (k : Cursor) (m : r ≡ Fronted q x k) (b : Bool) (e : b ≡ any large (places (schemaOf (rec s p w)) 0 (prefix (familyOf p x [] []) ++ fieldsAt s p (k .at)))) where
+  module _ (q : ℕ) (x : D.Family.Family) (k : Cursor) (m : r ≡ Fronted q x k) (b : Bool) (e : b ≡ any large (places (schemaOf (rec s p w)) 0 (famPrefix (familyOf p x [] []) ++ fieldsAt s p (k .at)))) where
     pub vast-front : b ≡ true → firstVast (rec s p w) at ≡ VastAt q
     unfolding firstVast vast
     vast-front t = ap vastAt (find-hit (vast (schemaOf (rec s p w))) _ _ _ (f .list p ∙ ap (openedOf s p) m) (sym e ∙ t))

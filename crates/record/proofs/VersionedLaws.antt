@@ -101,7 +101,7 @@ module _ (s : Str) (at : ℕ) (r : Sought) (i : SoughtFrom s Anything 8 at r) (p
     commands = b .commands ∙ find-hit _ (structCommandsAt s at) _ _ (command-now s at r i p slot NoStruct b a k m) z;
   }
 
--- the same once the structure at a place is seen
+-- what is known of a slot once the structure at a place is seen
 see : (s : Str) (at : ℕ) (r : Sought) (i : SoughtFrom s Anything 8 at r) (p slot : Str) (f : StructStep) (b : Filled s p slot at f) (a k : ℕ) → r ≡ At a k → Filled s p slot k (firstSlotted p slot f (structAt (drop a s)) k)
 unfolding firstSlotted orOption
 see s at r i p slot (AStruct first from) b a k m = record { structs = b .structs; commands = b .commands }

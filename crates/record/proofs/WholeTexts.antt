@@ -14,7 +14,7 @@ use Rattle.record.specs.Base.{Str, withSome}
 use Rattle.record.specs.Stretch.{textOf}
 use Rattle.record.specs.Operands.{optTextAt}
 use Rattle.record.specs.Commands.{operands, wide, start, commandsAt}
-use Rattle.record.specs.CommandTexts.{isPlain, given, textsFrom, textsWith, textsAt}
+use Rattle.record.specs.CommandTexts.{noText, given, textsFrom, textsWith, textsAt}
 use Rattle.record.specs.Letters.{oddLetter}
 use Rattle.record.specs.Judge.{ifAbsent, flagFault, textFault, operandFault, faultsFrom, judgedAt}
 use Rattle.record.specs.Schema.{Schema}
@@ -52,8 +52,8 @@ module _ (p : Str) where
       go false e g = absurd (let z : _≡_ {A = ℕ} 0 1 = cc in omega arith)
 
   module _ (side : Side) (x : Str) where
-    text-fault : (i o : ℕ) → isPlain o ≡ false → operandFault side p x i o ≡ Fine → textFault p (ifAbsent side x o) (optTextAt x i) ≡ Fine
-    unfolding isPlain operandFault
+    text-fault : (i o : ℕ) → noText o ≡ false → operandFault side p x i o ≡ Fine → textFault p (ifAbsent side x o) (optTextAt x i) ≡ Fine
+    unfolding noText operandFault
     text-fault i o q h = go (eqb o 70) (eqb o 78) (eqb o 87) (eqb o 86) q h
       where
         go : (a b c d : Bool) → (a || b || c || d) ≡ false → cond a (flagFault (getD x i 0)) (cond b (flagFault (getD x i 0)) (cond c Fine (cond d Fine (textFault p (ifAbsent side x o) (optTextAt x i))))) ≡ Fine
@@ -72,14 +72,14 @@ module _ (p : Str) where
       where
         go : (operandFault side p x i o ≡ Fine) × (faultsFrom side p x (i + wide o) os ≡ Fine)
             → (faultsFrom side p x (i + wide o) os ≡ Fine → (v : Text) → List·Memᴰ v (textsFrom x (i + wide o) os) → Lies p v) → Lies p u
-        go k ih = plain (isPlain o) refl m
+        go k ih = plain (noText o) refl m
           where
             here : (a : Fault) (t : OptText) → textFault p a t ≡ Fine → List·Memᴰ u (withSome (given t) (textsFrom x (i + wide o) os)) → Lies p u
             here a Absent e n = ih (k .1) u n
             here a (Given t) e (List·Memᴰ·head f) = subst (Lies p) (sym f) (fault-lies a t e)
             here a (Given t) e (List·Memᴰ·tail n) = ih (k .1) u n
 
-            plain : (b : Bool) → isPlain o ≡ b → List·Memᴰ u (cond b (textsFrom x (i + wide o) os) (withSome (given (optTextAt x i)) (textsFrom x (i + wide o) os))) → Lies p u
+            plain : (b : Bool) → noText o ≡ b → List·Memᴰ u (cond b (textsFrom x (i + wide o) os) (withSome (given (optTextAt x i)) (textsFrom x (i + wide o) os))) → Lies p u
             plain true e n = ih (k .1) u n
             plain false e n = here (ifAbsent side x o) (optTextAt x i) (text-fault i o e (k .0)) n
 

@@ -13,8 +13,8 @@ use Rattle.record.specs.declared.operands.OptText.{OptText}
 use Rattle.record.specs.declared.operands.OptText.the-variants.{Absent, Given}
 
 -- 01's F, N, W and V; every other operand is a text
-unfoldable pub isPlain : ℕ → Bool
-isPlain o = eqb o 70 || eqb o 78 || eqb o 87 || eqb o 86
+unfoldable pub noText : ℕ → Bool
+noText o = eqb o 70 || eqb o 78 || eqb o 87 || eqb o 86
 
 abbrev pub given : OptText → Option Text
 given Absent = none
@@ -25,7 +25,7 @@ unfoldable pub textsFrom : Str → ℕ → Str → List Text
 textsFrom x i [] = []
 textsFrom x i (o ∷ os) =
     let rest = textsFrom x (i + wide o) os in
-    cond (isPlain o) rest (withSome (given (optTextAt x i)) rest)
+    cond (noText o) rest (withSome (given (optTextAt x i)) rest)
 
 unfoldable pub textsWith : Str → Option Str → List Text
 textsWith x none = []

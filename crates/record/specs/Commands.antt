@@ -28,8 +28,8 @@ use Rattle.record.specs.declared.command.Command.the-variants as C
 use Rattle.record.specs.declared.command.Step.{Step}
 use Rattle.record.specs.declared.command.Step.the-variants.{Next, Stop}
 
--- 01's table. The operands of each command, in 01's letters: T a text; O a text that may be absent; ! an O that a current record requires; ? an O that is
--- required where is-text is 1; F a flag; N a number that may be absent; W four bytes; V eight.
+-- 01's table. The operands of each command, in 01's letters: T a text; O a text that may be absent; ! an O that a current record requires; ? an O
+-- that is required where is-text is 1; F a flag; N a number that may be absent; W four bytes; V eight.
 unfoldable pub operands : ℕ → Option Str
 operands b =
     cond (eqb b 1) (some (bytes "!F"))
@@ -73,7 +73,14 @@ abbrev pub headAt : List ℕ → Head
 headAt x = record { release = optTextAt x 1; unreleased = flagAt x 4 }
 
 abbrev pub constantAt : List ℕ → Constant
-constantAt x = record { name = textAt x 1; «is_text» = flagAt x 4; integer = u64At x 5; text = optTextAt x 13; «ora_api» = flagAt x 16; «first_release» = optTextAt x 17 }
+constantAt x = record {
+  name = textAt x 1;
+  «is_text» = flagAt x 4;
+  integer = u64At x 5;
+  text = optTextAt x 13;
+  «ora_api» = flagAt x 16;
+  «first_release» = optTextAt x 17;
+}
 
 abbrev pub aliasAt : List ℕ → TypeAlias
 aliasAt x = record { name = textAt x 1; underlying = textAt x 4 }
@@ -94,13 +101,29 @@ abbrev pub structAt : List ℕ → Struct
 structAt x = record { name = textAt x 1; «generation_slot» = optTextAt x 4; «version_constant» = optTextAt x 7 }
 
 abbrev pub familyAt : List ℕ → Family
-familyAt x = record { name = textAt x 1; «discriminant_field» = textAt x 4; «discriminant_type» = textAt x 7; «param_len_field» = textAt x 10; «param_len_type» = optTextAt x 13; standalone = flagAt x 16 }
+familyAt x = record {
+  name = textAt x 1;
+  «discriminant_field» = textAt x 4;
+  «discriminant_type» = textAt x 7;
+  «param_len_field» = textAt x 10;
+  «param_len_type» = optTextAt x 13;
+  standalone = flagAt x 16;
+}
 
 abbrev pub variantAt : List ℕ → Variant
 variantAt x = record { discriminant = textAt x 1 }
 
 abbrev pub fieldAt : List ℕ → Field
-fieldAt x = record { name = textAt x 1; kind = textAt x 4; «type_name» = optTextAt x 7; element = optTextAt x 10; count = optNumberAt x 13; rows = optNumberAt x 18; cols = optNumberAt x 23; size = optNumberAt x 28 }
+fieldAt x = record {
+  name = textAt x 1;
+  kind = textAt x 4;
+  «type_name» = optTextAt x 7;
+  element = optTextAt x 10;
+  count = optNumberAt x 13;
+  rows = optNumberAt x 18;
+  cols = optNumberAt x 23;
+  size = optNumberAt x 28;
+}
 
 abbrev pub keyAt : List ℕ → PluginKey
 keyAt x = record { name = textAt x 1; «first_release» = optTextAt x 4 }

@@ -1,4 +1,5 @@
--- The texts that the code's descriptions of fields stand for; what a field's description is, shape_type of schema.rs, stands in Shapes. Assumes nothing.
+-- The texts that the code's descriptions of fields stand for; what a field's description is, shape_type of schema.rs, stands in Shapes.
+-- Assumes nothing.
 use mathlib.Core.Path.{_≡_}
 use mathlib.Core.List.{_∷_, _++_}
 use mathlib.Core.Option.{none}

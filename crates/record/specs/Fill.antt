@@ -1,5 +1,5 @@
--- Texts put together: pieces one after the other, and a text in the place of a buffer's bytes. This project's own words, for 01's "at the front of the lent
--- buffer and nothing after it". Assumes nothing.
+-- Texts put together: pieces one after the other, and a text in the place of a buffer's bytes. This project's own words, for 01's "at the front of
+-- the lent buffer and nothing after it". Assumes nothing.
 use Prim.Native.Nat.{ℕ, _+_}
 use mathlib.Core.List.{List, [], _∷_, _++_}
 use lib.ListN.{length, take, drop}

@@ -16,7 +16,9 @@ use Rattle.record.specs.Commands.{constantAt, aliasAt, enumAt, bitfieldA
 use Rattle.record.specs.Commands as Commands
 use Rattle.record.specs.Schema.{Const, Key, Alias, Enum, BitField, Struct, Family}
 use Rattle.record.specs.Lists.{constantOf, keyOf, aliasOf, enumOf, bitfieldOf, structOf, familyOf}
-use Rattle.record.specs.Steps.{valuesAt, membersAt, fieldsAt, variantsAt, constantsAt, aliasesAt, enumsAt, bitfieldsAt, structsAt, familiesAt, unstoredAt, constantIn, aliasIn, enumIn, bitfieldIn, structIn, familyIn}
+use Rattle.record.specs.Steps.{valuesAt, membersAt, fieldsAt, variantsAt}
+use Rattle.record.specs.Steps.{constantsAt, aliasesAt, enumsAt, bitfieldsAt, structsAt, familiesAt, unstoredAt}
+use Rattle.record.specs.Steps.{constantIn, aliasIn, enumIn, bitfieldIn, structIn, familyIn}
 use Rattle.record.specs.Seek.{afterAt}
 use Rattle.record.specs.declared.seek.Sought.{Sought}
 use Rattle.record.specs.declared.seek.Sought.the-variants.{Nowhere, At}
@@ -39,7 +41,10 @@ declaredName s p at = textOf p (textAt (drop at s) 1)
 
 -- whether a command declares a name that look-ups ask for: a constant, an alias, an enum, a bit field, a structure, a family or an unstored key
 unfoldable pub declares : ℕ → Bool
-declares b = cond (eqb b 8) true (cond (eqb b 9) true (cond (eqb b 3) true (cond (eqb b 4) true (cond (eqb b 2) true (cond (eqb b 13) true (eqb b 6))))))
+declares b =
+    cond (eqb b 8) true
+    (cond (eqb b 9) true
+    (cond (eqb b 3) true (cond (eqb b 4) true (cond (eqb b 2) true (cond (eqb b 13) true (eqb b 6))))))
 
 -- whether the command at a place has this number and name
 unfoldable pub isNamed : Str → Str → ℕ → Str → ℕ → Bool
@@ -69,8 +74,8 @@ unfoldable pub declaredPlaces : Str → List ℕ
 declaredPlaces s = onto (declaring s) (commandsAt s 0) []
 
 -- the number of the command at a place
-unfoldable pub keyAt : Str → Str → ℕ → ℕ
-keyAt s p at = hashOf (declaredName s p at)
+unfoldable pub hashAt : Str → Str → ℕ → ℕ
+hashAt s p at = hashOf (declaredName s p at)
 
 -- the first of these places that has a number, one more than it is; 0 where none has it
 unfoldable pub latest : (ℕ → ℕ) → ℕ → List ℕ → ℕ
@@ -84,7 +89,7 @@ Linked x key top (q ∷ l) = (q + 7 ≤ top) × (getD x (256 + q / 7) 0 ≡ late
 
 -- an index into which the command at a place was put, where it declares a name
 unfoldable pub putAt : Str → Str → List ℕ → ℕ → List ℕ
-putAt s p x at = cond (declaring s at) (set (set x (256 + at / 7) (getD x (keyAt s p at) 0)) (keyAt s p at) (at + 1)) x
+putAt s p x at = cond (declaring s at) (set (set x (256 + at / 7) (getD x (hashAt s p at) 0)) (hashAt s p at) (at + 1)) x
 
 -- how long an index has to be, by the length of the stream: a place for each number, and an entry for each seven bytes
 abbrev pub IndexRoom : Str → List ℕ → Type 0
@@ -97,7 +102,7 @@ pub record Chained (x : List ℕ) (key : ℕ → ℕ) (top : ℕ) (l : List ℕ)
 
 -- the index of a record
 pub record Indexed (s p : Str) (x : List ℕ) : Type 0 where
-  pub chained : Chained x (keyAt s p) (length s) (declaredPlaces s)
+  pub chained : Chained x (hashAt s p) (length s) (declaredPlaces s)
 
 -- the last of some places that passes a test, one more than it is, and otherwise what was known
 unfoldable pub hitIn : (ℕ → Bool) → List ℕ → ℕ → ℕ
@@ -126,7 +131,7 @@ firstPlace s p b n = hitIn (isNamed s p b n) (declaredPlaces s) 0
 pub record FirstNamed (s p : Str) (x : List ℕ) (b : ℕ) (n : Str) (r : ℕ) : Type 0 where
   pub first : Indexed s p x → r ≡ firstPlace s p b n
 
--- the same of the last one that has a flag, which stands first among the places
+-- the last command of a number and a name that has a flag, which stands first among the places, where the index is the record's
 pub record LastNamed (s p : Str) (x : List ℕ) (b f : ℕ) (n : Str) (r : ℕ) : Type 0 where
   pub last : Indexed s p x → r ≡ firstIn (counts s p b f n) (declaredPlaces s)
 
@@ -173,9 +178,10 @@ pub record PlaceNamed (s p n : Str) (b : ℕ) (r : Sought) : Type 0 where
   pub struct : b ≡ 8 → structIn n (structsAt s p 0) ≡ structPlaced s p r
   pub family : b ≡ 9 → familyIn n (familiesAt s p 0) ≡ familyPlaced s p r
 
--- the same where the index is the record's
+-- the answer is such a place, that of the first command of the number and the name, where the index is the record's
 pub record Declared (s p : Str) (x : List ℕ) (b : ℕ) (n : Str) (r : Sought) : Type 0 where
   pub named : Indexed s p x → PlaceNamed s p n b r
+  pub first : Indexed s p x → r ≡ soughtAt s (firstPlace s p b n)
 
 -- an index by which names can be looked up: the record's, or an empty one, in whose place all commands are looked at
 pub record Findable (s p : Str) (x : List ℕ) : Type 0 where
@@ -194,7 +200,7 @@ pub record PlaceLast (s p n : Str) (b f : ℕ) (r : Sought) : Type 0 where
   pub api-enum : b ≡ 4 → f ≡ 8 → findLast (λ (e : Enum). e .api && eqs (e .name) n) (enumsAt s p 0) ≡ enumPlaced s p r
   pub standalone : b ≡ 9 → f ≡ 16 → findLast (λ (m : Family). m .standalone && eqs (m .name) n) (familiesAt s p 0) ≡ familyPlaced s p r
 
--- the same where the index is the record's
+-- the answer is such a place, where the index is the record's
 pub record LastDeclared (s p : Str) (x : List ℕ) (b f : ℕ) (n : Str) (r : Sought) : Type 0 where
   pub named : Indexed s p x → PlaceLast s p n b f r
 

@@ -1,5 +1,5 @@
--- One command judged: refusals 2, 1, 3, 4, 5, 6 in this order, each at the command's place, after the order in 01, What a check returns, and the operands
--- and places in 01, Record commands. Assumes nothing.
+-- One command judged: refusals 2, 1, 3, 4, 5, 6 in this order, each at the command's place, after the order in 01, What a check returns, and the
+-- operands and places in 01, Record commands. Assumes nothing.
 use Prim.Native.Nat.{ℕ, _+_, _-_}
 use mathlib.Core.List.{[], _∷_}
 use mathlib.Core.Option.{Option, none, some}
@@ -42,8 +42,8 @@ abbrev pub missingIn : Side → Fault
 missingIn Current = Missing
 missingIn Released = Fine
 
--- 01: what an absent text comes to, by the operand's letter: 4 in a plain T, nothing in an O, 5 at "!" in a current record and at "?" where is-text, the flag
--- at 4, is 1
+-- 01: what an absent text comes to, by the operand's letter: 4 in a plain T, nothing in an O, 5 at "!" in a current record and at "?" where
+-- is-text, the flag at 4, is 1
 unfoldable pub ifAbsent : Side → Str → ℕ → Fault
 ifAbsent side x o =
     cond (eqb o 79) Fine
@@ -93,8 +93,8 @@ inFamily InFamily = true
 unfoldable pub follows : Cursor → ℕ → ℕ → Bool
 follows c a b = eqb (c .last) a || eqb (c .last) b
 
--- 01's rules of place: 01 first and once; 05 after 04 or 05; 07 after 06 or 07; 0A while a family is open; 0B while a type is; 0C right after 0B; all others
--- anywhere after the head
+-- 01's rules of place: 01 first and once; 05 after 04 or 05; 07 after 06 or 07; 0A while a family is open; 0B while a type is; 0C right after 0B;
+-- all others anywhere after the head
 unfoldable pub mayStand : Cursor → ℕ → Bool
 mayStand c b =
     cond (eqb b 1) (eqb (c .last) 0)
@@ -122,14 +122,14 @@ parentAfter p b =
 
 -- the whole judgement -----------------------------------------------------------------------------------------------------
 
-abbrev pub moved : Cursor → ℕ → ℕ → Cursor
-moved c b w = record { at = c .at + w; last = b; parent = parentAfter (c .parent) b }
+abbrev pub advanced : Cursor → ℕ → ℕ → Cursor
+advanced c b w = record { at = c .at + w; last = b; parent = parentAfter (c .parent) b }
 
 -- a command without fault. 01: any byte after 0F is 3, at its own place
 unfoldable pub ready : Str → Cursor → ℕ → ℕ → Judged
 ready s c b w =
     cond (eqb b 15) (cond (eqb (c .at + w) (length s)) Done (Refused R.Misplaced (c .at + w)))
-    (Next (commandOf b (drop (c .at) s)) (moved c b w))
+    (Next (commandOf b (drop (c .at) s)) (advanced c b w))
 
 abbrev pub faulted : ℕ → Judged → Fault → Judged
 faulted at j Fine = j

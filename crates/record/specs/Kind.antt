@@ -6,7 +6,9 @@ use lib.ListN.{length}
 use lib.Dec.{eqb}
 use Rattle.record.specs.Base.{Str, bytes, eqs}
 use Rattle.record.specs.declared.kind.Kind.{Kind}
-use Rattle.record.specs.declared.kind.Kind.the-variants.{Scalar, Enum, TypeAlias, Bitfield, InlineArray, InlineArray2d, CstrPtr, StructPtr, StructArrayPtr, StructPtrArrayPtr, TaggedFamPtr, SimpleFamPtr, OpaquePtr, FnPtr, Padding, Text, Other}
+use Rattle.record.specs.declared.kind.Kind.the-variants.{Scalar, Enum, TypeAlias, Bitfield, InlineArray, InlineArray2d, CstrPtr, StructPtr}
+use Rattle.record.specs.declared.kind.Kind.the-variants.{StructArrayPtr, StructPtrArrayPtr, TaggedFamPtr, SimpleFamPtr, OpaquePtr, FnPtr}
+use Rattle.record.specs.declared.kind.Kind.the-variants.{Padding, Text, Other}
 
 pub record Word : Type 0 where
   pub spelt : Str
@@ -37,9 +39,9 @@ unfoldable pub kindWords : List Str
 kindWords = map (λ (w : Word). w .spelt) words
 
 -- what the first entry that is spelt so means
-unfoldable pub meaning : List Word → Str → Kind
-meaning [] w = Other
-meaning (x ∷ xs) w = cond (eqs w (x .spelt)) (x .means) (meaning xs w)
+unfoldable pub kindAmong : List Word → Str → Kind
+kindAmong [] w = Other
+kindAmong (x ∷ xs) w = cond (eqs w (x .spelt)) (x .means) (kindAmong xs w)
 
 -- the entries of words of a length
 unfoldable pub ofLength : ℕ → List Word → List Word
@@ -48,7 +50,7 @@ ofLength n (x ∷ xs) = cond (eqb (length (x .spelt)) n) (x ∷ ofLength n xs) (
 
 -- 01: a kind is recognised by its whole word
 unfoldable pub kindOf : Str → Kind
-kindOf w = meaning words w
+kindOf w = kindAmong words w
 
 abbrev pub isPadding : Kind → Bool
 isPadding Scalar = false

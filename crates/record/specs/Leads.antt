@@ -39,7 +39,8 @@ pub record PutLeast (m t : List ℕ) (e q : ℕ) (after : List ℕ) : Type 0 whe
 
 -- the fields with a mark before a place have been put into the table
 pub record LedTo (s p : Str) (m t : List ℕ) (i : ℕ) : Type 0 where
-  pub each : (q : ℕ) (n : Str) → q < i → (getD m q 0 ≡ 0 → ⊥) → referenceAt s p q ≡ some n → entryOf s p n < length t → Least m (getD t (entryOf s p n) 0) q
+  pub each : (q : ℕ) (n : Str) → q < i → (getD m q 0 ≡ 0 → ⊥) → referenceAt s p q ≡ some n → entryOf s p n < length t
+      → Least m (getD t (entryOf s p n) 0) q
 
 -- a table into which the field at q was put, where the index is the record's
 pub record PutLead (s p : Str) (m x t : List ℕ) (q : ℕ) (after : List ℕ) : Type 0 where

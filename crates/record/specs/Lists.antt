@@ -7,8 +7,10 @@ use lib.ListN.{getD, drop}
 use lib.Dec.{eqb}
 use Rattle.record.specs.Base.{Str, first, orElse}
 use Rattle.record.specs.Stretch.{textOf}
-use Rattle.record.specs.Schema.{Heading, Value, integer, words, Const, Alias, Enum, EnumValue, BitField, Member, Key, Field, Struct, Variant, Family, Version}
-use Rattle.record.specs.Commands.{headAt, constantAt, aliasAt, enumAt, valueAt, bitfieldAt, memberAt, structAt, familyAt, variantAt, fieldAt, keyAt, versionAt}
+use Rattle.record.specs.Schema.{Heading, Value, integer, words, Const, Alias, Enum, EnumValue, BitField, Member}
+use Rattle.record.specs.Schema.{Key, Field, Struct, Variant, Family, Version}
+use Rattle.record.specs.Commands.{headAt, constantAt, aliasAt, enumAt, valueAt, bitfieldAt, memberAt}
+use Rattle.record.specs.Commands.{structAt, familyAt, variantAt, fieldAt, keyAt, versionAt}
 use Rattle.record.specs.declared.operands.OptText.{OptText}
 use Rattle.record.specs.declared.operands.OptText.the-variants.{Absent, Given}
 use Rattle.record.specs.declared.operands.OptNumber.{OptNumber}

@@ -1,4 +1,5 @@
--- The marks of a record's three roots, the code's way to Owner, and the owner that the calls answer as a stretch (01, What a check returns). Assumes nothing.
+-- The marks of a record's three roots, the code's way to Owner, and the owner that the calls answer as a stretch (01, What a
+-- check returns). Assumes nothing.
 use mathlib.Core.Path.{_≡_}
 use mathlib.Core.List.{List, [], _∷_}
 use mathlib.Core.Option.{Option, none, some}
@@ -14,7 +15,7 @@ use Rattle.record.specs.Index.{Indexed}
 use Rattle.record.specs.Owner.{structInSlot, ownershipOrder, ownerOf, Edge, Leads}
 use Rattle.record.specs.References.{typesAt}
 use Rattle.record.specs.Versioned.{structCommandsAt, commandInSlot, InSlot, InSlots}
-use Rattle.record.specs.Marks.{targetAt, referenceAt, Full, Walked}
+use Rattle.record.specs.Marks.{targetAt, referenceAt, Visited, Walked}
 use Rattle.record.specs.Leads.{LeadsTo}
 use Rattle.record.specs.declared.text.Text.{Text}
 use Rattle.record.specs.declared.command as D
@@ -34,10 +35,10 @@ pub record Through (s p slot n : Str) : Type 0 where
   pub fills : structInSlot slot (structsAt s p 0) ≡ some root
   pub leads : Leads (typesAt s p) (root .name) n
 
--- a root's walk
+-- a root's walk: its own type was visited
 pub record Claimed (s p : Str) (mark : ℕ) (slot : Str) (before after : List ℕ) : Type 0 where
   pub walked : Walked s p mark (Through s p slot) before after
-  pub full : (root : Struct) → structInSlot slot (structsAt s p 0) ≡ some root → Full s p after (root .name)
+  pub visited : (root : Struct) → structInSlot slot (structsAt s p 0) ≡ some root → Visited s p after (root .name)
 
 -- the walk of what is taken for the root in a slot, where it is that root and the index is the record's
 pub record RootWalked (s p : Str) (x : List ℕ) (mark : ℕ) (filled : StructStep) (before after : List ℕ) : Type 0 where
@@ -67,7 +68,11 @@ pub record Known (s p : Str) (m x : List ℕ) : Type 0 where
   pub marks : OwnerMarks s p m
   pub index : Indexed s p x
 
--- marks that were set by roots and an index: the record's where there is room and both are the record's, and as they were where there is no room
+-- marks that were set by roots and an index: the record's, where both are the record's
+pub record RootsMarked (s p : Str) (roots : Versioned) (x after : List ℕ) : Type 0 where
+  pub by : InSlots s p roots → Indexed s p x → OwnerMarks s p after
+
+-- the same where there is room for them; they stay as they were where there is none
 pub record OwnersMarked (s p : Str) (roots : Versioned) (x before after : List ℕ) : Type 0 where
   pub within : length s ≤ length before → InSlots s p roots → Indexed s p x → OwnerMarks s p after
   pub beyond : length before < length s → after ≡ before
@@ -116,7 +121,8 @@ pub record OwnerIn (s p : Str) (m : List ℕ) (n slot : Str) (mark : ℕ) (r : O
   pub owned : (t : Text) → r ≡ Owned t → Takes s p m n mark filled t
   pub nobody : r ≡ Nobody → (root : D.Struct.Struct) (after : Cursor) → filled ≡ AStruct root after → Claims s p m n mark root → ⊥
 
--- the same of what is taken for the root in a slot, where it is that root, the index is the record's, and what is said of the fields that refer to the name holds
+-- the answer of what is taken for the root in a slot, where it is that root, the index is the record's, and what is said of the
+-- fields that refer to the name holds
 pub record OwnerBy (s p : Str) (m x : List ℕ) (filled : StructStep) (lead : Lead) (n : Str) (mark : ℕ) (r : Owner) : Type 0 where
   pub by : (slot : Str) → InSlot s p slot filled → Indexed s p x → LeadsTo s p m n lead → OwnerIn s p m n slot mark r
 
@@ -148,11 +154,11 @@ ownerMeant p Nobody = none
 ownerMeant p (Owned t) = some (textOf p t)
 
 -- the answer: the owner's name is the definition's, and its stretch is that of the root's own command
-pub record Answered (s p n : Str) (r : Owner) : Type 0 where
+pub record IsOwner (s p n : Str) (r : Owner) : Type 0 where
   pub owner : ownerMeant p r ≡ ownerOf (typesAt s p) n
   pub stretch : r ≡ ownerAt s p n
 
 -- the same of a stream with no more bytes than there is room for; in a longer one nothing is owned
 pub record OwnerFound (room : ℕ) (s p n : Str) (r : Owner) : Type 0 where
-  pub within : length s ≤ room → Answered s p n r
+  pub within : length s ≤ room → IsOwner s p n r
   pub beyond : room < length s → r ≡ Nobody

@@ -5,7 +5,7 @@ use Prim.Native.Nat.{_+_, _-_, _≤_}
 use lib.ListN.{length}
 use Rattle.record.specs.Base.{Str}
 use Rattle.record.specs.Commands.{commandsAt}
-use Rattle.record.specs.Shapes.{Place, places, limit, capped}
+use Rattle.record.specs.Shapes.{FieldLayout, places, limit, capped}
 use Rattle.record.specs.Reading.{Rec, schemaOf, Opened, opened, Reading, read, refuse, Parsed, ok, bad, parse, reading}
 use Rattle.record.specs.declared.command.Cursor.{Cursor}
 use Rattle.record.specs.declared.refusal.Side.{Side}
@@ -26,7 +26,7 @@ readingOf r Readable = read (schemaOf r)
 readingOf r (Refused n p) = refuse n p
 
 -- a field that ends within the limit: its offset and its size as far as the limit are exact
-pub record Exactly (f : Place) : Type 0 where
+pub record Exactly (f : FieldLayout) : Type 0 where
   pub ends : f .offset + f .size ≤ limit
   pub offset : capped (f .offset) ≡ f .offset
   pub size : capped (f .size) ≡ f .size
@@ -35,7 +35,7 @@ pub record Exactly (f : Place) : Type 0 where
 abbrev pub Exact : Rec → Type 0
 Exact r =
     (t : Opened) → List·Memᴰ t (opened (r .stream) (r .pool) (commandsAt (r .stream) 0))
-    → (f : Place) → List·Memᴰ f (places (schemaOf r) 0 (t .fields)) → Exactly f
+    → (f : FieldLayout) → List·Memᴰ f (places (schemaOf r) 0 (t .fields)) → Exactly f
 
 pub record Read (side : Side) (r : Rec) (o : Outcome) : Type 0 where
   pub answer : readingOf r o ≡ reading side r

@@ -1,5 +1,5 @@
--- The reading of a record: a stream of commands and a pool of texts to a schema, or a refusal with its place, in the order of 01, What a check returns.
--- Assumes nothing.
+-- The reading of a record: a stream of commands and a pool of texts to a schema, or a refusal with its place, in the order of 01, What a check
+-- returns. Assumes nothing.
 use mathlib.Core.List.{List, [], _∷_, _++_}
 use mathlib.Core.Option.{Option, none, some}
 use mathlib.Core.Bool.{Bool, true, false, _&&_, _||_, cond}
@@ -13,7 +13,7 @@ use Rattle.record.specs.Letters.{oddLetter}
 use Rattle.record.specs.Commands.{familyAt, commandsAt, start}
 use Rattle.record.specs.Lists.{heads, constants, aliases, enums, bitfields, structs, families, unstored, versions, fields, familyOf}
 use Rattle.record.specs.Judge.{judgedAt}
-use Rattle.record.specs.Shapes.{Place, places, prefix, limit}
+use Rattle.record.specs.Shapes.{FieldLayout, places, famPrefix, limit}
 use Rattle.record.specs.declared.command.Cursor.{Cursor}
 use Rattle.record.specs.declared.refusal.Side.{Side}
 use Rattle.record.specs.declared.refusal.Refusal.{Refusal}
@@ -72,7 +72,7 @@ pub record Opened : Type 0 where
 -- a family's fields begin with its front
 unfoldable pub openedAt : Str → Str → ℕ → List ℕ → List Opened → List Opened
 openedAt s p at ps l =
-    cond (eqb (getD s at 0) 9) (record { place = at; fields = prefix (familyOf p (familyAt (drop at s)) [] []) ++ fields s p ps } ∷ l)
+    cond (eqb (getD s at 0) 9) (record { place = at; fields = famPrefix (familyOf p (familyAt (drop at s)) [] []) ++ fields s p ps } ∷ l)
     (cond (eqb (getD s at 0) 8 || eqb (getD s at 0) 10) (record { place = at; fields = fields s p ps } ∷ l) l)
 
 -- every type in the order of the stream, whether another of its name comes later or not
@@ -81,7 +81,7 @@ opened s p [] = []
 opened s p (at ∷ ps) = openedAt s p at ps (opened s p ps)
 
 -- 01: a field's size or end above the limit; its size is above it only if its end is
-unfoldable pub large : Place → Bool
+unfoldable pub large : FieldLayout → Bool
 large f = ltb limit (f .offset + f .size)
 
 unfoldable pub vast : Schema → Opened → Bool

@@ -44,11 +44,11 @@ number acc [] = acc
 number acc (a ∷ s) = number (acc * 10 + (a - 48)) s
 
 -- a number of 32 bits
-unfoldable pub parsed : ℕ → Parsed
-parsed n = cond (ltb n (2 ^ 32)) (Number n) Vast
+unfoldable pub asU32 : ℕ → Parsed
+asU32 n = cond (ltb n (2 ^ 32)) (Number n) Vast
 
 unfoldable pub parsedPart : Str → ℕ → Parsed
-parsedPart s i = parsed (number 0 (getD (parts s) i []))
+parsedPart s i = asU32 (number 0 (getD (parts s) i []))
 
 abbrev pub ofNumbers : Parsed → Parsed → Parsed → ReleaseParts
 ofNumbers Vast b c = NotARelease

@@ -90,14 +90,14 @@ shapeType f = f .kind ++ restAs (kindOf (f .kind)) f
 
 -- places -----------------------------------------------------------------------------------------------------------------
 
-pub record Place : Type 0 where
+pub record FieldLayout : Type 0 where
   pub name : Str
   pub offset : ℕ
   pub size : ℕ
   pub described : Str
   pub padding : Bool
 
-unfoldable pub placeOf : Schema → ℕ → Field → Place
+unfoldable pub placeOf : Schema → ℕ → Field → FieldLayout
 placeOf s at f = record {
   name = f .name;
   offset = at;
@@ -107,7 +107,7 @@ placeOf s at f = record {
 }
 
 -- 01: fields follow each other without alignment
-unfoldable pub places : Schema → ℕ → List Field → List Place
+unfoldable pub places : Schema → ℕ → List Field → List FieldLayout
 places s at [] = []
 places s at (f ∷ fs) = placeOf s at f ∷ places s (at + shapeSize s f) fs
 
@@ -125,8 +125,8 @@ plain n k t = record {
 }
 
 -- 01: family layouts begin with discriminant and length field
-unfoldable pub prefix : Family → List Field
-prefix m =
+unfoldable pub famPrefix : Family → List Field
+famPrefix m =
     plain (m .discField) (bytes "enum") (m .discType)
     ∷ plain (m .lenField) (bytes "scalar") (orElse (m .lenType) (bytes "u8")) ∷ []
 

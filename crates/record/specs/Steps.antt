@@ -1,5 +1,5 @@
--- The lists of a record (01, Record commands) from a place on, the first of a name in each, and what a step along each answers. Written by tools/lists.py.
--- Assumes nothing.
+-- The lists of a record (01, Record commands) from a place on, the first of a name in each, and what a step along each answers. Written by
+-- tools/lists.py. Assumes nothing.
 use mathlib.Core.Path.{_≡_}
 use mathlib.Core.List.{List, [], _∷_, List·Memᴰ}
 use mathlib.Core.Option.{Option, none, some}
@@ -8,7 +8,9 @@ use lib.ListN.{length, getD, drop}
 use Rattle.record.specs.Base.{Str, eqs, find, first}
 use Rattle.record.specs.Schema.{Alias, BitField, Const, Enum, EnumValue, Family, Field, Heading, Key, Member, Struct, Variant, Version}
 use Rattle.record.specs.Commands.{fieldAt, commandsAt}
-use Rattle.record.specs.Lists.{aliasOf, aliases, bitfieldOf, bitfields, constantOf, constants, enumOf, enums, families, familyOf, fieldOf, fields, headOf, heads, keyOf, keys, memberOf, members, structOf, structs, unstored, valueOf, values, variantOf, variants, versionOf, versions}
+use Rattle.record.specs.Lists.{aliasOf, aliases, bitfieldOf, bitfields, constantOf, constants, enumOf, enums, families, familyOf, fieldOf}
+use Rattle.record.specs.Lists.{fields, headOf, heads, keyOf, keys, memberOf, members, structOf, structs, unstored, valueOf, values, variantOf}
+use Rattle.record.specs.Lists.{variants, versionOf, versions}
 use Rattle.record.specs.declared.command as D
 use Rattle.record.specs.declared.command.Cursor.{Cursor}
 use Rattle.record.specs.declared.lists.HeadStep.{HeadStep}

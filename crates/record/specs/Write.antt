@@ -15,8 +15,9 @@ largest = 18446744073709551615
 unfoldable pub saturated : ℕ → ℕ
 saturated n = cond (leb n largest) n largest
 
--- the buffer before, a place in it, the bytes, the buffer afterwards and the answer. The answer is the place after the bytes, whether they fit or not;
--- where they fit they stand in their place, with the rest as it was. Where they do not fit, the bytes of the buffer afterwards are free: a caller measures first
+-- the buffer before, a place in it, the bytes, the buffer afterwards and the answer. The answer is the place after the bytes, whether they fit or
+-- not; where they fit they stand in their place, with the rest as it was. Where they do not fit, the bytes of the buffer afterwards are free: a
+-- caller measures first
 pub record Puts (out : Str) (at : ℕ) (xs after : Str) (r : ℕ) : Type 0 where
   pub end : r ≡ saturated (at + length xs)
   pub long : length after ≡ length out

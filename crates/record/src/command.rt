@@ -8,7 +8,8 @@ use crate::operands::opt_text_at;
 use crate::operands::text_at;
 use crate::text::Text;
 ghost use mathlib.Core.Path.{_≡_};
-ghost use Rattle.record.specs.Commands.{headAt, constantAt, aliasAt, enumAt, valueAt, bitfieldAt, memberAt, structAt, familyAt, variantAt, fieldAt, keyAt, versionAt, widthOf, commandOf, start, place, stepAt};
+ghost use Rattle.record.specs.Commands.{headAt, constantAt, aliasAt, enumAt, valueAt, bitfieldAt, memberAt, structAt};
+ghost use Rattle.record.specs.Commands.{familyAt, variantAt, fieldAt, keyAt, versionAt, widthOf, commandOf, start, place, stepAt};
 
 // The head of a record.
 pub struct Head {

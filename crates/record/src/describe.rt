@@ -118,7 +118,9 @@ fn put_times(out: &mut [u8], at: usize, n: u32) -> usize
 
 // Puts a kind and the space after it.
 fn put_kind(out: &mut [u8], at: usize, pool: &[u8], kind: Text) -> usize
-    ensures { λ r. ⌜ Puts (now (out .entry)) at (textOf (now (pool .entry)) kind ++ bytes " ") (now (out .exit)) r × (r ≤ at + 256) ⌝ }
+    ensures { λ r.
+        let text : Str = textOf (now (pool .entry)) kind ++ bytes " " in
+        ⌜ Puts (now (out .entry)) at text (now (out .exit)) r × (r ≤ at + 256) ⌝ }
 {
     let next = put_text(out, at, pool, kind);
     put(out, next, b" ")
@@ -126,7 +128,9 @@ fn put_kind(out: &mut [u8], at: usize, pool: &[u8], kind: Text) -> usize
 
 // Puts a kind and a name.
 fn put_pair(out: &mut [u8], at: usize, pool: &[u8], kind: Text, name: Text) -> usize
-    ensures { λ r. ⌜ Puts (now (out .entry)) at (describedAs (now (pool .entry)) (Description.Named kind name)) (now (out .exit)) r × (r ≤ at + 511) ⌝ }
+    ensures { λ r.
+        let text : Str = describedAs (now (pool .entry)) (Description.Named kind name) in
+        ⌜ Puts (now (out .entry)) at text (now (out .exit)) r × (r ≤ at + 511) ⌝ }
 {
     let next = put_kind(out, at, pool, kind);
     put_text(out, next, pool, name)
@@ -134,7 +138,9 @@ fn put_pair(out: &mut [u8], at: usize, pool: &[u8], kind: Text, name: Text) -> u
 
 // Puts a kind, an element and a count.
 fn put_array(out: &mut [u8], at: usize, pool: &[u8], kind: Text, element: OptText, n: u32) -> usize
-    ensures { λ r. ⌜ Puts (now (out .entry)) at (describedAs (now (pool .entry)) (Description.Array kind element n)) (now (out .exit)) r × (r ≤ at + 535) ⌝ }
+    ensures { λ r.
+        let text : Str = describedAs (now (pool .entry)) (Description.Array kind element n) in
+        ⌜ Puts (now (out .entry)) at text (now (out .exit)) r × (r ≤ at + 535) ⌝ }
 {
     let next = put_kind(out, at, pool, kind);
     let past = put_element(out, next, pool, element);
@@ -163,7 +169,10 @@ pub fn put_description(out: &mut [u8], at: usize, pool: &[u8], d: Description) -
 
 // Puts a kind and the type that a field names, or else its element.
 fn put_named(out: &mut [u8], at: usize, pool: &[u8], kind: Text, s: &[u8]) -> usize
-    ensures { λ r. ⌜ Puts (now (out .entry)) at (textOf (now (pool .entry)) kind ++ named (fieldOf (now (pool .entry)) (fieldAt (now (s .entry))) none)) (now (out .exit)) r × (r ≤ at + 511) ⌝ }
+    ensures { λ r.
+        let p : Str = now (pool .entry) in
+        let text : Str = textOf p kind ++ named (fieldOf p (fieldAt (now (s .entry))) none) in
+        ⌜ Puts (now (out .entry)) at text (now (out .exit)) r × (r ≤ at + 511) ⌝ }
 {
     if let OptText::Given(name) = opt_text_at(s, 7) {
         return put_pair(out, at, pool, kind, name);
@@ -176,7 +185,9 @@ fn put_named(out: &mut [u8], at: usize, pool: &[u8], kind: Text, s: &[u8]) -> us
 
 // Puts how a field's type reads, from the bytes that begin with its command: without its parts, since the list puts every field.
 pub fn put_shape(out: &mut [u8], at: usize, pool: &[u8], s: &[u8]) -> usize
-    ensures { λ r. ⌜ Puts (now (out .entry)) at (shapeType (fieldOf (now (pool .entry)) (fieldAt (now (s .entry))) none)) (now (out .exit)) r × (r ≤ at + 559) ⌝ }
+    ensures { λ r.
+        let text : Str = shapeType (fieldOf (now (pool .entry)) (fieldAt (now (s .entry))) none) in
+        ⌜ Puts (now (out .entry)) at text (now (out .exit)) r × (r ≤ at + 559) ⌝ }
 {
     let kind = text_at(s, 4);
     match kind_of(bytes_of(pool, kind)) {

@@ -65,8 +65,8 @@ fn no_ends() -> Ends
     }
 }
 
-// Fills an index that has room for the record, and finds where its lists end.
-fn fill_both(stream: &[u8], pool: &[u8], index: &mut [u16]) -> Ends
+// Fills the index of a record, for which it has room, and finds where the lists end in the same walk: a check needs both.
+pub fn index_with_ends(stream: &[u8], pool: &[u8], index: &mut [u16]) -> Ends
     requires { ⌜ (length (now stream) ≤ 32768) × IndexRoom (now stream) (now index) ⌝ }
     ensures { λ r. ⌜ IndexedTo (now (stream .entry)) (now (pool .entry)) (now (index .exit)) r ⌝ }
 {
@@ -82,17 +82,4 @@ fn fill_both(stream: &[u8], pool: &[u8], index: &mut [u16]) -> Ends
         ends = noted(ends, byte_at(stream, at), after);
         at = after;
     }
-}
-
-// Fills the index of a record, and finds where its lists end in the same walk: a check needs both.
-pub fn index_with_ends(stream: &[u8], pool: &[u8], index: &mut [u16]) -> Ends
-    ensures { λ r. ⌜ (length (now (stream .entry)) ≤ 32768 → IndexRoom (now (stream .entry)) (now (index .entry)) → IndexedTo (now (stream .entry)) (now (pool .entry)) (now (index .exit)) r) ⌝ }
-{
-    if 32768 < stream.len() {
-        return no_ends();
-    }
-    if index.len() <= 256 + stream.len() / 7 {
-        return no_ends();
-    }
-    fill_both(stream, pool, index)
 }

@@ -1,6 +1,7 @@
 // An index of the names that a record declares, in a slice that the caller lends. Names are kept by a number below 256 that their length, their
 // first and their last bytes give: first the place of the last command of each number, then for each command the place of the one before it of its
-// number. Every place is one more than it is, and 0 is none. A declaring command takes seven bytes at least, so no two have one entry: their place divided by seven.
+// number. Every place is one more than it is, and 0 is none. A declaring command takes seven bytes at least, so no two have one entry: their place
+// divided by seven.
 use crate::cut;
 use crate::le::byte_at;
 use crate::le::u32_at;
@@ -15,7 +16,9 @@ use crate::text::same;
 ghost use mathlib.Core.Path.{_≡_};
 ghost use Prim.Native.Nat.{_+_, _/_, _≤_, _<_};
 ghost use lib.ListN.{length, getD, set};
-ghost use Rattle.record.specs.Index.{mixed, hashOf, declaredName, declares, isNamed, linkBefore, putAt, IndexRoom, Indexed, Headless, FirstNamed, PlaceNamed, Declared, isFlagged, counts, LastNamed, LastDeclared, Alone, Looked};
+ghost use Rattle.record.specs.Base.{Str};
+ghost use Rattle.record.specs.Index.{mixed, hashOf, declaredName, declares, isNamed, linkBefore, putAt, IndexRoom, Indexed, Headless};
+ghost use Rattle.record.specs.Index.{FirstNamed, PlaceNamed, Declared, isFlagged, counts, LastNamed, LastDeclared, Alone, Looked};
 
 // A byte of a text as a larger number; 0 past its end.
 fn size_at(name: &[u8], at: usize) -> usize
@@ -157,7 +160,9 @@ fn fill_room(stream: &[u8], pool: &[u8], index: &mut [u16])
 
 // Fills the index of a record.
 pub fn fill_index(stream: &[u8], pool: &[u8], index: &mut [u16])
-    ensures { λ _. ⌜ (length (now (stream .entry)) ≤ 32768 → IndexRoom (now (stream .entry)) (now (index .entry)) → Indexed (now (stream .entry)) (now (pool .entry)) (now (index .exit))) ⌝ }
+    ensures { λ _.
+        let s : Str = now (stream .entry) in
+        ⌜ (length s ≤ 32768 → IndexRoom s (now (index .entry)) → Indexed s (now (pool .entry)) (now (index .exit))) ⌝ }
 {
     if 32768 < stream.len() {
         return;
@@ -215,7 +220,7 @@ pub fn find_declared(stream: &[u8], pool: &[u8], index: &[u16], number: u8, name
     Sought::At(place, after_at(stream, place))
 }
 
-// The same without an index, by a look at every command of the number.
+// The place of the first command of a number and a name, and the place after it, by a look at every command of the number.
 fn scan_declared(stream: &[u8], pool: &[u8], number: u8, name: &[u8]) -> Sought
     ensures { λ r. ⌜ PlaceNamed (now (stream .entry)) (now (pool .entry)) (now (name .entry)) number r ⌝ }
 {
@@ -261,8 +266,8 @@ fn counts(stream: &[u8], pool: &[u8], number: u8, flag: usize, name: &[u8], plac
     false
 }
 
-// The last command of a number and a name whose flag at a place of the command is set (any, where that place is 0), one more than its place; 0 where there
-// is none. It is the first that is seen.
+// The last command of a number and a name whose flag at a place of the command is set (any, where that place is 0), one more than its place; 0
+// where there is none. It is the first that is seen.
 fn last_named(
     stream: &[u8],
     pool: &[u8],

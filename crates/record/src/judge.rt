@@ -15,9 +15,10 @@ ghost use Prim.Native.Nat.{_≤_, _+_};
 ghost use lib.ListN.{length, drop};
 ghost use lib.Dec.{eqb};
 ghost use mathlib.Core.Bool.{not};
-ghost use Rattle.record.specs.Base.{bytes};
+ghost use Rattle.record.specs.Base.{Str, bytes};
 ghost use Rattle.record.specs.Commands.{operands, wide, widthOf};
-ghost use Rattle.record.specs.Judge.{worseOf, ifAbsent, textFault, flagFault, operandFault, faultsFrom, faultsOf, parentAfter, follows, isOpen, inFamily, rowOf, rowAt, ready, faulted, judgedAt};
+ghost use Rattle.record.specs.Judge.{worseOf, ifAbsent, textFault, flagFault, operandFault, faultsFrom, faultsOf};
+ghost use Rattle.record.specs.Judge.{parentAfter, follows, isOpen, inFamily, rowOf, rowAt, ready, faulted, judgedAt};
 
 // The least refusal among a command's operands, 4 before 5 before 6.
 pub enum Fault {
@@ -438,7 +439,9 @@ impl Cursor {
     // A whole command that may stand here, by its operands: 4, 5 and 6.
     fn judge(self, side: Side, stream: &[u8], pool: &[u8], byte: u8, width: usize) -> Judged
         requires { ⌜ (self .at + width ≤ length (now stream)) × (width ≡ widthOf byte) ⌝ }
-        ensures { λ r. ⌜ r ≡ faulted (self .at) (ready (now (stream .entry)) self byte width) (faultsOf side (now (pool .entry)) (drop (self .at) (now (stream .entry))) (operands byte)) ⌝ }
+        ensures { λ r.
+            let s : Str = now (stream .entry) in
+            ⌜ r ≡ faulted (self .at) (ready s self byte width) (faultsOf side (now (pool .entry)) (drop (self .at) s) (operands byte)) ⌝ }
     {
         let at = self.at;
         match faults(side, pool, &stream[at..], byte) {
@@ -449,8 +452,8 @@ impl Cursor {
         }
     }
 
-    // The command at the cursor with the cursor after it, or the refusal and its place: 2, then 1, then 3, then those of its operands. All of it is in
-    // one place for every number, so that a caller who drops the command does not pay for it.
+    // The command at the cursor with the cursor after it, or the refusal and its place: 2, then 1, then 3, then those of its operands. All of it is
+    // in one place for every number, so that a caller who drops the command does not pay for it.
     pub fn judged(self, side: Side, stream: &[u8], pool: &[u8]) -> Judged
         ensures { λ r. ⌜ r ≡ judgedAt side (now (stream .entry)) (now (pool .entry)) self ⌝ }
     {

@@ -1,6 +1,7 @@
-// For each declared type a place whose mark is no higher than that of any field with a mark that refers to it: a table, in a slice that the caller lends,
-// where many names are asked of one walk. The entry of a type is (its command's place + 1) / 10, since no two stand within ten bytes, and names that nobody
-// declares share entry 0. A place is kept as one more than it is. A table of no entries knows nothing.
+// For each declared type a place whose mark is no higher than that of any field with a mark that refers to it: a table, in a slice
+// that the caller lends, where many names are asked of one walk. The entry of a type is (its command's place + 1) / 10, since no two
+// stand within ten bytes, and names that nobody declares share entry 0. A place is kept as one more than it is. A table of no
+// entries knows nothing.
 use crate::index::first_named;
 use crate::index::link_at;
 use crate::le::byte_at;
@@ -9,6 +10,7 @@ use crate::operands::OptText;
 use crate::ownership::eight_clear;
 use crate::text::bytes_of;
 ghost use Prim.Native.Nat.{_<_};
+ghost use Rattle.record.specs.Base.{Str};
 ghost use Rattle.record.specs.Leads.{EntryNamed, IsLeast, PutLeast, PutLead, LeadsFilled, LeadGiven};
 
 // A place whose mark is no higher than that of any field with a mark that refers to a name, as far as it is known.
@@ -63,7 +65,10 @@ fn put_lead(
     place: usize,
 )
     requires { ⌜ place < 32768 ⌝ }
-    ensures { λ _. ⌜ PutLead (now (stream .entry)) (now (pool .entry)) (now (marks .entry)) (now (index .entry)) (now (leads .entry)) place (now (leads .exit)) ⌝ }
+    ensures { λ _.
+        let s : Str = now (stream .entry) in
+        let p : Str = now (pool .entry) in
+        ⌜ PutLead s p (now (marks .entry)) (now (index .entry)) (now (leads .entry)) place (now (leads .exit)) ⌝ }
 {
     if byte_at(marks, place) == 0 {
         return;

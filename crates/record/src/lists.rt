@@ -34,7 +34,11 @@ use crate::seek::seek;
 use crate::text::bytes_of;
 use crate::text::same;
 ghost use mathlib.Core.Path.{_≡_};
-ghost use Rattle.record.specs.Steps.{HeadsFrom, ConstantsFrom, AliasesFrom, ValuesFrom, valuesAt, valueIn, valueFound, EnumsFrom, MembersFrom, membersAt, memberIn, memberFound, BitfieldsFrom, bitfieldsAt, bitfieldIn, bitfieldFound, KeysFrom, FieldsFrom, StructsFrom, VariantsFrom, FamiliesFrom, familiesAt, familyIn, familyFound, UnstoredFrom, VersionsFrom};
+ghost use Rattle.record.specs.Base.{Str};
+ghost use Rattle.record.specs.Steps.{HeadsFrom, ConstantsFrom, AliasesFrom, ValuesFrom, EnumsFrom, MembersFrom, BitfieldsFrom, KeysFrom};
+ghost use Rattle.record.specs.Steps.{FieldsFrom, StructsFrom, VariantsFrom, FamiliesFrom, UnstoredFrom, VersionsFrom};
+ghost use Rattle.record.specs.Steps.{valuesAt, valueIn, valueFound, membersAt, memberIn, memberFound, bitfieldsAt, bitfieldIn, bitfieldFound};
+ghost use Rattle.record.specs.Steps.{familiesAt, familyIn, familyFound};
 
 pub enum HeadStep {
     NoHead,
@@ -248,7 +252,10 @@ pub fn next_version(stream: &[u8], from: Cursor) -> VersionStep
 
 // The first value of that name from a cursor on.
 pub fn find_value(stream: &[u8], pool: &[u8], from: Cursor, name: &[u8]) -> ValueStep
-    ensures { λ r. ⌜ valueIn (now (name .entry)) (valuesAt (now (stream .entry)) (now (pool .entry)) (from .at)) ≡ valueFound (now (stream .entry)) (now (pool .entry)) r ⌝ }
+    ensures { λ r.
+        let s : Str = now (stream .entry) in
+        let p : Str = now (pool .entry) in
+        ⌜ valueIn (now (name .entry)) (valuesAt s p (from .at)) ≡ valueFound s p r ⌝ }
 {
     let mut cursor = from;
     loop {
@@ -264,7 +271,10 @@ pub fn find_value(stream: &[u8], pool: &[u8], from: Cursor, name: &[u8]) -> Valu
 
 // The first member of that name from a cursor on.
 pub fn find_member(stream: &[u8], pool: &[u8], from: Cursor, name: &[u8]) -> MemberStep
-    ensures { λ r. ⌜ memberIn (now (name .entry)) (membersAt (now (stream .entry)) (now (pool .entry)) (from .at)) ≡ memberFound (now (stream .entry)) (now (pool .entry)) r ⌝ }
+    ensures { λ r.
+        let s : Str = now (stream .entry) in
+        let p : Str = now (pool .entry) in
+        ⌜ memberIn (now (name .entry)) (membersAt s p (from .at)) ≡ memberFound s p r ⌝ }
 {
     let mut cursor = from;
     loop {
@@ -280,7 +290,10 @@ pub fn find_member(stream: &[u8], pool: &[u8], from: Cursor, name: &[u8]) -> Mem
 
 // The first bit field of that name from a cursor on.
 pub fn find_bitfield(stream: &[u8], pool: &[u8], from: Cursor, name: &[u8]) -> BitfieldStep
-    ensures { λ r. ⌜ bitfieldIn (now (name .entry)) (bitfieldsAt (now (stream .entry)) (now (pool .entry)) (from .at)) ≡ bitfieldFound (now (stream .entry)) (now (pool .entry)) r ⌝ }
+    ensures { λ r.
+        let s : Str = now (stream .entry) in
+        let p : Str = now (pool .entry) in
+        ⌜ bitfieldIn (now (name .entry)) (bitfieldsAt s p (from .at)) ≡ bitfieldFound s p r ⌝ }
 {
     let mut cursor = from;
     loop {
@@ -296,7 +309,10 @@ pub fn find_bitfield(stream: &[u8], pool: &[u8], from: Cursor, name: &[u8]) -> B
 
 // The first family of that name from a cursor on.
 pub fn find_family(stream: &[u8], pool: &[u8], from: Cursor, name: &[u8]) -> FamilyStep
-    ensures { λ r. ⌜ familyIn (now (name .entry)) (familiesAt (now (stream .entry)) (now (pool .entry)) (from .at)) ≡ familyFound (now (stream .entry)) (now (pool .entry)) r ⌝ }
+    ensures { λ r.
+        let s : Str = now (stream .entry) in
+        let p : Str = now (pool .entry) in
+        ⌜ familyIn (now (name .entry)) (familiesAt s p (from .at)) ≡ familyFound s p r ⌝ }
 {
     let mut cursor = from;
     loop {

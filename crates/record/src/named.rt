@@ -1,5 +1,5 @@
-// The constants, enums and unstored keys of a record by their names, found by its index: the first where the Rust looks along a list, the last where it
-// collects a map.
+// The constants, enums and unstored keys of a record by their names, found by its index: the first where the Rust looks along a
+// list, the last where it collects a map.
 use crate::command::Cursor;
 use crate::command::constant_at;
 use crate::command::enum_at;

@@ -5,7 +5,7 @@ use crate::le::byte_at;
 use crate::leads::Lead;
 use crate::leads::lead_to;
 use crate::lists::StructStep;
-use crate::marks::mark_owners;
+use crate::marks::mark_roots;
 use crate::marks::reference_at;
 use crate::operands::opt_text_at;
 use crate::references::has_slot;
@@ -19,13 +19,13 @@ use texts::le::word;
 ghost use mathlib.Core.Path.{_≡_};
 ghost use Prim.Native.Nat.{_≤_, _<_};
 ghost use lib.ListN.{length};
-ghost use Rattle.record.specs.Base.{isText};
+ghost use Rattle.record.specs.Base.{Str, isText};
 ghost use Rattle.record.specs.Index.{IndexRoom};
-ghost use Rattle.record.specs.Marks.{referenceAt};
+ghost use Rattle.record.specs.Marks.{referenceAt, Clear};
 ghost use Rattle.record.specs.Leads.{LeadTable, LeadsTo};
 ghost use Rattle.record.specs.Versioned.{InSlots};
 ghost use Rattle.record.specs.declared.leads.Lead.the-variants.{AField};
-ghost use Rattle.record.specs.Ownership.{EightClear, MarkedName, Known, OwnerBy, Answered, OwnerFound};
+ghost use Rattle.record.specs.Ownership.{EightClear, MarkedName, Known, OwnerBy, IsOwner, OwnerFound};
 
 // The owner's name, as the stretch that the root's own command gives.
 pub enum Owner {
@@ -33,7 +33,8 @@ pub enum Owner {
     Owned(Text),
 }
 
-// Whether the field at a place refers to the name. The two names that it may refer to are read first, since they are seldom the one that is asked for.
+// Whether the field at a place refers to the name. The two names that it may refer to are read first, since they are seldom the
+// one that is asked for.
 fn refers_to(stream: &[u8], pool: &[u8], place: usize, name: &[u8]) -> bool
     ensures { λ r. ⌜ r ≡ isText (referenceAt (now (stream .entry)) (now (pool .entry)) place) (now (name .entry)) ⌝ }
 {
@@ -70,7 +71,11 @@ fn marked_first(
     mark: u8,
 ) -> bool
     requires { ⌜ 0 < mark ⌝ }
-    ensures { λ r. ⌜ (LeadsTo (now (stream .entry)) (now (pool .entry)) (now (marks .entry)) (now (name .entry)) (AField place) → MarkedName (now (stream .entry)) (now (pool .entry)) (now (marks .entry)) (now (name .entry)) mark r) ⌝ }
+    ensures { λ r.
+        let s : Str = now (stream .entry) in
+        let p : Str = now (pool .entry) in
+        ⌜ (LeadsTo s p (now (marks .entry)) (now (name .entry)) (AField place)
+        → MarkedName s p (now (marks .entry)) (now (name .entry)) mark r) ⌝ }
 {
     let least = byte_at(marks, place);
     if mark < least {
@@ -107,10 +112,13 @@ fn marked_name(stream: &[u8], pool: &[u8], marks: &[u8], name: &[u8], mark: u8) 
     false
 }
 
-// The same, where a field of the least mark among those that refer to the name may be known.
+// Whether a field with this mark refers to the name, where a field of the least mark among those that do may be known.
 fn marked_by(stream: &[u8], pool: &[u8], marks: &[u8], lead: Lead, name: &[u8], mark: u8) -> bool
     requires { ⌜ 0 < mark ⌝ }
-    ensures { λ r. ⌜ (LeadsTo (now (stream .entry)) (now (pool .entry)) (now (marks .entry)) (now (name .entry)) lead → MarkedName (now (stream .entry)) (now (pool .entry)) (now (marks .entry)) (now (name .entry)) mark r) ⌝ }
+    ensures { λ r.
+        let s : Str = now (stream .entry) in
+        let p : Str = now (pool .entry) in
+        ⌜ (LeadsTo s p (now (marks .entry)) (now (name .entry)) lead → MarkedName s p (now (marks .entry)) (now (name .entry)) mark r) ⌝ }
 {
     match lead {
         Lead::Unknown => marked_name(stream, pool, marks, name, mark),
@@ -131,7 +139,10 @@ fn owner_in(
     mark: u8,
 ) -> Owner
     requires { ⌜ 0 < mark ⌝ }
-    ensures { λ r. ⌜ OwnerBy (now (stream .entry)) (now (pool .entry)) (now (marks .entry)) (now (index .entry)) root lead (now (name .entry)) mark r ⌝ }
+    ensures { λ r.
+        let s : Str = now (stream .entry) in
+        let p : Str = now (pool .entry) in
+        ⌜ OwnerBy s p (now (marks .entry)) (now (index .entry)) root lead (now (name .entry)) mark r ⌝ }
 {
     let StructStep::AStruct(root, _) = root else {
         return Owner::Nobody;
@@ -159,7 +170,11 @@ fn owner_by(
     lead: Lead,
     name: &[u8],
 ) -> Owner
-    ensures { λ r. ⌜ (Known (now (stream .entry)) (now (pool .entry)) (now (marks .entry)) (now (index .entry)) → InSlots (now (stream .entry)) (now (pool .entry)) roots → LeadsTo (now (stream .entry)) (now (pool .entry)) (now (marks .entry)) (now (name .entry)) lead → Answered (now (stream .entry)) (now (pool .entry)) (now (name .entry)) r) ⌝ }
+    ensures { λ r.
+        let s : Str = now (stream .entry) in
+        let p : Str = now (pool .entry) in
+        ⌜ (Known s p (now (marks .entry)) (now (index .entry)) → InSlots s p roots
+        → LeadsTo s p (now (marks .entry)) (now (name .entry)) lead → IsOwner s p (now (name .entry)) r) ⌝ }
 {
     let first = roots.metadata;
     if let Owner::Owned(t) = owner_in(stream, pool, marks, index, first, lead, name, 1) {
@@ -173,7 +188,7 @@ fn owner_by(
     owner_in(stream, pool, marks, index, third, lead, name, 3)
 }
 
-// The same by a table of leads: many names may be asked of one walk.
+// The owner of a name by a table of leads: many names may be asked of one walk.
 pub fn owner_among(
     stream: &[u8],
     pool: &[u8],
@@ -183,37 +198,42 @@ pub fn owner_among(
     leads: &[u16],
     name: &[u8],
 ) -> Owner
-    ensures { λ r. ⌜ (Known (now (stream .entry)) (now (pool .entry)) (now (marks .entry)) (now (index .entry)) → InSlots (now (stream .entry)) (now (pool .entry)) roots → LeadTable (now (stream .entry)) (now (pool .entry)) (now (marks .entry)) (now (leads .entry)) → Answered (now (stream .entry)) (now (pool .entry)) (now (name .entry)) r) ⌝ }
+    ensures { λ r.
+        let s : Str = now (stream .entry) in
+        let p : Str = now (pool .entry) in
+        ⌜ (Known s p (now (marks .entry)) (now (index .entry)) → InSlots s p roots
+        → LeadTable s p (now (marks .entry)) (now (leads .entry)) → IsOwner s p (now (name .entry)) r) ⌝ }
 {
     let lead = lead_to(stream, pool, index, leads, name);
     owner_by(stream, pool, roots, marks, index, lead, name)
 }
 
-// The owner of one name, on marks and an index that are lent for its walk.
+// The owner of one name, on marks that are clear and an index, which are lent for its walk.
 fn owner_lent(stream: &[u8], pool: &[u8], marks: &mut [u8], index: &mut [u16], name: &[u8]) -> Owner
-    requires { ⌜ (length (now stream) ≤ 32768) × (length (now stream) ≤ length (now marks)) × IndexRoom (now stream) (now index) ⌝ }
-    ensures { λ r. ⌜ Answered (now (stream .entry)) (now (pool .entry)) (now (name .entry)) r ⌝ }
+    requires { ⌜ (length (now stream) ≤ 32768) × (length (now stream) ≤ length (now marks)) × Clear (now marks)
+        × IndexRoom (now stream) (now index) ⌝ }
+    ensures { λ r. ⌜ IsOwner (now (stream .entry)) (now (pool .entry)) (now (name .entry)) r ⌝ }
 {
     fill_index(stream, pool, index);
     let roots = versioned_structs(stream, pool);
-    mark_owners(stream, pool, roots, index, marks);
+    mark_roots(stream, pool, roots, index, marks);
     owner_by(stream, pool, roots, marks, index, Lead::Unknown, name)
 }
 
-// The same with tables for the longest stream.
+// The owner of one name, with tables for the longest stream.
 fn owner_long(stream: &[u8], pool: &[u8], name: &[u8]) -> Owner
     requires { ⌜ length (now stream) ≤ 32768 ⌝ }
-    ensures { λ r. ⌜ Answered (now (stream .entry)) (now (pool .entry)) (now (name .entry)) r ⌝ }
+    ensures { λ r. ⌜ IsOwner (now (stream .entry)) (now (pool .entry)) (now (name .entry)) r ⌝ }
 {
     let mut marks = [0u8; 32768];
     let mut index = [0u16; 4938];
     owner_lent(stream, pool, &mut marks, &mut index, name)
 }
 
-// The same for a short stream, since clearing the tables for a long one takes longer than its answer.
+// The owner of one name in a short stream, since clearing the tables for a long one takes longer than its answer.
 fn owner_short(stream: &[u8], pool: &[u8], name: &[u8]) -> Owner
     requires { ⌜ length (now stream) ≤ 2048 ⌝ }
-    ensures { λ r. ⌜ Answered (now (stream .entry)) (now (pool .entry)) (now (name .entry)) r ⌝ }
+    ensures { λ r. ⌜ IsOwner (now (stream .entry)) (now (pool .entry)) (now (name .entry)) r ⌝ }
 {
     let mut marks = [0u8; 2048];
     let mut index = [0u16; 549];

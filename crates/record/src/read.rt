@@ -1,5 +1,4 @@
 // The whole reading of a record: 8, then 7, then the commands from the front, then 9.
-use crate::bound::vast_type;
 use crate::command::Cursor;
 use crate::judge::Judged;
 use crate::letters::Letters;
@@ -7,11 +6,12 @@ use crate::letters::odd_letter;
 use crate::refusal::Refusal;
 use crate::refusal::Side;
 use crate::vast::Vast;
+use crate::vast::vast_type;
 ghost use mathlib.Core.Path.{_≡_};
 ghost use lib.ListN.{length};
 ghost use Rattle.record.specs.Scalars.{scalarsOf};
 ghost use Rattle.record.specs.Commands.{start};
-ghost use Rattle.record.specs.Reading.{rec};
+ghost use Rattle.record.specs.Reading.{Rec, rec};
 ghost use Rattle.record.specs.Read.{outcomeOf, parsedFrom, Read};
 
 // A record that can be read has the schema that the unjudged lists give.
@@ -47,7 +47,9 @@ fn read_commands(side: Side, stream: &[u8], pool: &[u8]) -> Outcome
 
 // Reads a record as one side, under a table of scalar words.
 pub fn read_record(side: Side, rows: &[u8], stream: &[u8], pool: &[u8]) -> Outcome
-    ensures { λ r. ⌜ Read side (rec (now (stream .entry)) (now (pool .entry)) (scalarsOf (now (rows .entry)))) r ⌝ }
+    ensures { λ r.
+        let cur : Rec = rec (now (stream .entry)) (now (pool .entry)) (scalarsOf (now (rows .entry))) in
+        ⌜ Read side cur r ⌝ }
 {
     if STREAM_LIMIT < stream.len() {
         return Outcome::Refused(Refusal::Long, 0);

@@ -4,7 +4,7 @@ use crate::cut::before_byte;
 use crate::text::same;
 ghost use mathlib.Core.Path.{_≡_};
 ghost use Prim.Native.Nat.{_-_, _<_};
-ghost use Rattle.record.specs.Release.{digit, allDigits, isDecimal, isRelease, number, parsed, releaseParts, earlier};
+ghost use Rattle.record.specs.Release.{digit, allDigits, isDecimal, isRelease, number, asU32, releaseParts, earlier};
 
 pub struct Release {
     pub major: u32,
@@ -88,7 +88,7 @@ fn digit_value(b: u8) -> u64
 
 // The number that digits write. It ends at 32 bits, so that no part, however long, overflows.
 fn parse(part: &[u8]) -> Parsed
-    ensures { λ r. ⌜ r ≡ parsed (number 0 (now (part .entry))) ⌝ }
+    ensures { λ r. ⌜ r ≡ asU32 (number 0 (now (part .entry))) ⌝ }
 {
     let mut n: u64 = 0;
     let mut i = 0;

@@ -71,8 +71,8 @@ pub fn passes(between: Between, byte: u8) -> bool
     }
 }
 
-// The next element of a list from a place on, by the number of its command. The width of a command that is found is taken from the number that is sought:
-// where a caller's number is a constant the compiler then knows how many bytes are there, and tests no operand for them.
+// The next element of a list from a place on, by the number of its command. The width of a command that is found is taken from the number that is
+// sought: where a caller's number is a constant the compiler then knows how many bytes are there, and tests no operand for them.
 pub fn seek(s: &[u8], from: usize, number: u8, between: Between) -> Sought
     ensures { λ r. ⌜ SoughtFrom (now (s .entry)) between number from r ⌝ }
 {

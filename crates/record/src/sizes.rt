@@ -16,15 +16,16 @@ use crate::text::bytes_of;
 ghost use mathlib.Core.Path.{_≡_};
 ghost use mathlib.Core.Option.{none};
 ghost use Prim.Native.Nat.{_*_, _+_};
-ghost use Rattle.record.specs.Base.{bytes, orElse};
+ghost use Rattle.record.specs.Base.{Str, bytes, orElse};
 ghost use Rattle.record.specs.Scalars.{scalarsOf, primSize};
 ghost use Rattle.record.specs.Operands.{optTextAt, optNumberAt};
+ghost use Rattle.record.specs.Schema.{Field};
 ghost use Rattle.record.specs.Commands.{fieldAt};
 ghost use Rattle.record.specs.Lists.{optOf, numberOf, fieldOf};
 ghost use Rattle.record.specs.Steps.{enumsAt, aliasesAt, bitfieldsAt};
 ghost use Rattle.record.specs.Index.{Findable};
 ghost use Rattle.record.specs.Shapes.{enumSize, aliasSize, bitfieldSize, sized, shapeSize, capped};
-ghost use Rattle.record.specs.Reading.{rec, schemaOf};
+ghost use Rattle.record.specs.Reading.{Rec, rec, schemaOf};
 
 // The largest end of a field that number 9 lets pass.
 pub const LIMIT: u64 = 4294967295;
@@ -77,7 +78,10 @@ pub fn or_else(n: OptNumber, d: u32) -> u32
 }
 
 pub fn enum_size(stream: &[u8], pool: &[u8], index: &[u16], name: &[u8]) -> OptNumber
-    ensures { λ r. ⌜ (Findable (now (stream .entry)) (now (pool .entry)) (now (index .entry)) → numberOf r ≡ enumSize (enumsAt (now (stream .entry)) (now (pool .entry)) 0) (now (name .entry))) ⌝ }
+    ensures { λ r.
+        let s : Str = now (stream .entry) in
+        let p : Str = now (pool .entry) in
+        ⌜ (Findable s p (now (index .entry)) → numberOf r ≡ enumSize (enumsAt s p 0) (now (name .entry))) ⌝ }
 {
     let Sought::At(place, _) = look_up(stream, pool, index, 4, name) else {
         return OptNumber::Missing;
@@ -86,7 +90,10 @@ pub fn enum_size(stream: &[u8], pool: &[u8], index: &[u16], name: &[u8]) -> OptN
 }
 
 pub fn alias_size(rows: &[u8], stream: &[u8], pool: &[u8], index: &[u16], name: &[u8]) -> OptNumber
-    ensures { λ r. ⌜ (Findable (now (stream .entry)) (now (pool .entry)) (now (index .entry)) → numberOf r ≡ aliasSize (scalarsOf (now (rows .entry))) (aliasesAt (now (stream .entry)) (now (pool .entry)) 0) (now (name .entry))) ⌝ }
+    ensures { λ r.
+        let cur : Rec = rec (now (stream .entry)) (now (pool .entry)) (scalarsOf (now (rows .entry))) in
+        ⌜ (Findable (cur .stream) (cur .pool) (now (index .entry))
+        → numberOf r ≡ aliasSize (cur .scalars) (aliasesAt (cur .stream) (cur .pool) 0) (now (name .entry))) ⌝ }
 {
     let Sought::At(place, _) = look_up(stream, pool, index, 3, name) else {
         return OptNumber::Missing;
@@ -96,7 +103,10 @@ pub fn alias_size(rows: &[u8], stream: &[u8], pool: &[u8], index: &[u16], name: 
 }
 
 pub fn bitfield_size(stream: &[u8], pool: &[u8], index: &[u16], name: &[u8]) -> OptNumber
-    ensures { λ r. ⌜ (Findable (now (stream .entry)) (now (pool .entry)) (now (index .entry)) → numberOf r ≡ bitfieldSize (bitfieldsAt (now (stream .entry)) (now (pool .entry)) 0) (now (name .entry))) ⌝ }
+    ensures { λ r.
+        let s : Str = now (stream .entry) in
+        let p : Str = now (pool .entry) in
+        ⌜ (Findable s p (now (index .entry)) → numberOf r ≡ bitfieldSize (bitfieldsAt s p 0) (now (name .entry))) ⌝ }
 {
     let Sought::At(place, _) = look_up(stream, pool, index, 6, name) else {
         return OptNumber::Missing;
@@ -116,7 +126,10 @@ pub fn scalar_bytes(rows: &[u8], pool: &[u8], word: OptText) -> u32
 
 // An enum that is not declared has one byte.
 fn enum_bytes(stream: &[u8], pool: &[u8], index: &[u16], name: OptText) -> u32
-    ensures { λ r. ⌜ (Findable (now (stream .entry)) (now (pool .entry)) (now (index .entry)) → r ≡ sized (optOf (now (pool .entry)) name) (enumSize (enumsAt (now (stream .entry)) (now (pool .entry)) 0)) 1) ⌝ }
+    ensures { λ r.
+        let s : Str = now (stream .entry) in
+        let p : Str = now (pool .entry) in
+        ⌜ (Findable s p (now (index .entry)) → r ≡ sized (optOf p name) (enumSize (enumsAt s p 0)) 1) ⌝ }
 {
     let OptText::Given(x) = name else {
         return 1;
@@ -124,16 +137,22 @@ fn enum_bytes(stream: &[u8], pool: &[u8], index: &[u16], name: OptText) -> u32
     or_else(enum_size(stream, pool, index, bytes_of(pool, x)), 1)
 }
 
-// The same where no index is at hand: while the record is read, and for the one enum of a family's front.
+// The bytes of an enum where no index is at hand: while the record is read, and for the one enum of a family's front.
 pub fn front_bytes(stream: &[u8], pool: &[u8], name: OptText) -> u32
-    ensures { λ r. ⌜ r ≡ sized (optOf (now (pool .entry)) name) (enumSize (enumsAt (now (stream .entry)) (now (pool .entry)) 0)) 1 ⌝ }
+    ensures { λ r.
+        let s : Str = now (stream .entry) in
+        let p : Str = now (pool .entry) in
+        ⌜ r ≡ sized (optOf p name) (enumSize (enumsAt s p 0)) 1 ⌝ }
 {
     enum_bytes(stream, pool, &[], name)
 }
 
 // An alias that is not declared has two bytes.
 fn alias_bytes(rows: &[u8], stream: &[u8], pool: &[u8], index: &[u16], name: OptText) -> u32
-    ensures { λ r. ⌜ (Findable (now (stream .entry)) (now (pool .entry)) (now (index .entry)) → r ≡ sized (optOf (now (pool .entry)) name) (aliasSize (scalarsOf (now (rows .entry))) (aliasesAt (now (stream .entry)) (now (pool .entry)) 0)) 2) ⌝ }
+    ensures { λ r.
+        let cur : Rec = rec (now (stream .entry)) (now (pool .entry)) (scalarsOf (now (rows .entry))) in
+        ⌜ (Findable (cur .stream) (cur .pool) (now (index .entry))
+        → r ≡ sized (optOf (cur .pool) name) (aliasSize (cur .scalars) (aliasesAt (cur .stream) (cur .pool) 0)) 2) ⌝ }
 {
     let OptText::Given(x) = name else {
         return 2;
@@ -143,7 +162,10 @@ fn alias_bytes(rows: &[u8], stream: &[u8], pool: &[u8], index: &[u16], name: Opt
 
 // A bit field that is not declared has no bytes.
 fn bitfield_bytes(stream: &[u8], pool: &[u8], index: &[u16], name: OptText) -> u32
-    ensures { λ r. ⌜ (Findable (now (stream .entry)) (now (pool .entry)) (now (index .entry)) → r ≡ sized (optOf (now (pool .entry)) name) (bitfieldSize (bitfieldsAt (now (stream .entry)) (now (pool .entry)) 0)) 0) ⌝ }
+    ensures { λ r.
+        let s : Str = now (stream .entry) in
+        let p : Str = now (pool .entry) in
+        ⌜ (Findable s p (now (index .entry)) → r ≡ sized (optOf p name) (bitfieldSize (bitfieldsAt s p 0)) 0) ⌝ }
 {
     let OptText::Given(x) = name else {
         return 0;
@@ -153,13 +175,15 @@ fn bitfield_bytes(stream: &[u8], pool: &[u8], index: &[u16], name: OptText) -> u
 
 // The bytes of the scalar whose word stands at a place of a command.
 fn scalar_at(rows: &[u8], pool: &[u8], s: &[u8], at: usize) -> u64
-    ensures { λ r. ⌜ r ≡ primSize (scalarsOf (now (rows .entry))) (orElse (optOf (now (pool .entry)) (optTextAt (now (s .entry)) at)) (bytes "u8")) ⌝ }
+    ensures { λ r.
+        let word : Str = orElse (optOf (now (pool .entry)) (optTextAt (now (s .entry)) at)) (bytes "u8") in
+        ⌜ r ≡ primSize (scalarsOf (now (rows .entry))) word ⌝ }
 {
     wide(scalar_bytes(rows, pool, opt_text_at(s, at)))
 }
 
 // The number at a place of a command, 0 where it is left out.
-fn number_at(s: &[u8], at: usize) -> u64
+pub(crate) fn number_at(s: &[u8], at: usize) -> u64
     ensures { λ r. ⌜ r ≡ orElse (numberOf (optNumberAt (now (s .entry)) at)) 0 ⌝ }
 {
     wide(or_else(opt_number_at(s, at), 0))
@@ -167,7 +191,10 @@ fn number_at(s: &[u8], at: usize) -> u64
 
 // The bytes that a field takes, from the bytes that begin with its command. Of its operands only those are read that its kind needs.
 pub fn field_size(rows: &[u8], stream: &[u8], pool: &[u8], index: &[u16], s: &[u8]) -> u64
-    ensures { λ r. ⌜ (Findable (now (stream .entry)) (now (pool .entry)) (now (index .entry)) → r ≡ capped (shapeSize (schemaOf (rec (now (stream .entry)) (now (pool .entry)) (scalarsOf (now (rows .entry))))) (fieldOf (now (pool .entry)) (fieldAt (now (s .entry))) none))) ⌝ }
+    ensures { λ r.
+        let cur : Rec = rec (now (stream .entry)) (now (pool .entry)) (scalarsOf (now (rows .entry))) in
+        let field : Field = fieldOf (cur .pool) (fieldAt (now (s .entry))) none in
+        ⌜ (Findable (cur .stream) (cur .pool) (now (index .entry)) → r ≡ capped (shapeSize (schemaOf cur) field)) ⌝ }
 {
     match kind_of(bytes_of(pool, text_at(s, 4))) {
         Kind::Scalar => cap(scalar_at(rows, pool, s, 7)),
@@ -190,15 +217,23 @@ pub fn field_size(rows: &[u8], stream: &[u8], pool: &[u8], index: &[u16], s: &[u
     }
 }
 
-// The same where no index is at hand.
+// The bytes that a field takes, where no index is at hand.
 pub(crate) fn size_unindexed(rows: &[u8], stream: &[u8], pool: &[u8], s: &[u8]) -> u64
-    ensures { λ r. ⌜ r ≡ capped (shapeSize (schemaOf (rec (now (stream .entry)) (now (pool .entry)) (scalarsOf (now (rows .entry))))) (fieldOf (now (pool .entry)) (fieldAt (now (s .entry))) none)) ⌝ }
+    ensures { λ r.
+        let cur : Rec = rec (now (stream .entry)) (now (pool .entry)) (scalarsOf (now (rows .entry))) in
+        let field : Field = fieldOf (cur .pool) (fieldAt (now (s .entry))) none in
+        ⌜ r ≡ capped (shapeSize (schemaOf cur) field) ⌝ }
 {
     field_size(rows, stream, pool, &[], s)
 }
 
+// The bytes that an array of two dimensions takes.
 fn array2d_size(rows: &[u8], pool: &[u8], s: &[u8]) -> u64
-    ensures { λ r. ⌜ r ≡ capped (primSize (scalarsOf (now (rows .entry))) (orElse (optOf (now (pool .entry)) (optTextAt (now (s .entry)) 10)) (bytes "u8")) * orElse (numberOf (optNumberAt (now (s .entry)) 18)) 0 * orElse (numberOf (optNumberAt (now (s .entry)) 23)) 0) ⌝ }
+    ensures { λ r.
+        let x : Str = now (s .entry) in
+        let word : Str = orElse (optOf (now (pool .entry)) (optTextAt x 10)) (bytes "u8") in
+        ⌜ r ≡ capped (primSize (scalarsOf (now (rows .entry))) word
+        * orElse (numberOf (optNumberAt x 18)) 0 * orElse (numberOf (optNumberAt x 23)) 0) ⌝ }
 {
     let line = product(scalar_at(rows, pool, s, 10), number_at(s, 18));
     product(line, number_at(s, 23))

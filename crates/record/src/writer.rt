@@ -6,7 +6,7 @@ ghost use mathlib.Core.Path.{_≡_};
 ghost use mathlib.Core.List.{_++_};
 ghost use Prim.Native.Nat.{_+_, _%_, _≤_};
 ghost use lib.ListN.{length, drop};
-ghost use Rattle.record.specs.Base.{decimal, signed};
+ghost use Rattle.record.specs.Base.{Str, decimal, signed};
 ghost use Rattle.record.specs.Stretch.{textOf};
 ghost use Rattle.record.specs.Fill.{placed};
 ghost use Rattle.record.specs.Write.{saturated, Puts};
@@ -56,7 +56,9 @@ pub fn put_text(out: &mut [u8], at: usize, pool: &[u8], t: Text) -> usize
 
 // Puts a word, and a text of a pool after it.
 pub fn put_worded(out: &mut [u8], at: usize, word: &[u8], pool: &[u8], t: Text) -> usize
-    ensures { λ r. ⌜ Puts (now (out .entry)) at (now (word .entry) ++ textOf (now (pool .entry)) t) (now (out .exit)) r × (r ≤ at + length (now (word .entry)) + 255) ⌝ }
+    ensures { λ r.
+        let text : Str = now (word .entry) ++ textOf (now (pool .entry)) t in
+        ⌜ Puts (now (out .entry)) at text (now (out .exit)) r × (r ≤ at + length (now (word .entry)) + 255) ⌝ }
 {
     let next = put(out, at, word);
     put_text(out, next, pool, t)

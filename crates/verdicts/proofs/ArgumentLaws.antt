@@ -12,7 +12,7 @@ use Rattle.record.specs.declared.text.Text.{Text}
 use Rattle.record.specs.declared.operands.OptText.{OptText}
 use Rattle.record.specs.declared.operands.OptText.the-variants.{Absent, Given}
 use Rattle.definition.specs.Verdicts.{itemText, copyOf, standingOf, changeText}
-use Rattle.definition.specs.Constants.{valueText}
+use Rattle.definition.specs.Constants.{constantText}
 use Rattle.verdicts.specs.Arguments.{itemOf, valueMeant}
 use Rattle.verdicts.specs.declared.arguments.Item.{Item}
 use Rattle.verdicts.specs.declared.arguments.Item.the-variants.{Constant, Enum, Key, Bitfield, Within}
@@ -60,16 +60,16 @@ module _ (p : Str) {out after : Str} {at r : ℕ} where
     change-some t e a = rw e a
 
   module _ (v : ConstantValue) where
-    pub value-integer : (n : ℕ) → v ≡ Integer n → Puts out at (signed n) after r → Puts out at (valueText (valueMeant p v)) after r
-    unfolding valueText
+    pub value-integer : (n : ℕ) → v ≡ Integer n → Puts out at (signed n) after r → Puts out at (constantText (valueMeant p v)) after r
+    unfolding constantText
     value-integer n e a = rw e a
 
-    pub value-none : (o : OptText) → v ≡ Words o → o ≡ Absent → Puts out at [] after r → Puts out at (valueText (valueMeant p v)) after r
-    unfolding valueText orElse
+    pub value-none : (o : OptText) → v ≡ Words o → o ≡ Absent → Puts out at [] after r → Puts out at (constantText (valueMeant p v)) after r
+    unfolding constantText orElse
     value-none o e f a = rw (e, f) a
 
-    pub value-words : (o : OptText) (t : Text) → v ≡ Words o → o ≡ Given t → Puts out at (textOf p t) after r → Puts out at (valueText (valueMeant p v)) after r
-    unfolding valueText orElse
+    pub value-words : (o : OptText) (t : Text) → v ≡ Words o → o ≡ Given t → Puts out at (textOf p t) after r → Puts out at (constantText (valueMeant p v)) after r
+    unfolding constantText orElse
     value-words o t e f a = rw (e, f) a
 
 module _ {out after : Str} {at r : ℕ} (b : Bool) where

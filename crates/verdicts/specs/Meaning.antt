@@ -6,7 +6,7 @@ use Rattle.record.specs.Stretch.{textOf}
 use Rattle.record.specs.Lists.{optOf}
 use Rattle.record.specs.Describe.{describedAs}
 use Rattle.layout.specs.Names.{nameOf}
-use Rattle.definition.specs.Constants.{valueText}
+use Rattle.definition.specs.Constants.{constantText}
 use Rattle.verdicts.specs.Arguments.{itemOf, valueMeant}
 use Rattle.definition.specs.Verdicts as D
 use Rattle.definition.specs.Verdicts.{described, nowUnreadable, beforeNaming, wasUnreadable, notLater, valueUndated, late, redated, backdated, constantGone, constantChanged, enumGone, renumbered, renamed, valueGone, bitFieldGone, memberRenamed, memberGone, bitMoved, widthChanged, bitsLate, bitsRedated, typeGone, fieldGone, moved, resized, redescribed, standingChanged, shippedFamilyChanged, uncovered, noConstant, noGeneration, unraised, unlisted, leapt, fell}
@@ -20,12 +20,14 @@ meaning pool old (NowUnreadable current) = nowUnreadable (textOf pool current)
 meaning pool old (BeforeNaming current) = beforeNaming (textOf pool current)
 meaning pool old (WasUnreadable was) = wasUnreadable (textOf old was)
 meaning pool old (NotLater was current) = notLater (textOf old was) (textOf pool current)
-meaning pool old (ValueUndated owner name current release) = valueUndated (textOf pool owner) (textOf pool name) (textOf pool current) (textOf pool release)
+meaning pool old (ValueUndated owner name current release) =
+    valueUndated (textOf pool owner) (textOf pool name) (textOf pool current) (textOf pool release)
 meaning pool old (Late what current names) = late (itemOf pool what) (textOf pool current) (textOf pool names)
 meaning pool old (Redated what was names) = redated (itemOf pool what) (textOf old was) (textOf pool names)
 meaning pool old (Backdated what copy current) = backdated (itemOf pool what) (optOf old copy) (textOf pool current)
 meaning pool old (ConstantGone name) = constantGone (textOf old name)
-meaning pool old (ConstantChanged name was is) = constantChanged (textOf old name) (valueText (valueMeant old was)) (valueText (valueMeant pool is))
+meaning pool old (ConstantChanged name was is) =
+    constantChanged (textOf old name) (constantText (valueMeant old was)) (constantText (valueMeant pool is))
 meaning pool old (EnumGone name) = enumGone (textOf old name)
 meaning pool old (Renumbered owner name was is) = renumbered (textOf old owner) (textOf old name) was is
 meaning pool old (Renamed owner name is) = renamed (textOf old owner) (textOf old name) (textOf pool is)

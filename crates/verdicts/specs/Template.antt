@@ -1,5 +1,5 @@
--- A template with its arguments put in, and what writing it leaves in the buffer and answers: the code's way to the messages in Verdicts of definition.
--- Assumes nothing.
+-- A template with its arguments put in, and what writing it leaves in the buffer and answers: the code's way to the messages in Verdicts of
+-- definition. Assumes nothing.
 use Prim.Native.Nat.{ℕ}
 use mathlib.Core.Path.{_≡_}
 use mathlib.Core.Bool.{Bool, true, false, cond}
@@ -13,10 +13,11 @@ use Rattle.record.specs.Describe.{describedAs}
 use Rattle.record.specs.Fill.{fronted}
 use Rattle.layout.specs.Names.{nameOf}
 use Rattle.definition.specs.Verdicts.{itemText, copyOf, standingOf, changeText}
-use Rattle.definition.specs.Constants.{valueText}
+use Rattle.definition.specs.Constants.{constantText}
 use Rattle.verdicts.specs.Arguments.{itemOf, valueMeant}
 use Rattle.verdicts.specs.declared.template.Arg.{Arg}
-use Rattle.verdicts.specs.declared.template.Arg.the-variants.{Nothing, Byte, Now, Was, Number, Signed, NowItem, WasCopy, NowValue, WasValue, NowType, WasType, NowShape, WasShape, Standing, NowChange}
+use Rattle.verdicts.specs.declared.template.Arg.the-variants.{Nothing, Byte, Now, Was, Number, Signed, NowItem, WasCopy, NowValue, WasValue}
+use Rattle.verdicts.specs.declared.template.Arg.the-variants.{NowType, WasType, NowShape, WasShape, Standing, NowChange}
 use Rattle.verdicts.specs.declared.template.Written.{Written}
 use Rattle.verdicts.specs.declared.template.Written.the-variants.{Whole, NoRoom}
 
@@ -30,8 +31,8 @@ argOf new old (Number n) = decimal n
 argOf new old (Signed z) = signed z
 argOf new old (NowItem what) = itemText (itemOf new what)
 argOf new old (WasCopy release) = copyOf (optOf old release)
-argOf new old (NowValue value) = valueText (valueMeant new value)
-argOf new old (WasValue value) = valueText (valueMeant old value)
+argOf new old (NowValue value) = constantText (valueMeant new value)
+argOf new old (WasValue value) = constantText (valueMeant old value)
 argOf new old (NowType name) = nameOf new name
 argOf new old (WasType name) = nameOf old name
 argOf new old (NowShape d) = describedAs new d
@@ -52,7 +53,8 @@ abbrev pub answerIf : Bool → ℕ → Written
 answerIf true n = Whole n
 answerIf false n = NoRoom n
 
--- the buffer before, the message, the buffer afterwards and the answer: a message that fits stands at the front, with the rest as it was; else nothing is written
+-- the buffer before, the message, the buffer afterwards and the answer: a message that fits stands at the front, with the rest as it was; else
+-- nothing is written
 pub record Writes (out xs after : Str) (r : Written) : Type 0 where
   pub answer : r ≡ answerIf (leb (length xs) (length out)) (length xs)
   pub bytes : after ≡ cond (leb (length xs) (length out)) (fronted out xs) out

@@ -9,7 +9,7 @@ ghost use Prim.Native.Nat.{_+_, _≤_};
 ghost use Rattle.record.specs.Lists.{optOf};
 ghost use Rattle.record.specs.Write.{Puts};
 ghost use Rattle.definition.specs.Verdicts.{itemText, copyOf, standingOf, changeText};
-ghost use Rattle.definition.specs.Constants.{valueText};
+ghost use Rattle.definition.specs.Constants.{constantText};
 ghost use Rattle.verdicts.specs.Arguments.{itemOf, valueMeant};
 
 // What arrives in a release, by its name.
@@ -56,7 +56,7 @@ pub fn put_copy(out: &mut [u8], at: usize, pool: &[u8], release: OptText) -> usi
 
 // Puts what a constant holds, an integer in decimal.
 pub fn put_value(out: &mut [u8], at: usize, pool: &[u8], value: ConstantValue) -> usize
-    ensures { λ r. ⌜ Puts (now (out .entry)) at (valueText (valueMeant (now (pool .entry)) value)) (now (out .exit)) r × (r ≤ at + 512) ⌝ }
+    ensures { λ r. ⌜ Puts (now (out .entry)) at (constantText (valueMeant (now (pool .entry)) value)) (now (out .exit)) r × (r ≤ at + 512) ⌝ }
 {
     match value {
         ConstantValue::Integer(n) => put_signed(out, at, n),

@@ -13,19 +13,23 @@ use layout::names::TypeName;
 use record::describe::Description;
 use record::operands::OptText;
 use record::text::Text;
+ghost use Rattle.record.specs.Base.{Str};
 ghost use Rattle.record.specs.Stretch.{textOf};
 ghost use Rattle.record.specs.Lists.{optOf};
 ghost use Rattle.record.specs.Describe.{describedAs};
 ghost use Rattle.layout.specs.Names.{nameOf};
-ghost use Rattle.definition.specs.Constants.{valueText};
+ghost use Rattle.definition.specs.Constants.{constantText};
 ghost use Rattle.verdicts.specs.Arguments.{itemOf, valueMeant};
+ghost use Rattle.definition.specs.Verdicts as D;
 ghost use Rattle.definition.specs.Verdicts.{messageOf, described, nowUnreadable, beforeNaming, wasUnreadable, notLater, valueUndated, late, redated, backdated, constantGone, constantChanged, enumGone, renumbered, renamed, valueGone, bitFieldGone, memberRenamed, memberGone, bitMoved, widthChanged, bitsLate, bitsRedated, typeGone, fieldGone, moved, resized, redescribed, standingChanged, shippedFamilyChanged, uncovered, noConstant, noGeneration, unraised, unlisted, leapt, fell};
 ghost use Rattle.verdicts.specs.Template.{Writes};
 ghost use Rattle.verdicts.specs.Meaning.{meaning};
 
 // 11
 fn write_described(out: &mut [u8], pool: &[u8], old: &[u8]) -> Written
-    ensures { λ r. ⌜ Writes (now (out .entry)) (messageOf (described)) (now (out .exit)) r ⌝ }
+    ensures { λ r.
+        let said : D.Verdict = described in
+        ⌜ Writes (now (out .entry)) (messageOf said) (now (out .exit)) r ⌝ }
 {
     write(
         out,
@@ -38,7 +42,10 @@ fn write_described(out: &mut [u8], pool: &[u8], old: &[u8]) -> Written
 
 // 12
 fn write_now_unreadable(out: &mut [u8], current: Text, pool: &[u8], old: &[u8]) -> Written
-    ensures { λ r. ⌜ Writes (now (out .entry)) (messageOf (nowUnreadable (textOf (now (pool .entry)) current))) (now (out .exit)) r ⌝ }
+    ensures { λ r.
+        let pool : Str = now (pool .entry) in
+        let said : D.Verdict = nowUnreadable (textOf pool current) in
+        ⌜ Writes (now (out .entry)) (messageOf said) (now (out .exit)) r ⌝ }
 {
     write_one(
         out,
@@ -51,7 +58,10 @@ fn write_now_unreadable(out: &mut [u8], current: Text, pool: &[u8], old: &[u8]) 
 
 // 13
 fn write_before_naming(out: &mut [u8], current: Text, pool: &[u8], old: &[u8]) -> Written
-    ensures { λ r. ⌜ Writes (now (out .entry)) (messageOf (beforeNaming (textOf (now (pool .entry)) current))) (now (out .exit)) r ⌝ }
+    ensures { λ r.
+        let pool : Str = now (pool .entry) in
+        let said : D.Verdict = beforeNaming (textOf pool current) in
+        ⌜ Writes (now (out .entry)) (messageOf said) (now (out .exit)) r ⌝ }
 {
     write_one(
         out,
@@ -64,7 +74,10 @@ fn write_before_naming(out: &mut [u8], current: Text, pool: &[u8], old: &[u8]) -
 
 // 14
 fn write_was_unreadable(out: &mut [u8], was: Text, pool: &[u8], old: &[u8]) -> Written
-    ensures { λ r. ⌜ Writes (now (out .entry)) (messageOf (wasUnreadable (textOf (now (old .entry)) was))) (now (out .exit)) r ⌝ }
+    ensures { λ r.
+        let old : Str = now (old .entry) in
+        let said : D.Verdict = wasUnreadable (textOf old was) in
+        ⌜ Writes (now (out .entry)) (messageOf said) (now (out .exit)) r ⌝ }
 {
     write_one(
         out,
@@ -77,7 +90,11 @@ fn write_was_unreadable(out: &mut [u8], was: Text, pool: &[u8], old: &[u8]) -> W
 
 // 15
 fn write_not_later(out: &mut [u8], was: Text, current: Text, pool: &[u8], old: &[u8]) -> Written
-    ensures { λ r. ⌜ Writes (now (out .entry)) (messageOf (notLater (textOf (now (old .entry)) was) (textOf (now (pool .entry)) current))) (now (out .exit)) r ⌝ }
+    ensures { λ r.
+        let pool : Str = now (pool .entry) in
+        let old : Str = now (old .entry) in
+        let said : D.Verdict = notLater (textOf old was) (textOf pool current) in
+        ⌜ Writes (now (out .entry)) (messageOf said) (now (out .exit)) r ⌝ }
 {
     write_two(
         out,
@@ -99,7 +116,10 @@ fn write_value_undated(
     pool: &[u8],
     old: &[u8],
 ) -> Written
-    ensures { λ r. ⌜ Writes (now (out .entry)) (messageOf (valueUndated (textOf (now (pool .entry)) owner) (textOf (now (pool .entry)) name) (textOf (now (pool .entry)) current) (textOf (now (pool .entry)) release))) (now (out .exit)) r ⌝ }
+    ensures { λ r.
+        let pool : Str = now (pool .entry) in
+        let said : D.Verdict = valueUndated (textOf pool owner) (textOf pool name) (textOf pool current) (textOf pool release) in
+        ⌜ Writes (now (out .entry)) (messageOf said) (now (out .exit)) r ⌝ }
 {
     write_four(
         out,
@@ -122,7 +142,10 @@ fn write_late(
     pool: &[u8],
     old: &[u8],
 ) -> Written
-    ensures { λ r. ⌜ Writes (now (out .entry)) (messageOf (late (itemOf (now (pool .entry)) what) (textOf (now (pool .entry)) current) (textOf (now (pool .entry)) names))) (now (out .exit)) r ⌝ }
+    ensures { λ r.
+        let pool : Str = now (pool .entry) in
+        let said : D.Verdict = late (itemOf pool what) (textOf pool current) (textOf pool names) in
+        ⌜ Writes (now (out .entry)) (messageOf said) (now (out .exit)) r ⌝ }
 {
     write_three(
         out,
@@ -144,7 +167,11 @@ fn write_redated(
     pool: &[u8],
     old: &[u8],
 ) -> Written
-    ensures { λ r. ⌜ Writes (now (out .entry)) (messageOf (redated (itemOf (now (pool .entry)) what) (textOf (now (old .entry)) was) (textOf (now (pool .entry)) names))) (now (out .exit)) r ⌝ }
+    ensures { λ r.
+        let pool : Str = now (pool .entry) in
+        let old : Str = now (old .entry) in
+        let said : D.Verdict = redated (itemOf pool what) (textOf old was) (textOf pool names) in
+        ⌜ Writes (now (out .entry)) (messageOf said) (now (out .exit)) r ⌝ }
 {
     write_three(
         out,
@@ -166,7 +193,11 @@ fn write_backdated(
     pool: &[u8],
     old: &[u8],
 ) -> Written
-    ensures { λ r. ⌜ Writes (now (out .entry)) (messageOf (backdated (itemOf (now (pool .entry)) what) (optOf (now (old .entry)) copy) (textOf (now (pool .entry)) current))) (now (out .exit)) r ⌝ }
+    ensures { λ r.
+        let pool : Str = now (pool .entry) in
+        let old : Str = now (old .entry) in
+        let said : D.Verdict = backdated (itemOf pool what) (optOf old copy) (textOf pool current) in
+        ⌜ Writes (now (out .entry)) (messageOf said) (now (out .exit)) r ⌝ }
 {
     write_three(
         out,
@@ -181,7 +212,10 @@ fn write_backdated(
 
 // 20
 fn write_constant_gone(out: &mut [u8], name: Text, pool: &[u8], old: &[u8]) -> Written
-    ensures { λ r. ⌜ Writes (now (out .entry)) (messageOf (constantGone (textOf (now (old .entry)) name))) (now (out .exit)) r ⌝ }
+    ensures { λ r.
+        let old : Str = now (old .entry) in
+        let said : D.Verdict = constantGone (textOf old name) in
+        ⌜ Writes (now (out .entry)) (messageOf said) (now (out .exit)) r ⌝ }
 {
     write_one(
         out,
@@ -201,7 +235,11 @@ fn write_constant_changed(
     pool: &[u8],
     old: &[u8],
 ) -> Written
-    ensures { λ r. ⌜ Writes (now (out .entry)) (messageOf (constantChanged (textOf (now (old .entry)) name) (valueText (valueMeant (now (old .entry)) was)) (valueText (valueMeant (now (pool .entry)) is)))) (now (out .exit)) r ⌝ }
+    ensures { λ r.
+        let pool : Str = now (pool .entry) in
+        let old : Str = now (old .entry) in
+        let said : D.Verdict = constantChanged (textOf old name) (constantText (valueMeant old was)) (constantText (valueMeant pool is)) in
+        ⌜ Writes (now (out .entry)) (messageOf said) (now (out .exit)) r ⌝ }
 {
     write_three(
         out,
@@ -216,7 +254,10 @@ fn write_constant_changed(
 
 // 22
 fn write_enum_gone(out: &mut [u8], name: Text, pool: &[u8], old: &[u8]) -> Written
-    ensures { λ r. ⌜ Writes (now (out .entry)) (messageOf (enumGone (textOf (now (old .entry)) name))) (now (out .exit)) r ⌝ }
+    ensures { λ r.
+        let old : Str = now (old .entry) in
+        let said : D.Verdict = enumGone (textOf old name) in
+        ⌜ Writes (now (out .entry)) (messageOf said) (now (out .exit)) r ⌝ }
 {
     write_one(
         out,
@@ -237,7 +278,10 @@ fn write_renumbered(
     pool: &[u8],
     old: &[u8],
 ) -> Written
-    ensures { λ r. ⌜ Writes (now (out .entry)) (messageOf (renumbered (textOf (now (old .entry)) owner) (textOf (now (old .entry)) name) was is)) (now (out .exit)) r ⌝ }
+    ensures { λ r.
+        let old : Str = now (old .entry) in
+        let said : D.Verdict = renumbered (textOf old owner) (textOf old name) was is in
+        ⌜ Writes (now (out .entry)) (messageOf said) (now (out .exit)) r ⌝ }
 {
     write_four(
         out,
@@ -260,7 +304,11 @@ fn write_renamed(
     pool: &[u8],
     old: &[u8],
 ) -> Written
-    ensures { λ r. ⌜ Writes (now (out .entry)) (messageOf (renamed (textOf (now (old .entry)) owner) (textOf (now (old .entry)) name) (textOf (now (pool .entry)) is))) (now (out .exit)) r ⌝ }
+    ensures { λ r.
+        let pool : Str = now (pool .entry) in
+        let old : Str = now (old .entry) in
+        let said : D.Verdict = renamed (textOf old owner) (textOf old name) (textOf pool is) in
+        ⌜ Writes (now (out .entry)) (messageOf said) (now (out .exit)) r ⌝ }
 {
     write_three(
         out,
@@ -275,7 +323,10 @@ fn write_renamed(
 
 // 25
 fn write_value_gone(out: &mut [u8], owner: Text, name: Text, pool: &[u8], old: &[u8]) -> Written
-    ensures { λ r. ⌜ Writes (now (out .entry)) (messageOf (valueGone (textOf (now (old .entry)) owner) (textOf (now (old .entry)) name))) (now (out .exit)) r ⌝ }
+    ensures { λ r.
+        let old : Str = now (old .entry) in
+        let said : D.Verdict = valueGone (textOf old owner) (textOf old name) in
+        ⌜ Writes (now (out .entry)) (messageOf said) (now (out .exit)) r ⌝ }
 {
     write_two(
         out,
@@ -289,7 +340,10 @@ fn write_value_gone(out: &mut [u8], owner: Text, name: Text, pool: &[u8], old: &
 
 // 26
 fn write_bit_field_gone(out: &mut [u8], name: Text, pool: &[u8], old: &[u8]) -> Written
-    ensures { λ r. ⌜ Writes (now (out .entry)) (messageOf (bitFieldGone (textOf (now (old .entry)) name))) (now (out .exit)) r ⌝ }
+    ensures { λ r.
+        let old : Str = now (old .entry) in
+        let said : D.Verdict = bitFieldGone (textOf old name) in
+        ⌜ Writes (now (out .entry)) (messageOf said) (now (out .exit)) r ⌝ }
 {
     write_one(
         out,
@@ -309,7 +363,11 @@ fn write_member_renamed(
     pool: &[u8],
     old: &[u8],
 ) -> Written
-    ensures { λ r. ⌜ Writes (now (out .entry)) (messageOf (memberRenamed (textOf (now (old .entry)) owner) (textOf (now (old .entry)) name) (textOf (now (pool .entry)) is))) (now (out .exit)) r ⌝ }
+    ensures { λ r.
+        let pool : Str = now (pool .entry) in
+        let old : Str = now (old .entry) in
+        let said : D.Verdict = memberRenamed (textOf old owner) (textOf old name) (textOf pool is) in
+        ⌜ Writes (now (out .entry)) (messageOf said) (now (out .exit)) r ⌝ }
 {
     write_three(
         out,
@@ -324,7 +382,10 @@ fn write_member_renamed(
 
 // 28
 fn write_member_gone(out: &mut [u8], owner: Text, name: Text, pool: &[u8], old: &[u8]) -> Written
-    ensures { λ r. ⌜ Writes (now (out .entry)) (messageOf (memberGone (textOf (now (old .entry)) owner) (textOf (now (old .entry)) name))) (now (out .exit)) r ⌝ }
+    ensures { λ r.
+        let old : Str = now (old .entry) in
+        let said : D.Verdict = memberGone (textOf old owner) (textOf old name) in
+        ⌜ Writes (now (out .entry)) (messageOf said) (now (out .exit)) r ⌝ }
 {
     write_two(
         out,
@@ -346,7 +407,10 @@ fn write_bit_moved(
     pool: &[u8],
     old: &[u8],
 ) -> Written
-    ensures { λ r. ⌜ Writes (now (out .entry)) (messageOf (bitMoved (textOf (now (old .entry)) owner) (textOf (now (old .entry)) name) was is)) (now (out .exit)) r ⌝ }
+    ensures { λ r.
+        let old : Str = now (old .entry) in
+        let said : D.Verdict = bitMoved (textOf old owner) (textOf old name) was is in
+        ⌜ Writes (now (out .entry)) (messageOf said) (now (out .exit)) r ⌝ }
 {
     write_four(
         out,
@@ -370,7 +434,10 @@ fn write_width_changed(
     pool: &[u8],
     old: &[u8],
 ) -> Written
-    ensures { λ r. ⌜ Writes (now (out .entry)) (messageOf (widthChanged (textOf (now (old .entry)) owner) (textOf (now (old .entry)) name) was is)) (now (out .exit)) r ⌝ }
+    ensures { λ r.
+        let old : Str = now (old .entry) in
+        let said : D.Verdict = widthChanged (textOf old owner) (textOf old name) was is in
+        ⌜ Writes (now (out .entry)) (messageOf said) (now (out .exit)) r ⌝ }
 {
     write_four(
         out,
@@ -393,7 +460,10 @@ fn write_bits_late(
     pool: &[u8],
     old: &[u8],
 ) -> Written
-    ensures { λ r. ⌜ Writes (now (out .entry)) (messageOf (bitsLate (itemOf (now (pool .entry)) what) (textOf (now (pool .entry)) current) (textOf (now (pool .entry)) release))) (now (out .exit)) r ⌝ }
+    ensures { λ r.
+        let pool : Str = now (pool .entry) in
+        let said : D.Verdict = bitsLate (itemOf pool what) (textOf pool current) (textOf pool release) in
+        ⌜ Writes (now (out .entry)) (messageOf said) (now (out .exit)) r ⌝ }
 {
     write_three(
         out,
@@ -415,7 +485,11 @@ fn write_bits_redated(
     pool: &[u8],
     old: &[u8],
 ) -> Written
-    ensures { λ r. ⌜ Writes (now (out .entry)) (messageOf (bitsRedated (itemOf (now (pool .entry)) what) (textOf (now (old .entry)) was) (textOf (now (pool .entry)) release))) (now (out .exit)) r ⌝ }
+    ensures { λ r.
+        let pool : Str = now (pool .entry) in
+        let old : Str = now (old .entry) in
+        let said : D.Verdict = bitsRedated (itemOf pool what) (textOf old was) (textOf pool release) in
+        ⌜ Writes (now (out .entry)) (messageOf said) (now (out .exit)) r ⌝ }
 {
     write_three(
         out,
@@ -430,7 +504,10 @@ fn write_bits_redated(
 
 // 33
 fn write_type_gone(out: &mut [u8], name: TypeName, pool: &[u8], old: &[u8]) -> Written
-    ensures { λ r. ⌜ Writes (now (out .entry)) (messageOf (typeGone (nameOf (now (old .entry)) name))) (now (out .exit)) r ⌝ }
+    ensures { λ r.
+        let old : Str = now (old .entry) in
+        let said : D.Verdict = typeGone (nameOf old name) in
+        ⌜ Writes (now (out .entry)) (messageOf said) (now (out .exit)) r ⌝ }
 {
     write_one(
         out,
@@ -443,7 +520,10 @@ fn write_type_gone(out: &mut [u8], name: TypeName, pool: &[u8], old: &[u8]) -> W
 
 // 34
 fn write_field_gone(out: &mut [u8], owner: TypeName, name: Text, pool: &[u8], old: &[u8]) -> Written
-    ensures { λ r. ⌜ Writes (now (out .entry)) (messageOf (fieldGone (nameOf (now (old .entry)) owner) (textOf (now (old .entry)) name))) (now (out .exit)) r ⌝ }
+    ensures { λ r.
+        let old : Str = now (old .entry) in
+        let said : D.Verdict = fieldGone (nameOf old owner) (textOf old name) in
+        ⌜ Writes (now (out .entry)) (messageOf said) (now (out .exit)) r ⌝ }
 {
     write_two(
         out,
@@ -465,7 +545,10 @@ fn write_moved(
     pool: &[u8],
     old: &[u8],
 ) -> Written
-    ensures { λ r. ⌜ Writes (now (out .entry)) (messageOf (moved (nameOf (now (old .entry)) owner) (textOf (now (old .entry)) name) was is)) (now (out .exit)) r ⌝ }
+    ensures { λ r.
+        let old : Str = now (old .entry) in
+        let said : D.Verdict = moved (nameOf old owner) (textOf old name) was is in
+        ⌜ Writes (now (out .entry)) (messageOf said) (now (out .exit)) r ⌝ }
 {
     write_four(
         out,
@@ -489,7 +572,10 @@ fn write_resized(
     pool: &[u8],
     old: &[u8],
 ) -> Written
-    ensures { λ r. ⌜ Writes (now (out .entry)) (messageOf (resized (nameOf (now (old .entry)) owner) (textOf (now (old .entry)) name) was is)) (now (out .exit)) r ⌝ }
+    ensures { λ r.
+        let old : Str = now (old .entry) in
+        let said : D.Verdict = resized (nameOf old owner) (textOf old name) was is in
+        ⌜ Writes (now (out .entry)) (messageOf said) (now (out .exit)) r ⌝ }
 {
     write_four(
         out,
@@ -513,7 +599,11 @@ fn write_redescribed(
     pool: &[u8],
     old: &[u8],
 ) -> Written
-    ensures { λ r. ⌜ Writes (now (out .entry)) (messageOf (redescribed (nameOf (now (old .entry)) owner) (textOf (now (old .entry)) name) (describedAs (now (old .entry)) was) (describedAs (now (pool .entry)) is))) (now (out .exit)) r ⌝ }
+    ensures { λ r.
+        let pool : Str = now (pool .entry) in
+        let old : Str = now (old .entry) in
+        let said : D.Verdict = redescribed (nameOf old owner) (textOf old name) (describedAs old was) (describedAs pool is) in
+        ⌜ Writes (now (out .entry)) (messageOf said) (now (out .exit)) r ⌝ }
 {
     write_four(
         out,
@@ -536,7 +626,10 @@ fn write_standing_changed(
     pool: &[u8],
     old: &[u8],
 ) -> Written
-    ensures { λ r. ⌜ Writes (now (out .entry)) (messageOf (standingChanged (textOf (now (pool .entry)) name) was is)) (now (out .exit)) r ⌝ }
+    ensures { λ r.
+        let pool : Str = now (pool .entry) in
+        let said : D.Verdict = standingChanged (textOf pool name) was is in
+        ⌜ Writes (now (out .entry)) (messageOf said) (now (out .exit)) r ⌝ }
 {
     write_three(
         out,
@@ -557,7 +650,10 @@ fn write_shipped_family_changed(
     pool: &[u8],
     old: &[u8],
 ) -> Written
-    ensures { λ r. ⌜ Writes (now (out .entry)) (messageOf (shippedFamilyChanged (nameOf (now (pool .entry)) name) (optOf (now (pool .entry)) change))) (now (out .exit)) r ⌝ }
+    ensures { λ r.
+        let pool : Str = now (pool .entry) in
+        let said : D.Verdict = shippedFamilyChanged (nameOf pool name) (optOf pool change) in
+        ⌜ Writes (now (out .entry)) (messageOf said) (now (out .exit)) r ⌝ }
 {
     write_two(
         out,
@@ -571,7 +667,10 @@ fn write_shipped_family_changed(
 
 // 40
 fn write_uncovered(out: &mut [u8], name: TypeName, pool: &[u8], old: &[u8]) -> Written
-    ensures { λ r. ⌜ Writes (now (out .entry)) (messageOf (uncovered (nameOf (now (pool .entry)) name))) (now (out .exit)) r ⌝ }
+    ensures { λ r.
+        let pool : Str = now (pool .entry) in
+        let said : D.Verdict = uncovered (nameOf pool name) in
+        ⌜ Writes (now (out .entry)) (messageOf said) (now (out .exit)) r ⌝ }
 {
     write_one(
         out,
@@ -584,7 +683,10 @@ fn write_uncovered(out: &mut [u8], name: TypeName, pool: &[u8], old: &[u8]) -> W
 
 // 41
 fn write_no_constant(out: &mut [u8], name: Text, pool: &[u8], old: &[u8]) -> Written
-    ensures { λ r. ⌜ Writes (now (out .entry)) (messageOf (noConstant (textOf (now (pool .entry)) name))) (now (out .exit)) r ⌝ }
+    ensures { λ r.
+        let pool : Str = now (pool .entry) in
+        let said : D.Verdict = noConstant (textOf pool name) in
+        ⌜ Writes (now (out .entry)) (messageOf said) (now (out .exit)) r ⌝ }
 {
     write_one(
         out,
@@ -597,7 +699,10 @@ fn write_no_constant(out: &mut [u8], name: Text, pool: &[u8], old: &[u8]) -> Wri
 
 // 42
 fn write_no_generation(out: &mut [u8], constant: Text, was: u64, pool: &[u8], old: &[u8]) -> Written
-    ensures { λ r. ⌜ Writes (now (out .entry)) (messageOf (noGeneration (textOf (now (pool .entry)) constant) was)) (now (out .exit)) r ⌝ }
+    ensures { λ r.
+        let pool : Str = now (pool .entry) in
+        let said : D.Verdict = noGeneration (textOf pool constant) was in
+        ⌜ Writes (now (out .entry)) (messageOf said) (now (out .exit)) r ⌝ }
 {
     write_two(
         out,
@@ -620,7 +725,10 @@ fn write_unraised(
     pool: &[u8],
     old: &[u8],
 ) -> Written
-    ensures { λ r. ⌜ Writes (now (out .entry)) (messageOf (unraised (textOf (now (pool .entry)) name) was (nameOf (now (pool .entry)) what) (textOf (now (pool .entry)) constant) next)) (now (out .exit)) r ⌝ }
+    ensures { λ r.
+        let pool : Str = now (pool .entry) in
+        let said : D.Verdict = unraised (textOf pool name) was (nameOf pool what) (textOf pool constant) next in
+        ⌜ Writes (now (out .entry)) (messageOf said) (now (out .exit)) r ⌝ }
 {
     write(
         out,
@@ -646,7 +754,10 @@ fn write_unlisted(
     pool: &[u8],
     old: &[u8],
 ) -> Written
-    ensures { λ r. ⌜ Writes (now (out .entry)) (messageOf (unlisted (textOf (now (pool .entry)) constant) is (textOf (now (pool .entry)) name))) (now (out .exit)) r ⌝ }
+    ensures { λ r.
+        let pool : Str = now (pool .entry) in
+        let said : D.Verdict = unlisted (textOf pool constant) is (textOf pool name) in
+        ⌜ Writes (now (out .entry)) (messageOf said) (now (out .exit)) r ⌝ }
 {
     write_three(
         out,
@@ -670,7 +781,11 @@ fn write_leapt(
     pool: &[u8],
     old: &[u8],
 ) -> Written
-    ensures { λ r. ⌜ Writes (now (out .entry)) (messageOf (leapt (textOf (now (pool .entry)) constant) was is (optOf (now (old .entry)) copy) (textOf (now (pool .entry)) current))) (now (out .exit)) r ⌝ }
+    ensures { λ r.
+        let pool : Str = now (pool .entry) in
+        let old : Str = now (old .entry) in
+        let said : D.Verdict = leapt (textOf pool constant) was is (optOf old copy) (textOf pool current) in
+        ⌜ Writes (now (out .entry)) (messageOf said) (now (out .exit)) r ⌝ }
 {
     write(
         out,
@@ -689,7 +804,10 @@ fn write_leapt(
 
 // 46
 fn write_fell(out: &mut [u8], constant: Text, was: u32, is: u32, pool: &[u8], old: &[u8]) -> Written
-    ensures { λ r. ⌜ Writes (now (out .entry)) (messageOf (fell (textOf (now (pool .entry)) constant) was is)) (now (out .exit)) r ⌝ }
+    ensures { λ r.
+        let pool : Str = now (pool .entry) in
+        let said : D.Verdict = fell (textOf pool constant) was is in
+        ⌜ Writes (now (out .entry)) (messageOf said) (now (out .exit)) r ⌝ }
 {
     write_three(
         out,
@@ -704,7 +822,9 @@ fn write_fell(out: &mut [u8], constant: Text, was: u32, is: u32, pool: &[u8], ol
 
 // Puts the message of a verdict at the front of out, if it fits.
 pub fn write_verdict(out: &mut [u8], v: Verdict, pool: &[u8], old: &[u8]) -> Written
-    ensures { λ r. ⌜ Writes (now (out .entry)) (messageOf (meaning (now (pool .entry)) (now (old .entry)) v)) (now (out .exit)) r ⌝ }
+    ensures { λ r.
+        let said : D.Verdict = meaning (now (pool .entry)) (now (old .entry)) v in
+        ⌜ Writes (now (out .entry)) (messageOf said) (now (out .exit)) r ⌝ }
 {
     match v {
         Verdict::Passed => Written::Whole(0),

@@ -21,6 +21,7 @@ ghost use mathlib.Core.Path.{_≡_};
 ghost use mathlib.Core.List.{[], _∷_};
 ghost use Prim.Native.Nat.{_+_, _*_, _≤_};
 ghost use lib.ListN.{length, take};
+ghost use Rattle.record.specs.Base.{Str};
 ghost use Rattle.record.specs.Write.{Puts};
 ghost use Rattle.verdicts.specs.Template.{argOf, pickOf, filled, Writes};
 ghost use Rattle.verdicts.specs.declared.template.Arg.the-variants.{Nothing};
@@ -65,7 +66,10 @@ fn pick(b: u8, args: [Arg; 5]) -> Arg
 
 // Puts an argument.
 fn put_arg(out: &mut [u8], at: usize, a: Arg, new: &[u8], old: &[u8]) -> usize
-    ensures { λ r. ⌜ Puts (now (out .entry)) at (argOf (now (new .entry)) (now (old .entry)) a) (now (out .exit)) r × (r ≤ at + 559) ⌝ }
+    ensures { λ r.
+        let new : Str = now (new .entry) in
+        let old : Str = now (old .entry) in
+        ⌜ Puts (now (out .entry)) at (argOf new old a) (now (out .exit)) r × (r ≤ at + 559) ⌝ }
 {
     match a {
         Arg::Nothing => at,
@@ -89,7 +93,10 @@ fn put_arg(out: &mut [u8], at: usize, a: Arg, new: &[u8], old: &[u8]) -> usize
 
 // Puts what a template's byte stands for. Most bytes stand for themselves, and those are put at once.
 fn put_piece(out: &mut [u8], at: usize, b: u8, args: [Arg; 5], new: &[u8], old: &[u8]) -> usize
-    ensures { λ r. ⌜ Puts (now (out .entry)) at (argOf (now (new .entry)) (now (old .entry)) (pickOf args b)) (now (out .exit)) r × (r ≤ at + 559) ⌝ }
+    ensures { λ r.
+        let new : Str = now (new .entry) in
+        let old : Str = now (old .entry) in
+        ⌜ Puts (now (out .entry)) at (argOf new old (pickOf args b)) (now (out .exit)) r × (r ≤ at + 559) ⌝ }
 {
     if 32 <= b {
         return put(out, at, &[b]);
@@ -99,7 +106,11 @@ fn put_piece(out: &mut [u8], at: usize, b: u8, args: [Arg; 5], new: &[u8], old: 
 
 // Puts a template with its arguments.
 fn fill(out: &mut [u8], at: usize, template: &[u8], args: [Arg; 5], new: &[u8], old: &[u8]) -> usize
-    ensures { λ r. ⌜ Puts (now (out .entry)) at (filled (now (new .entry)) (now (old .entry)) args (now (template .entry))) (now (out .exit)) r × (r ≤ at + 559 * length (now (template .entry))) ⌝ }
+    ensures { λ r.
+        let new : Str = now (new .entry) in
+        let old : Str = now (old .entry) in
+        let template : Str = now (template .entry) in
+        ⌜ Puts (now (out .entry)) at (filled new old args template) (now (out .exit)) r × (r ≤ at + 559 * length template) ⌝ }
 {
     let mut next = at;
     let mut i = 0;
@@ -120,7 +131,11 @@ pub enum Written {
 
 // Puts a template, as far as 1,024 bytes, with its arguments at the front of out, if that fits.
 pub fn write(out: &mut [u8], template: &[u8], args: [Arg; 5], new: &[u8], old: &[u8]) -> Written
-    ensures { λ r. ⌜ Writes (now (out .entry)) (filled (now (new .entry)) (now (old .entry)) args (take 1024 (now (template .entry)))) (now (out .exit)) r ⌝ }
+    ensures { λ r.
+        let new : Str = now (new .entry) in
+        let old : Str = now (old .entry) in
+        let said : Str = filled new old args (take 1024 (now (template .entry))) in
+        ⌜ Writes (now (out .entry)) said (now (out .exit)) r ⌝ }
 {
     let t = upto(template, 1024);
     let n = fill(&mut out[..0], 0, t, args, new, old);
@@ -133,7 +148,11 @@ pub fn write(out: &mut [u8], template: &[u8], args: [Arg; 5], new: &[u8], old: &
 
 // Writes a template with one argument.
 pub fn write_one(out: &mut [u8], template: &[u8], a: Arg, new: &[u8], old: &[u8]) -> Written
-    ensures { λ r. ⌜ Writes (now (out .entry)) (filled (now (new .entry)) (now (old .entry)) (a ∷ Nothing ∷ Nothing ∷ Nothing ∷ Nothing ∷ []) (take 1024 (now (template .entry)))) (now (out .exit)) r ⌝ }
+    ensures { λ r.
+        let new : Str = now (new .entry) in
+        let old : Str = now (old .entry) in
+        let said : Str = filled new old (a ∷ Nothing ∷ Nothing ∷ Nothing ∷ Nothing ∷ []) (take 1024 (now (template .entry))) in
+        ⌜ Writes (now (out .entry)) said (now (out .exit)) r ⌝ }
 {
     let no = Arg::Nothing;
     write(out, template, [a, no, no, no, no], new, old)
@@ -141,7 +160,11 @@ pub fn write_one(out: &mut [u8], template: &[u8], a: Arg, new: &[u8], old: &[u8]
 
 // Writes a template with two arguments.
 pub fn write_two(out: &mut [u8], template: &[u8], a: Arg, b: Arg, new: &[u8], old: &[u8]) -> Written
-    ensures { λ r. ⌜ Writes (now (out .entry)) (filled (now (new .entry)) (now (old .entry)) (a ∷ b ∷ Nothing ∷ Nothing ∷ Nothing ∷ []) (take 1024 (now (template .entry)))) (now (out .exit)) r ⌝ }
+    ensures { λ r.
+        let new : Str = now (new .entry) in
+        let old : Str = now (old .entry) in
+        let said : Str = filled new old (a ∷ b ∷ Nothing ∷ Nothing ∷ Nothing ∷ []) (take 1024 (now (template .entry))) in
+        ⌜ Writes (now (out .entry)) said (now (out .exit)) r ⌝ }
 {
     let no = Arg::Nothing;
     write(out, template, [a, b, no, no, no], new, old)
@@ -157,7 +180,11 @@ pub fn write_three(
     new: &[u8],
     old: &[u8],
 ) -> Written
-    ensures { λ r. ⌜ Writes (now (out .entry)) (filled (now (new .entry)) (now (old .entry)) (a ∷ b ∷ c ∷ Nothing ∷ Nothing ∷ []) (take 1024 (now (template .entry)))) (now (out .exit)) r ⌝ }
+    ensures { λ r.
+        let new : Str = now (new .entry) in
+        let old : Str = now (old .entry) in
+        let said : Str = filled new old (a ∷ b ∷ c ∷ Nothing ∷ Nothing ∷ []) (take 1024 (now (template .entry))) in
+        ⌜ Writes (now (out .entry)) said (now (out .exit)) r ⌝ }
 {
     let no = Arg::Nothing;
     write(out, template, [a, b, c, no, no], new, old)
@@ -174,7 +201,11 @@ pub fn write_four(
     new: &[u8],
     old: &[u8],
 ) -> Written
-    ensures { λ r. ⌜ Writes (now (out .entry)) (filled (now (new .entry)) (now (old .entry)) (a ∷ b ∷ c ∷ d ∷ Nothing ∷ []) (take 1024 (now (template .entry)))) (now (out .exit)) r ⌝ }
+    ensures { λ r.
+        let new : Str = now (new .entry) in
+        let old : Str = now (old .entry) in
+        let said : Str = filled new old (a ∷ b ∷ c ∷ d ∷ Nothing ∷ []) (take 1024 (now (template .entry))) in
+        ⌜ Writes (now (out .entry)) said (now (out .exit)) r ⌝ }
 {
     let no = Arg::Nothing;
     write(out, template, [a, b, c, d, no], new, old)

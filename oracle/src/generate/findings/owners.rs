@@ -235,8 +235,8 @@ fn undeclared() -> Content {
     plain().with(names.fold(metadata("r"), |r, n| r.field(pointer("p", &n))))
 }
 
-/// A type whose references to itself fill the stream: no walk has more of a
-/// record's fields under way at once.
+/// A type whose references to itself fill the stream: a walk that marks no
+/// types goes over it once for each field, with all of them under way at once.
 fn deepest_walk() -> Content {
     let itself = std::iter::repeat_n(pointer("p", "t"), 991);
     plain()

@@ -38,7 +38,7 @@ alike-texts-requires c κs = search needs
 returns : tie.Need-returns
 returns c = λ t.
     let a = c .before .before .before .before .before .before .before .before .before .args in
-    alike-there (now (a .stream)) (now (a .pool)) (now (a .past)) (now (a .old)) (a .a) (a .b) _ _ (c .before .before .alike-numbers .ensures) (c .before .if1 .taken) (c .alike-texts .ensures) t
+    alike-there (now (a .stream)) (now (a .pool)) (now (a .old-stream)) (now (a .old-pool)) (a .a) (a .b) _ _ (c .before .before .alike-numbers .ensures) (c .before .if1 .taken) (c .alike-texts .ensures) t
 
 returns-2 : tie.Need-returns-2
 returns-2 c = λ t. absurd (false≢true t)

@@ -1,62 +1,76 @@
-use Rattle.verdicts.proofs.PassLaws.{three-first, three-second, three-third}
+use mathlib.Core.Path.{_≡_}
+use Prim.Native.Nat.{_-_, _≤_}
+use lib.ListN.{length}
+use Rattle.record.specs.Scalars.{scalarsOf}
+use Rattle.record.specs.Reading.{rec, schemaOf}
+use Rattle.definition.specs.Compare.{passes}
+use Rattle.compare.proofs.CompareLaws.{passes-on, passes-stop, passes-end}
 use borrow.Author.Needs.{needs}
 use Rattle.compare.proofs.compare.check_declared.Statement.{statement}
 use Rattle.compare.proofs.compare.check_declared.Tie as tie
 use Rattle.compare.proofs.compare.check_declared.Reads as reads
 use Rattle.compare.proofs.compare.check_declared.Lts as lts
-use Rattle.compare.proofs.compare.check_bits.Reads as check-bits-reads
-use Rattle.compare.proofs.compare.check_numbers.Reads as check-numbers-reads
-use Rattle.compare.proofs.first_releases.check_first_releases.Reads as check-first-releases-reads
+use Rattle.compare.proofs.compare.run_declared.Reads as run-declared-reads
 
-check-first-releases-requires : tie.Need-check-first-releases-requires
-check-first-releases-requires c κs = search needs
+abbrev Inv-loop : tie.InvT-loop
+Inv-loop rows stream pool index past old old-index facts table₀ scratch₀ pass₀ table scratch pass =
+    (passes 2 7 (schemaOf (rec stream pool (scalarsOf rows))) (schemaOf (rec past old (scalarsOf rows))) ≡ passes pass 7 (schemaOf (rec stream pool (scalarsOf rows))) (schemaOf (rec past old (scalarsOf rows))))
+    × (2 ≤ pass) × (pass ≤ 7) × (length table ≡ length table₀) × (length scratch ≡ length scratch₀)
 
-enum-told : tie.Need-enum-told
+abbrev μ-loop : tie.MeasureT-loop
+μ-loop rows stream pool index past old old-index facts table₀ scratch₀ pass₀ table scratch pass = 7 - pass
+
+loop-holds : tie.Need-loop-holds Inv-loop μ-loop
+loop-holds c = (search needs, search needs, search needs, search needs, search needs)
+
+run-declared-requires : tie.Need-run-declared-requires Inv-loop μ-loop
+run-declared-requires c κs = ((search needs, search needs, search needs, search needs, search needs), search needs)
+
+enum-told : tie.Need-enum-told Inv-loop μ-loop
 enum-told c = search needs
 
-returns : tie.Need-returns
-returns c = search three-first
+add-pass : tie.Need-add-pass Inv-loop μ-loop
+add-pass c = search needs
 
-check-numbers-requires : tie.Need-check-numbers-requires
-check-numbers-requires c κs = search needs
+loop-less : tie.Need-loop-less Inv-loop μ-loop
+loop-less c = search needs
 
-enum-told-2 : tie.Need-enum-told-2
-enum-told-2 c = search needs
+loop-again : tie.Need-loop-again Inv-loop μ-loop
+loop-again c = (search passes-on, search needs, search needs, search needs, search needs)
 
-same-length : tie.Need-same-length
+same-length : tie.Need-same-length Inv-loop μ-loop
 same-length c = search needs
 
-same-length-2 : tie.Need-same-length-2
+same-length-2 : tie.Need-same-length-2 Inv-loop μ-loop
 same-length-2 c = search needs
 
-returns-2 : tie.Need-returns-2
-returns-2 c = search three-second
+returns : tie.Need-returns Inv-loop μ-loop
+returns c = search passes-stop
 
-check-bits-requires : tie.Need-check-bits-requires
-check-bits-requires c κs = search needs
-
-same-length-3 : tie.Need-same-length-3
+same-length-3 : tie.Need-same-length-3 Inv-loop μ-loop
 same-length-3 c = search needs
 
-same-length-4 : tie.Need-same-length-4
+same-length-4 : tie.Need-same-length-4 Inv-loop μ-loop
 same-length-4 c = search needs
 
-returns-3 : tie.Need-returns-3
-returns-3 c = search three-third
+returns-2 : tie.Need-returns-2 Inv-loop μ-loop
+returns-2 c = search passes-end
 
 pub check-declared-spec : {M : Type 1} → statement M
 check-declared-spec =
     tie.close
     (tie.spec
-    check-first-releases-requires
+    Inv-loop
+    μ-loop
+    loop-holds
+    run-declared-requires
     enum-told
-    returns
-    check-numbers-requires
-    enum-told-2
+    add-pass
+    loop-less
+    loop-again
     same-length
     same-length-2
-    returns-2
-    check-bits-requires
+    returns
     same-length-3
     same-length-4
-    returns-3)
+    returns-2)

@@ -4,19 +4,27 @@ use Rattle.compare.proofs.compare.check_lent.Statement.{statement}
 use Rattle.compare.proofs.compare.check_lent.Tie as tie
 use Rattle.compare.proofs.compare.check_lent.Reads as reads
 use Rattle.compare.proofs.compare.check_lent.Lts as lts
-use Rattle.compare.proofs.compare.check_indexed.Reads as check-indexed-reads
-use Rattle.record.proofs.ends.index_with_ends.Reads as index-with-ends-reads
+use Rattle.compare.proofs.compare.check_prepared.Reads as check-prepared-reads
+use Rattle.compare.proofs.compare.prepare.Reads as prepare-reads
 
-index-with-ends-requires : tie.Need-index-with-ends-requires
-index-with-ends-requires c κs = search needs
+prepare-requires : tie.Need-prepare-requires
+prepare-requires c κs = search needs
 
-index-with-ends-requires-2 : tie.Need-index-with-ends-requires-2
-index-with-ends-requires-2 c κs = search needs
-
-check-indexed-requires : tie.Need-check-indexed-requires
-check-indexed-requires c κs =
-    let pre = c .before .before .before .before .before .before .before .before .before .before .before .before .before .before .before .before .before .before .before .before .before .before .before .before .before .before .before .before .before .pre in
-    (search needs, search needs, search needs, search needs, search needs, search needs, search needs, search needs, search needs, search needs, search needs, search needs, c .before .before .before .before .before .before .before .before .before .before .before .before .before .before .index-with-ends .ensures (pre .0) (omega (arith, pre .12)) .index, c .before .before .before .before .before .before .before .before .before .before .index-with-ends2 .ensures (pre .2) (omega (arith, pre .13)) .index, c .before .before .before .before .before .before .before .before .before .before .before .before .before .before .index-with-ends .ensures (pre .0) (omega (arith, pre .12)) .ends, c .before .before .before .before .before .before .before .before .before .before .index-with-ends2 .ensures (pre .2) (omega (arith, pre .13)) .ends)
+check-prepared-requires : tie.Need-check-prepared-requires
+check-prepared-requires c κs =
+    let pre = c .before .before .before .before .before .before .before .before .before .before .before .before .before .before .before .before .before .before .before .before .before .before .before .before .before .before .before .before .pre in (
+      record {
+        types-room = omega (arith, pre .0 .2 .types-room);
+        constants-room = omega (arith, pre .0 .2 .constants-room);
+        shipped-room = omega (arith, pre .0 .2 .shipped-room);
+        sizes-room = omega (arith, pre .0 .2 .sizes-room);
+        widths-room = omega (arith, pre .0 .2 .widths-room);
+        marks-room = omega (arith, pre .0 .2 .marks-room);
+        scratch-room = omega (arith, pre .0 .2 .scratch-room);
+        old-scratch-room = omega (arith, pre .0 .2 .old-scratch-room);
+      },
+      (pre .1 .0, pre .1 .1, c .before .before .before .before .before .before .before .before .before .before .before .before .prepare .ensures),
+    )
 
 same-length : tie.Need-same-length
 same-length c = search needs
@@ -49,9 +57,8 @@ pub check-lent-spec : {M : Type 1} → statement M
 check-lent-spec =
     tie.close
     (tie.spec
-    index-with-ends-requires
-    index-with-ends-requires-2
-    check-indexed-requires
+    prepare-requires
+    check-prepared-requires
     same-length
     same-length-2
     same-length-3

@@ -30,7 +30,23 @@ slice-aggregate-check-lent-8 : tie.Need-slice-aggregate-check-lent-8
 slice-aggregate-check-lent-8 c = search needs
 
 check-lent-requires : tie.Need-check-lent-requires
-check-lent-requires c κs = (search needs, search needs, search needs, search needs, search needs, search needs, search needs, search needs, search needs, search needs, search needs, search needs, search needs, search needs)
+check-lent-requires c κs = (
+  (
+    search needs,
+    search needs,
+    record {
+      types-room = search needs;
+      constants-room = search needs;
+      shipped-room = search needs;
+      sizes-room = search needs;
+      widths-room = search needs;
+      marks-room = search needs;
+      scratch-room = search needs;
+      old-scratch-room = search needs;
+    },
+  ),
+  search needs,
+)
 
 returns : tie.Need-returns
 returns c = search needs

@@ -1,4 +1,4 @@
-use Rattle.verdicts.proofs.PassLaws.{then-on, then-stop}
+use Rattle.compare.proofs.CompareLaws.{order-at, order-stop, order-on}
 use borrow.Author.Needs.{needs}
 use Rattle.compare.proofs.compare.check_passes.Statement.{statement}
 use Rattle.compare.proofs.compare.check_passes.Tie as tie
@@ -15,19 +15,19 @@ enum-told : tie.Need-enum-told
 enum-told c = search needs
 
 returns : tie.Need-returns
-returns c = search then-stop
+returns c = search (order-stop, order-at)
 
 check-short-requires : tie.Need-check-short-requires
-check-short-requires c κs = search needs
+check-short-requires c κs = ((search needs, search needs), search needs)
 
 returns-2 : tie.Need-returns-2
-returns-2 c = search then-on
+returns-2 c = search (order-on, order-at)
 
 check-long-requires : tie.Need-check-long-requires
 check-long-requires c κs = search needs
 
 returns-3 : tie.Need-returns-3
-returns-3 c = search then-on
+returns-3 c = search (order-on, order-at)
 
 pub check-passes-spec : {M : Type 1} → statement M
 check-passes-spec =

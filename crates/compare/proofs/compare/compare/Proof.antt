@@ -1,5 +1,5 @@
 use Rattle.record.specs.Reading.{rec}
-use Rattle.compare.proofs.CompareLaws.{compared-unreleased, compared}
+use Rattle.compare.proofs.CompareLaws.{compared-unreleased, compared, releases}
 use borrow.Author.Needs.{needs}
 use Rattle.compare.proofs.compare.compare.Statement.{statement}
 use Rattle.compare.proofs.compare.compare.Tie as tie
@@ -7,11 +7,11 @@ use Rattle.compare.proofs.compare.compare.Tie as tie
 head-unreleased-requires : tie.Need-head-unreleased-requires
 head-unreleased-requires c κs = search needs
 
-check-unreleased-requires : tie.Need-check-unreleased-requires
-check-unreleased-requires c κs = search needs
+check-nothing-released-requires : tie.Need-check-nothing-released-requires
+check-nothing-released-requires c κs = search needs
 
 returns : tie.Need-returns
-returns c = compared-unreleased (rec _ _ _) (rec _ _ _) _ (c .before .before .head-unreleased .ensures) _ _ (c .before .if1 .taken) (c .check-unreleased .ensures)
+returns c = compared-unreleased (rec _ _ _) (rec _ _ _) _ (c .before .before .head-unreleased .ensures) _ _ (c .before .if1 .taken) (c .check-nothing-released .ensures)
 
 head-release-requires : tie.Need-head-release-requires
 head-release-requires c κs = search needs
@@ -23,18 +23,17 @@ head-release-requires-2 : tie.Need-head-release-requires-2
 head-release-requires-2 c κs = search needs
 
 check-passes-requires : tie.Need-check-passes-requires
-check-passes-requires c κs = search needs
+check-passes-requires c κs = (search needs, search needs, releases (rec _ _ _) (rec _ _ _) _ _ _ (c .before .before .head-release .ensures) (c .before .required-text .ensures) (c .head-release2 .ensures))
 
 returns-2 : tie.Need-returns-2
-returns-2 c =
-    compared (rec _ _ _) (rec _ _ _) _ (c .before .before .before .before .before .head-unreleased .ensures) _ _ _ (c .before .before .before .head-release .ensures) (c .before .before .required-text .ensures) (c .before .head-release2 .ensures) _ (c .before .before .before .before .if1 .left) (c .check-passes .ensures)
+returns-2 c = compared (rec _ _ _) (rec _ _ _) _ (c .before .before .before .before .before .head-unreleased .ensures) _ (c .before .before .before .before .if1 .left) (c .check-passes .ensures)
 
 pub compare-spec : {M : Type 1} → statement M
 compare-spec =
     tie.close
     (tie.spec
     head-unreleased-requires
-    check-unreleased-requires
+    check-nothing-released-requires
     returns
     head-release-requires
     required-text-requires

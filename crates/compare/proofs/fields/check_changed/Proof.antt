@@ -24,21 +24,22 @@ same-length : tie.Need-same-length
 same-length c = search needs
 
 returns : tie.Need-returns
-returns c = (search rest-bare, search rest-noted)
+returns c = record { verdict = search rest-bare; entry = search rest-noted }
 
 check-any-requires : tie.Need-check-any-requires
-check-any-requires c κs = let pre = c .before .before .before .before .before .before .before .before .before .before .before .before .before .before .before .before .pre in (pre .0, kept-sound _ _ _ _ _ _ _ _ _ _ (pre .0) (pre .1) (c .before .before .before .before .before .before .before .pass-kept .ensures .0))
+check-any-requires c κs = let pre = c .before .before .before .before .before .before .before .before .before .before .before .before .before .before .before .before .before .before .before .pre in (pre .0, kept-sound _ _ _ _ _ _ _ _ _ _ (pre .0) (pre .1) (c .before .before .before .before .before .before .before .before .pass-kept .ensures .kept))
 
 same-length-2 : tie.Need-same-length-2
 same-length-2 c = search needs
 
 returns-2 : tie.Need-returns-2
 returns-2 c =
-    let pre = c .before .before .before .before .before .before .before .before .before .before .before .before .before .before .before .before .before .pre in
-    let pass = c .before .before .before .before .before .before .before .before .pass-kept .ensures in (
-      kept-same _ _ _ _ _ _ _ _ _ _ (pre .0) (pre .1) (pass .0) _ _ (c .check-any .ensures),
-      rest-noted _ _ _ _ _ _ _ _ _ _ _ (pre .0) (pre .1) (c .before .before .before .before .before .before .before .before .before .before .before .before .before .before .before .before .before .args .i) (c .before .before .before .before .before .before .before .before .before .before .before .before .before .before .before .before .before .args .cover .now) _ (pass .1) (c .before .before .before .before .before .before .note-rest .ensures),
-    )
+    let pre = c .before .before .before .before .before .before .before .before .before .before .before .before .before .before .before .before .before .before .before .before .pre in
+    let pass = c .before .before .before .before .before .before .before .before .before .pass-kept .ensures in
+    record {
+      verdict = kept-same _ _ _ _ _ _ _ _ _ _ (pre .0) (pre .1) (pass .kept) _ _ (c .check-any .ensures);
+      entry = rest-noted _ _ _ _ _ _ _ _ _ _ _ (pre .0) (pre .1) (c .before .before .before .before .before .before .before .before .before .before .before .before .before .before .before .before .before .before .before .before .args .pair .index) (c .before .before .before .before .before .before .before .before .before .before .before .before .before .before .before .before .before .before .before .before .args .cover .now) _ (pass .alike) (c .before .before .before .before .before .before .before .note-rest .ensures);
+    }
 
 pub check-changed-spec : {M : Type 1} → statement M
 check-changed-spec =

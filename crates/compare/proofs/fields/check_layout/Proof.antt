@@ -26,7 +26,7 @@ same-length : tie.Need-same-length
 same-length c = search needs
 
 returns : tie.Need-returns
-returns c = (search bare-passed, search layout-noted)
+returns c = record { verdict = search bare-passed; entry = search layout-noted }
 
 type-name-requires : tie.Need-type-name-requires
 type-name-requires c κs = search needs
@@ -42,10 +42,11 @@ returns-2 c =
     let pre = c .before .before .before .before .before .before .before .before .before .before .before .before .before .before .before .before .before .pre in
     let spot = c .before .before .before .before .before .before .before .before .first-spot .ensures in
     let spot2 = c .before .before .before .before .before .before .before .first-spot2 .ensures in
-    let changed = c .before .before .check-changed .ensures in (
-      layout-fields _ _ _ _ _ _ _ _ _ _ _ (pre .0 .0) (pre .1 .0) spot2 spot (c .before .before .before .before .type-name .ensures) (changed .0),
-      layout-noted _ _ _ _ _ _ _ _ _ (c .before .before .before .before .before .before .before .before .before .before .before .before .before .before .before .before .before .args .i) (c .before .before .before .before .before .before .before .before .before .before .before .before .before .before .before .before .before .args .cover .now) _ (pre .0 .0) (pre .1 .0) spot2 spot (changed .1),
-    )
+    let changed = c .before .before .check-changed .ensures in
+    record {
+      verdict = layout-fields _ _ _ _ _ _ _ _ _ _ _ (pre .0 .0) (pre .1 .0) spot2 spot (c .before .before .before .before .type-name .ensures) (changed .verdict);
+      entry = layout-noted _ _ _ _ _ _ _ _ _ (c .before .before .before .before .before .before .before .before .before .before .before .before .before .before .before .before .before .args .types .index) (c .before .before .before .before .before .before .before .before .before .before .before .before .before .before .before .before .before .args .cover .now) _ (pre .0 .0) (pre .1 .0) spot2 spot (changed .entry);
+    }
 
 pub check-layout-spec : {M : Type 1} → statement M
 check-layout-spec =

@@ -9,10 +9,10 @@ use Rattle.compare.proofs.fields.check_places.Statement.{statement}
 use Rattle.compare.proofs.fields.check_places.Tie as tie
 
 abbrev Inv-loop : tie.InvT-loop
-Inv-loop rows stream pool sizes is table past old widths owner cursor₀ cursor = PlacesOn (rec past old (scalarsOf rows)) widths (nameOf old owner) (placesFrom (rec stream pool (scalarsOf rows)) is) cursor₀ cursor
+Inv-loop rows stream pool sizes past old widths table pair cursor₀ cursor = PlacesOn (rec past old (scalarsOf rows)) widths (nameOf old (pair .owner)) (placesFrom (rec stream pool (scalarsOf rows)) (pair .is)) (pair .was) cursor
 
 abbrev μ-loop : tie.MeasureT-loop
-μ-loop rows stream pool sizes is table past old widths owner cursor₀ cursor = spotsLeft past cursor
+μ-loop rows stream pool sizes past old widths table pair cursor₀ cursor = spotsLeft past cursor
 
 loop-holds : tie.Need-loop-holds Inv-loop μ-loop
 loop-holds c = search places-here

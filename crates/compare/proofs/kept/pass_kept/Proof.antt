@@ -8,25 +8,25 @@ enum-known-ahead : tie.Need-enum-known-ahead
 enum-known-ahead c = search needs
 
 returns : tie.Need-returns
-returns c = (search kept-here, search alike-here)
+returns c = record { kept = search kept-here; alike = search alike-here }
 
 enum-known-other : tie.Need-enum-known-other
 enum-known-other c = search needs
 
 returns-2 : tie.Need-returns-2
-returns-2 c = (search kept-here, search alike-here)
+returns-2 c = record { kept = search kept-here; alike = search alike-here }
 
 returns-3 : tie.Need-returns-3
-returns-3 c = (search kept-here, search alike-here)
+returns-3 c = record { kept = search kept-here; alike = search alike-here }
 
-slice-aggregate-pass-fields : tie.Need-slice-aggregate-pass-fields
-slice-aggregate-pass-fields c = search needs
+slice-aggregate-pass-kept-fields : tie.Need-slice-aggregate-pass-kept-fields
+slice-aggregate-pass-kept-fields c = search needs
 
-pass-fields-requires : tie.Need-pass-fields-requires
-pass-fields-requires c κs = (search noted-front, search needs)
+pass-kept-fields-requires : tie.Need-pass-kept-fields-requires
+pass-kept-fields-requires c κs = (search noted-front, search needs)
 
 returns-4 : tie.Need-returns-4
-returns-4 c = (search kept-body, search alike-bodies)
+returns-4 c = record { kept = search kept-body; alike = search alike-bodies }
 
 pub pass-kept-spec : {M : Type 1} → statement M
 pass-kept-spec =
@@ -37,6 +37,6 @@ pass-kept-spec =
     enum-known-other
     returns-2
     returns-3
-    slice-aggregate-pass-fields
-    pass-fields-requires
+    slice-aggregate-pass-kept-fields
+    pass-kept-fields-requires
     returns-4)

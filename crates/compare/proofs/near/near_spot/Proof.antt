@@ -6,8 +6,8 @@ use Rattle.compare.proofs.near.near_spot.Tie as tie
 key-of-requires : tie.Need-key-of-requires
 key-of-requires c κs = search needs
 
-entry-at-requires : tie.Need-entry-at-requires
-entry-at-requires c κs = search needs
+near-entry-requires : tie.Need-near-entry-requires
+near-entry-requires c κs = search needs
 
 returns : tie.Need-returns
 returns c = search needs
@@ -29,7 +29,7 @@ near-spot-spec =
     tie.close
     (tie.spec
     key-of-requires
-    entry-at-requires
+    near-entry-requires
     returns
     sub-at
     sub-body-at

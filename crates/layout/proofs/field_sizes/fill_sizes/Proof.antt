@@ -36,7 +36,7 @@ same-length : tie.Need-same-length Inv-loop μ-loop
 same-length c = search needs
 
 returns : tie.Need-returns Inv-loop μ-loop
-returns c = λ i room. search sizing-end
+returns c = search sizing-end
 
 from-requires : tie.Need-from-requires Inv-loop μ-loop
 from-requires c κs = search needs

@@ -1,5 +1,5 @@
-use native.Mathlib.Omega.{arith}
 use Rattle.layout.proofs.TableLaws.{cut-long}
+use Rattle.layout.proofs.TablesLaws.{index-filled}
 use borrow.Author.Needs.{needs}
 use Rattle.layout.proofs.list.list_lent.Statement.{statement}
 use Rattle.layout.proofs.list.list_lent.Tie as tie
@@ -8,7 +8,7 @@ fill-index-requires : tie.Need-fill-index-requires
 fill-index-requires c κs = search needs
 
 fill-tables-requires : tie.Need-fill-tables-requires
-fill-tables-requires c κs = search needs
+fill-tables-requires c κs = (search needs, search needs, search index-filled, search needs, search needs, search needs)
 
 slice-reshare-prefix-list-tables : tie.Need-slice-reshare-prefix-list-tables
 slice-reshare-prefix-list-tables c = search needs
@@ -17,9 +17,7 @@ slice-aggregate-list-tables : tie.Need-slice-aggregate-list-tables
 slice-aggregate-list-tables c = cut-long _ _ (search needs)
 
 list-tables-requires : tie.Need-list-tables-requires
-list-tables-requires c κs =
-    let pre = c .before .before .before .before .before .before .before .before .before .before .before .before .before .before .before .before .before .before .before .before .before .before .before .before .before .before .pre in
-    c .before .before .before .before .before .before .before .before .before .fill-tables .ensures .0 (c .before .before .before .before .before .before .before .before .before .before .before .before .before .before .before .before .fill-index .ensures (pre .0) (omega (arith, pre .5))) (search needs) (search needs) (search needs) (search needs) (pre .1)
+list-tables-requires c κs = search needs
 
 same-length : tie.Need-same-length
 same-length c = search needs

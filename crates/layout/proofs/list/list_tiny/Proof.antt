@@ -17,7 +17,7 @@ slice-aggregate-fill-few-3 : tie.Need-slice-aggregate-fill-few-3
 slice-aggregate-fill-few-3 c = search needs
 
 fill-few-requires : tie.Need-fill-few-requires
-fill-few-requires c κs = search needs
+fill-few-requires c κs = (search needs, search needs, search needs, search needs, search needs)
 
 array-share-prefix-types : tie.Need-array-share-prefix-types
 array-share-prefix-types c = search needs
@@ -29,7 +29,7 @@ slice-aggregate-list-tables-2 : tie.Need-slice-aggregate-list-tables-2
 slice-aggregate-list-tables-2 c = search needs
 
 list-tables-requires : tie.Need-list-tables-requires
-list-tables-requires c κs = c .before .before .before .before .before .before .fill-few .ensures .0 (search needs)
+list-tables-requires c κs = search needs
 
 same-length : tie.Need-same-length
 same-length c = search needs

@@ -18,8 +18,8 @@ text-before-requires-2 c κs = search needs
 returns-2 : tie.Need-returns-2
 returns-2 c = search parts-laws
 
-joined-before-requires : tie.Need-joined-before-requires
-joined-before-requires c κs = search needs
+composed-before-requires : tie.Need-composed-before-requires
+composed-before-requires c κs = search needs
 
 returns-3 : tie.Need-returns-3
 returns-3 c = search needs
@@ -33,5 +33,5 @@ parts-before-spec =
     returns
     text-before-requires-2
     returns-2
-    joined-before-requires
+    composed-before-requires
     returns-3)

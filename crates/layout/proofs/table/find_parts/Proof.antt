@@ -1,5 +1,5 @@
 use Prim.Native.Nat.{_-_}
-use Rattle.layout.specs.Names.{joined}
+use Rattle.layout.specs.Names.{composed}
 use Rattle.layout.proofs.TableLaws.{Seeking, seek-start, seek-up, seek-down, seek-laws}
 use borrow.Author.Needs.{needs}
 use Rattle.layout.proofs.table.find_parts.Statement.{statement}
@@ -12,7 +12,7 @@ use Rattle.layout.proofs.table.less_one.Reads as less-one-reads
 use Rattle.layout.proofs.table.look_at.Reads as look-at-reads
 
 abbrev Inv-loop : tie.InvT-loop
-Inv-loop stream pool types f k b near lo₀ hi₀ next₀ tries₀ lo hi next tries = Seeking stream pool types (joined f k b) lo hi
+Inv-loop stream pool types f k b near lo₀ hi₀ next₀ tries₀ lo hi next tries = Seeking stream pool types (composed f k b) lo hi
 
 abbrev μ-loop : tie.MeasureT-loop
 μ-loop stream pool types f k b near lo₀ hi₀ next₀ tries₀ lo hi next tries = hi - lo

@@ -8,7 +8,7 @@ slice-aggregate-fill-sizes : tie.Need-slice-aggregate-fill-sizes
 slice-aggregate-fill-sizes c = search needs
 
 fill-sizes-requires : tie.Need-fill-sizes-requires
-fill-sizes-requires c κs = search needs
+fill-sizes-requires c κs = (no-index _ _, search needs)
 
 few-types-requires : tie.Need-few-types-requires
 few-types-requires c κs = search needs
@@ -23,10 +23,7 @@ same-length-3 : tie.Need-same-length-3
 same-length-3 c = search needs
 
 returns : tie.Need-returns
-returns c =
-    let pre = c .before .before .before .before .before .before .before .before .before .before .before .before .before .before .before .before .before .before .pre in
-    let types = c .before .before .before .before .few-types .ensures in
-    (λ e. tables-are _ _ _ (c .before .before .before .before .before .before .before .before .before .before .before .before .before .before .before .before .before .before .args .sizes .now) _ _ (no-index _ _) (pre .0) (pre .3) (c .before .before .before .before .before .before .before .before .before .fill-sizes .ensures) (types .0) (types .1) e, search needs)
+returns c = (search tables-are, search needs)
 
 pub fill-few-spec : {M : Type 1} → statement M
 fill-few-spec =

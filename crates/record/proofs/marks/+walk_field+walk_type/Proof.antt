@@ -3,7 +3,7 @@ use Prim.Native.Nat.{ℕ, _+_, _*_, _-_, _<_}
 use lib.ListN.{length, length-set}
 use Rattle.record.specs.Marks.{unseen, Led}
 use Rattle.record.proofs.PlaceLaws.{places-nearer}
-use Rattle.record.proofs.MarkLaws.{field-laws, field-less, field-ready, field-length, BodyGoing, going-length, going-less, going-ready, place-inside, type-starts, type-ends, type-goes}
+use Rattle.record.proofs.MarkLaws.{field-laws, field-less, field-ready, field-length, BodyGoing, going-length, going-less, going-ready, place-inside, place-number, visit-inside, type-seen, type-starts, type-ends, type-goes}
 use borrow.Fn.Kinds.{In}
 use borrow.Fn.PlainCycle.{Measures, is, falls, and}
 use Rattle.record.proofs.marks.walk_field.Reads as walk-field
@@ -12,6 +12,7 @@ use Rattle.record.proofs.marks.+walk_field+walk_type.Lts-walk_field as 
 use Rattle.record.proofs.marks.walk_type.Reads as walk-type
 use Rattle.record.proofs.marks.walk_type.Kinds as walk-type-kinds
 use Rattle.record.proofs.marks.+walk_field+walk_type.Lts-walk_type as walk-type-lts
+use Rattle.record.proofs.marks.is_visited.Reads as is-visited-reads
 use Rattle.record.proofs.marks.next_place.Reads as next-place-reads
 use Rattle.record.proofs.marks.target_at.Reads as target-at-reads
 use Rattle.record.proofs.marks.+walk_field+walk_type.{statement}
@@ -127,12 +128,54 @@ walk-field-returns-3 : (t : ℕ) → walk-field-lts.Need-returns-3 (
 walk-field-returns-3 t c = search field-laws
 
 abbrev walk-type-Inv-loop : walk-type-lts.InvT-loop
-walk-type-Inv-loop stream pool index marks₀ mark family cursor₀ marks cursor = Led stream pool index marks₀ marks (BodyGoing stream pool mark (record { from = cursor₀; family = family }) family marks₀ marks (cursor .at))
+walk-type-Inv-loop stream pool index marks₀ mark place family cursor₀ marks cursor = Led stream pool index marks₀ marks (BodyGoing stream pool mark family (cursor₀ .at) marks₀ marks (cursor .at))
 
 abbrev walk-type-μ-loop : walk-type-lts.MeasureT-loop
-walk-type-μ-loop stream pool index marks₀ mark family cursor₀ marks cursor = length stream - cursor .at
+walk-type-μ-loop stream pool index marks₀ mark place family cursor₀ marks cursor = length stream - cursor .at
+
+walk-type-is-visited-requires : (t : ℕ) → walk-type-lts.Need-is-visited-requires (
+  is-visited-reads.Asked,
+  is-visited-reads.Learnt,
+  next-place-reads.Asked,
+  next-place-reads.Learnt,
+  walk-field-below t,
+  walk-field.Post,
+) (walk-type-at t) walk-type.Post walk-type-Inv-loop walk-type-μ-loop
+walk-type-is-visited-requires t c κs = search needs
+
+walk-type-same-length : (t : ℕ) → walk-type-lts.Need-same-length (
+  is-visited-reads.Asked,
+  is-visited-reads.Learnt,
+  next-place-reads.Asked,
+  next-place-reads.Learnt,
+  walk-field-below t,
+  walk-field.Post,
+) (walk-type-at t) walk-type.Post walk-type-Inv-loop walk-type-μ-loop
+walk-type-same-length t c = search needs
+
+walk-type-returns : (t : ℕ) → walk-type-lts.Need-returns (
+  is-visited-reads.Asked,
+  is-visited-reads.Learnt,
+  next-place-reads.Asked,
+  next-place-reads.Learnt,
+  walk-field-below t,
+  walk-field.Post,
+) (walk-type-at t) walk-type.Post walk-type-Inv-loop walk-type-μ-loop
+walk-type-returns t c = search type-seen
+
+walk-type-slice-write-marks : (t : ℕ) → walk-type-lts.Need-slice-write-marks (
+  is-visited-reads.Asked,
+  is-visited-reads.Learnt,
+  next-place-reads.Asked,
+  next-place-reads.Learnt,
+  walk-field-below t,
+  walk-field.Post,
+) (walk-type-at t) walk-type.Post walk-type-Inv-loop walk-type-μ-loop
+walk-type-slice-write-marks t c = search visit-inside
 
 walk-type-loop-holds : (t : ℕ) → walk-type-lts.Need-loop-holds (
+  is-visited-reads.Asked,
+  is-visited-reads.Learnt,
   next-place-reads.Asked,
   next-place-reads.Learnt,
   walk-field-below t,
@@ -141,6 +184,8 @@ walk-type-loop-holds : (t : ℕ) → walk-type-lts.Need-loop-holds (
 walk-type-loop-holds t c = search type-starts
 
 walk-type-next-place-requires : (t : ℕ) → walk-type-lts.Need-next-place-requires (
+  is-visited-reads.Asked,
+  is-visited-reads.Learnt,
   next-place-reads.Asked,
   next-place-reads.Learnt,
   walk-field-below t,
@@ -148,15 +193,19 @@ walk-type-next-place-requires : (t : ℕ) → walk-type-lts.Need-next-place-requ
 ) (walk-type-at t) walk-type.Post walk-type-Inv-loop walk-type-μ-loop
 walk-type-next-place-requires t c κs = search needs
 
-walk-type-enum-known-place : (t : ℕ) → walk-type-lts.Need-enum-known-place (
+walk-type-enum-known-field : (t : ℕ) → walk-type-lts.Need-enum-known-field (
+  is-visited-reads.Asked,
+  is-visited-reads.Learnt,
   next-place-reads.Asked,
   next-place-reads.Learnt,
   walk-field-below t,
   walk-field.Post,
 ) (walk-type-at t) walk-type.Post walk-type-Inv-loop walk-type-μ-loop
-walk-type-enum-known-place t c = search needs
+walk-type-enum-known-field t c = search needs
 
 walk-type-enum-told : (t : ℕ) → walk-type-lts.Need-enum-told (
+  is-visited-reads.Asked,
+  is-visited-reads.Learnt,
   next-place-reads.Asked,
   next-place-reads.Learnt,
   walk-field-below t,
@@ -164,31 +213,39 @@ walk-type-enum-told : (t : ℕ) → walk-type-lts.Need-enum-told (
 ) (walk-type-at t) walk-type.Post walk-type-Inv-loop walk-type-μ-loop
 walk-type-enum-told t c = search needs
 
-walk-type-same-length : (t : ℕ) → walk-type-lts.Need-same-length (
+walk-type-same-length-2 : (t : ℕ) → walk-type-lts.Need-same-length-2 (
+  is-visited-reads.Asked,
+  is-visited-reads.Learnt,
   next-place-reads.Asked,
   next-place-reads.Learnt,
   walk-field-below t,
   walk-field.Post,
 ) (walk-type-at t) walk-type.Post walk-type-Inv-loop walk-type-μ-loop
-walk-type-same-length t c = search going-length
+walk-type-same-length-2 t c = search going-length
 
-walk-type-returns : (t : ℕ) → walk-type-lts.Need-returns (
+walk-type-returns-2 : (t : ℕ) → walk-type-lts.Need-returns-2 (
+  is-visited-reads.Asked,
+  is-visited-reads.Learnt,
   next-place-reads.Asked,
   next-place-reads.Learnt,
   walk-field-below t,
   walk-field.Post,
 ) (walk-type-at t) walk-type.Post walk-type-Inv-loop walk-type-μ-loop
-walk-type-returns t c = search type-ends
+walk-type-returns-2 t c = search type-ends
 
 walk-type-walk-field-requires : (t : ℕ) → walk-type-lts.Need-walk-field-requires (
+  is-visited-reads.Asked,
+  is-visited-reads.Learnt,
   next-place-reads.Asked,
   next-place-reads.Learnt,
   walk-field-below t,
   walk-field.Post,
 ) (walk-type-at t) walk-type.Post walk-type-Inv-loop walk-type-μ-loop
-walk-type-walk-field-requires t c κs = (search going-less, (search going-ready, search place-inside))
+walk-type-walk-field-requires t c κs = (search going-less, (search going-ready, search place-inside, search place-number))
 
 walk-type-loop-less : (t : ℕ) → walk-type-lts.Need-loop-less (
+  is-visited-reads.Asked,
+  is-visited-reads.Learnt,
   next-place-reads.Asked,
   next-place-reads.Learnt,
   walk-field-below t,
@@ -197,6 +254,8 @@ walk-type-loop-less : (t : ℕ) → walk-type-lts.Need-loop-less (
 walk-type-loop-less t c = search places-nearer
 
 walk-type-loop-again : (t : ℕ) → walk-type-lts.Need-loop-again (
+  is-visited-reads.Asked,
+  is-visited-reads.Learnt,
   next-place-reads.Asked,
   next-place-reads.Learnt,
   walk-field-below t,
@@ -224,18 +283,28 @@ pub +walk-field+walk-type-spec : {M : Type 1} → statement M
     (walk-field-walk-type-requires t)
     (walk-field-same-length-2 t)
     (walk-field-returns-3 t))
-    λ t. walk-type-lts.spec
-    (next-place-reads.Asked, next-place-reads.Learnt, walk-field-below t, walk-field.Post)
+    λ t. walk-type-lts.spec (
+      is-visited-reads.Asked,
+      is-visited-reads.Learnt,
+      next-place-reads.Asked,
+      next-place-reads.Learnt,
+      walk-field-below t,
+      walk-field.Post,
+    )
     (walk-type-at t)
     walk-type.Post
     walk-type-Inv-loop
     walk-type-μ-loop
-    (walk-type-loop-holds t)
-    (walk-type-next-place-requires t)
-    (walk-type-enum-known-place t)
-    (walk-type-enum-told t)
+    (walk-type-is-visited-requires t)
     (walk-type-same-length t)
     (walk-type-returns t)
+    (walk-type-slice-write-marks t)
+    (walk-type-loop-holds t)
+    (walk-type-next-place-requires t)
+    (walk-type-enum-known-field t)
+    (walk-type-enum-told t)
+    (walk-type-same-length-2 t)
+    (walk-type-returns-2 t)
     (walk-type-walk-field-requires t)
     (walk-type-loop-less t)
     (walk-type-loop-again t)

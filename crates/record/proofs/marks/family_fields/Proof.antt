@@ -10,8 +10,8 @@ use Rattle.record.proofs.index.find_declared.Reads as find-declared-rea
 find-declared-requires : tie.Need-find-declared-requires
 find-declared-requires c κs = search needs
 
-enum-known-after : tie.Need-enum-known-after
-enum-known-after c = search needs
+enum-known-place : tie.Need-enum-known-place
+enum-known-place c = search needs
 
 place-requires : tie.Need-place-requires
 place-requires c κs = search needs
@@ -33,7 +33,7 @@ family-fields-spec =
     tie.close
     (tie.spec
     find-declared-requires
-    enum-known-after
+    enum-known-place
     place-requires
     returns
     enum-told

@@ -3,9 +3,6 @@ use borrow.Author.Needs.{needs}
 use Rattle.record.proofs.marks.mark_roots.Statement.{statement}
 use Rattle.record.proofs.marks.mark_roots.Tie as tie
 
-clear-requires : tie.Need-clear-requires
-clear-requires c κs = search needs
-
 mark-root-requires : tie.Need-mark-root-requires
 mark-root-requires c κs = search needs
 
@@ -19,13 +16,12 @@ same-length : tie.Need-same-length
 same-length c = search needs
 
 returns : tie.Need-returns
-returns c = λ i j. search roots-marked
+returns c = search roots-marked
 
 pub mark-roots-spec : {M : Type 1} → statement M
 mark-roots-spec =
     tie.close
     (tie.spec
-    clear-requires
     mark-root-requires
     mark-root-requires-2
     mark-root-requires-3

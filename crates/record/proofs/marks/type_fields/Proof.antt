@@ -11,8 +11,8 @@ use Rattle.record.proofs.marks.family_fields.Reads as family-fields-rea
 find-declared-requires : tie.Need-find-declared-requires
 find-declared-requires c κs = search needs
 
-enum-known-after : tie.Need-enum-known-after
-enum-known-after c = search needs
+enum-known-place : tie.Need-enum-known-place
+enum-known-place c = search needs
 
 enum-told : tie.Need-enum-told
 enum-told c = search needs
@@ -34,7 +34,7 @@ type-fields-spec =
     tie.close
     (tie.spec
     find-declared-requires
-    enum-known-after
+    enum-known-place
     enum-told
     family-fields-requires
     returns

@@ -5,7 +5,7 @@ use Rattle.record.proofs.ownership.owner_lent.Tie as tie
 use Rattle.record.proofs.ownership.owner_lent.Reads as reads
 use Rattle.record.proofs.ownership.owner_lent.Lts as lts
 use Rattle.record.proofs.index.fill_index.Reads as fill-index-reads
-use Rattle.record.proofs.marks.mark_owners.Reads as mark-owners-reads
+use Rattle.record.proofs.marks.mark_roots.Reads as mark-roots-reads
 use Rattle.record.proofs.ownership.owner_by.Reads as owner-by-reads
 use Rattle.record.proofs.versioned.versioned_structs.Reads as versioned-structs-reads
 
@@ -15,8 +15,8 @@ fill-index-requires c κs = search needs
 versioned-structs-requires : tie.Need-versioned-structs-requires
 versioned-structs-requires c κs = search needs
 
-mark-owners-requires : tie.Need-mark-owners-requires
-mark-owners-requires c κs = search needs
+mark-roots-requires : tie.Need-mark-roots-requires
+mark-roots-requires c κs = search needs
 
 owner-by-requires : tie.Need-owner-by-requires
 owner-by-requires c κs = search needs
@@ -36,7 +36,7 @@ owner-lent-spec =
     (tie.spec
     fill-index-requires
     versioned-structs-requires
-    mark-owners-requires
+    mark-roots-requires
     owner-by-requires
     same-length
     same-length-2

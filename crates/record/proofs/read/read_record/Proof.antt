@@ -6,7 +6,7 @@ use Rattle.record.proofs.read.read_record.Reads as reads
 use Rattle.record.proofs.read.read_record.Lts as lts
 use Rattle.record.proofs.letters.odd_letter.Reads as odd-letter-reads
 use Rattle.record.proofs.read.read_commands.Reads as read-commands-reads
-use Rattle.record.proofs.bound.vast_type.Reads as vast-type-reads
+use Rattle.record.proofs.vast.vast_type.Reads as vast-type-reads
 
 returns : tie.Need-returns
 returns c = search read-long

@@ -1,7 +1,7 @@
 use Prim.Native.Nat.{_-_, _≤_, _<_, _^_}
 use mathlib.Core.Path.{_≡_}
 use lib.ListN.{length, drop}
-use Rattle.record.specs.Release.{number, parsed}
+use Rattle.record.specs.Release.{number, asU32}
 use Rattle.record.proofs.TextLaws.{kept, ended}
 use Rattle.record.proofs.ReleaseLaws.{number-laws}
 use borrow.Author.Needs.{needs}
@@ -9,7 +9,7 @@ use Rattle.record.proofs.release.parse.Statement.{statement}
 use Rattle.record.proofs.release.parse.Tie as tie
 
 abbrev Inv-loop : tie.InvT-loop
-Inv-loop part n₀ i₀ n i = (i ≤ length part) × (n < 2 ^ 32) × (parsed (number 0 part) ≡ parsed (number n (drop i part)))
+Inv-loop part n₀ i₀ n i = (i ≤ length part) × (n < 2 ^ 32) × (asU32 (number 0 part) ≡ asU32 (number n (drop i part)))
 
 abbrev μ-loop : tie.MeasureT-loop
 μ-loop part n₀ i₀ n i = length part - i
