@@ -76,6 +76,12 @@ fn without_the_archive() {
     assert!(said.contains("there is no ") && said.contains("run `rt staticlib menqachu`"), "{said}");
 }
 
+/// Cargo of an older Rust says which one is asked for.
+#[test]
+fn the_rust_that_is_asked_for() {
+    assert_eq!(env!("CARGO_PKG_RUST_VERSION"), "1.82");
+}
+
 /// A fault of a text can be handed on as any error.
 #[test]
 fn a_fault_is_an_error() {

@@ -1,6 +1,7 @@
-//! Drawn texts and records to every command: none panics, and none takes more than 0.2 s of processor.
+//! Drawn texts and records to the commands: none panics, and none takes more than 0.2 s of processor.
 //!
-//! 150 of each are drawn here; MENQACHU_FUZZ=10000 draws so many. The first are the same in each run.
+//! 500 of each are drawn here, and MENQACHU_FUZZ=10000 draws so many; each is given to six of the calls below. The first are
+//! the same in each run. The texts of the largest records are given to all calls.
 mod common;
 
 use std::process::Stdio;
@@ -15,7 +16,10 @@ use menqachu::text::{assemble, show};
 /// How long a run may take, in seconds of processor.
 const LIMIT: f64 = 0.2;
 
-/// What every input is given to, as FILE, beside a record or text that can be read, as GOOD.
+/// How many of the calls a drawn input is given to.
+const EACH: usize = 6;
+
+/// What an input is given to, as FILE, beside a record or text that can be read, as GOOD.
 const CALLS: [&str; 24] = [
     "check FILE GOOD",
     "check GOOD FILE --json",
@@ -204,11 +208,16 @@ fn filled(call: &str) -> String {
     names.iter().fold(call.to_string(), |call, (word, name)| call.replace(word, name))
 }
 
-/// Gives an input to every command, and gives the longest time of processor that one took.
-fn hold(folder: &Folder, input: &[u8], good: &[u8], round: &str) -> f64 {
+/// Some of the calls.
+fn drawn_calls(drawn: &mut Drawn) -> Vec<&'static str> {
+    (0..EACH).map(|_| CALLS[drawn.below(CALLS.len())]).collect()
+}
+
+/// Gives an input to these calls, and gives the longest time of processor that one took.
+fn hold(folder: &Folder, calls: &[&str], input: &[u8], good: &[u8], round: &str) -> f64 {
     let mut longest: f64 = 0.0;
     folder.file("good", good);
-    for call in CALLS {
+    for call in calls {
         // Some commands write the files again.
         folder.file("file", input);
         folder.file("copy", good);
@@ -231,14 +240,14 @@ fn hold(folder: &Folder, input: &[u8], good: &[u8], round: &str) -> f64 {
 
 #[test]
 fn drawn_texts_and_records() {
-    let count = std::env::var("MENQACHU_FUZZ").ok().map_or(150, |count| count.parse().expect("a number"));
+    let count = std::env::var("MENQACHU_FUZZ").ok().map_or(500, |count| count.parse().expect("a number"));
     let folder = Folder::new("fuzz");
     folder.file("more", b"head 1.0.0\nstruct more\nfield n scalar\nend\n");
     let bases = bases();
     let mut drawn = Drawn(0xF022);
     let (mut longest, began) = (0.0_f64, Instant::now());
     for base in largest() {
-        longest = longest.max(hold(&folder, base.as_bytes(), base.as_bytes(), "largest"));
+        longest = longest.max(hold(&folder, &CALLS, base.as_bytes(), base.as_bytes(), "largest"));
     }
     let mut sorts = [0; 4];
     for round in 0..count {
@@ -247,15 +256,21 @@ fn drawn_texts_and_records() {
         sorts[usize::from(assemble(&text).is_ok())] += 1;
         let read = Parts::read(&mut &record[..]).expect("a slice can be read");
         sorts[2 + usize::from(show(read.record()).is_ok())] += 1;
-        longest = longest.max(hold(&folder, &text, good.as_bytes(), &format!("text {round}")));
+        longest = longest.max(hold(
+            &folder,
+            &drawn_calls(&mut drawn),
+            &text,
+            good.as_bytes(),
+            &format!("text {round}"),
+        ));
         let good = assemble(good.as_bytes()).map_or(good.as_bytes().to_vec(), |parts| parts.to_bytes());
-        longest = longest.max(hold(&folder, &record, &good, &format!("record {round}")));
+        longest =
+            longest.max(hold(&folder, &drawn_calls(&mut drawn), &record, &good, &format!("record {round}")));
     }
     // Both sorts of both are there: those that can be read, and those that cannot.
     assert!(sorts.iter().all(|found| *found > count / 10), "{sorts:?}");
     println!(
-        "{count} texts, {count} records, {} calls each: {sorts:?}, longest {longest} s, {:?}",
-        CALLS.len(),
+        "{count} texts and {count} records, {sorts:?}: at most {longest} s, {:?} in all",
         began.elapsed()
     );
 }

@@ -13,7 +13,7 @@ use super::premises::Notes;
 use super::{alike, files, Done, Stop, DONE, STOPPED};
 
 pub fn run(args: &Args) -> Done {
-    let given = args.operands.iter().map(|file| files::record(file)).collect::<Result<Vec<_>, _>>()?;
+    let given = args.operands.iter().map(files::record).collect::<Result<Vec<_>, _>>()?;
     let Some((first, offered)) = given.split_first() else {
         return Err(Stop::failed("chain: expected a first record"));
     };
