@@ -1,6 +1,8 @@
 //! Records and texts as operands: which of the two a file is taken as, and what is said of damaged ones.
 mod common;
 
+use std::collections::BTreeSet;
+
 use common::{record, run, run_in, run_on, top, Folder};
 
 const OLD: &str = "# the last release\nhead 1.0.0\nconstant G 1\n\nstruct scan slot=metadata version=G\n    \
@@ -237,25 +239,14 @@ fn by_hand() {
     assert!(run_on(&["list", "-"], &endless).complained(3).contains("is over 16 MiB; the text form"));
 }
 
-/// Every command whose help speaks of records takes both options, and says so.
+/// Every command that reads records says in its help that it takes both options.
 #[test]
 fn every_command_that_reads_records() {
-    for command in [
-        "check",
-        "chain",
-        "list",
-        "owner",
-        "pointers",
-        "diff",
-        "report",
-        "draft",
-        "shelf",
-        "reordered",
-        "lint",
-        "show",
-    ] {
-        let ran = run(&[command, "--help"]);
-        assert!(ran.said(0).contains("\n  --record, --text  how every file is taken"), "{command}");
+    let names: BTreeSet<&str> = CALLS.iter().filter_map(|call| call.split(' ').next()).collect();
+    assert_eq!(names.len(), 12, "{names:?}");
+    for name in names {
+        let ran = run(&[name, "--help"]);
+        assert!(ran.said(0).contains("\n  --record, --text  how every file is taken"), "{name}");
     }
 }
 
