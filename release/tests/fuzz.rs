@@ -1,7 +1,7 @@
 //! Drawn texts and records to the commands: none panics, and none takes more than 0.2 s of processor.
 //!
-//! 500 of each are drawn here, and MENQACHU_FUZZ=10000 draws so many; each is given to six of the calls below. The first are
-//! the same in each run. The texts of the largest records are given to all calls.
+//! 500 of each are drawn here, and MENQACHU_FUZZ=10000 draws so many, others with MENQACHU_FUZZ_SEED=2; each is given to six
+//! of the calls below. The texts of the largest records are given to all calls.
 mod common;
 
 use std::process::Stdio;
@@ -126,6 +126,15 @@ fn largest() -> Vec<String> {
     ]
 }
 
+/// A text whose pool comes first, and whose commands name as many different stretches of it as there is room for.
+fn stretches() -> String {
+    let mut drawn = Drawn(0x7E47);
+    let letters: String = (0..16_000).map(|_| char::from(b'a' + drawn.below(26) as u8)).collect();
+    let aliases =
+        (0..4600).map(|at| format!("alias {} {}\n", &letters[3 * at..][..60], &letters[3 * at + 1..][..60]));
+    format!("pool {letters}\nhead 1.0.0\n{}end\n", aliases.collect::<String>())
+}
+
 /// A text with a few lines or words put in, taken out, doubled or moved, or bytes changed.
 fn drawn_text(drawn: &mut Drawn, bases: &[String]) -> Vec<u8> {
     let base = &bases[drawn.below(bases.len())];
@@ -240,13 +249,15 @@ fn hold(folder: &Folder, calls: &[&str], input: &[u8], good: &[u8], round: &str)
 
 #[test]
 fn drawn_texts_and_records() {
-    let count = std::env::var("MENQACHU_FUZZ").ok().map_or(500, |count| count.parse().expect("a number"));
-    let folder = Folder::new("fuzz");
+    let asked = |name: &str| std::env::var(name).ok().map(|number| number.parse::<u64>().expect(name));
+    let count = asked("MENQACHU_FUZZ").unwrap_or(500);
+    let seed = asked("MENQACHU_FUZZ_SEED").unwrap_or(1);
+    let folder = Folder::new(&format!("fuzz_{seed}"));
     folder.file("more", b"head 1.0.0\nstruct more\nfield n scalar\nend\n");
     let bases = bases();
-    let mut drawn = Drawn(0xF022);
+    let mut drawn = Drawn(0xF022 * seed.max(1));
     let (mut longest, began) = (0.0_f64, Instant::now());
-    for base in largest() {
+    for base in largest().into_iter().chain([stretches()]) {
         longest = longest.max(hold(&folder, &CALLS, base.as_bytes(), base.as_bytes(), "largest"));
     }
     let mut sorts = [0; 4];

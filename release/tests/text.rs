@@ -275,6 +275,8 @@ fn limits() {
     assert_eq!(long, "line 2: expected the name of the alias in at most 255 bytes, found 256");
     let long = fault(&format!("head {}\nend", name(256)));
     assert_eq!(long, "line 1: expected the release of the head in at most 255 bytes, found 256");
+    let words = fault(&format!("head\nstruct s\nfield f scalar type=u8{}\nend", " x".repeat(100)));
+    assert_eq!(words, "line 3: expected element, count, rows, cols, size or the end of the line, found x");
     let far = fault(&format!("head\n{}\nend", name(1000)));
     assert!(far.ends_with(&format!(", found {}.. (1000 bytes)", name(60))), "{far}");
 

@@ -7,6 +7,9 @@ use super::letters::{escaped, may_stand, shown, unseen};
 /// How many characters of a word a message shows.
 const SHOWN: usize = 60;
 
+/// More words than any line may have, so those behind them need not be read.
+const MOST: usize = 64;
+
 /// A word of a line, and the bytes of the line that it stands in: those from `at` up to `end`.
 #[derive(Clone, Debug, PartialEq, Eq)]
 pub struct Token {
@@ -54,7 +57,8 @@ fn letters(text: &[u8]) -> impl Iterator<Item = char> + '_ {
     text.utf8_chunks().flat_map(|chunk| chunk.valid().chars())
 }
 
-/// The words of a line without its comment, or what is wrong with it. A comment may hold any byte; all else is UTF-8.
+/// The words of a line without its comment, or what is wrong with it. A comment may hold any byte; all else is UTF-8. Of a
+/// line with more words than any may have, only the front is given.
 pub fn tokens(line: &[u8]) -> Result<Vec<Token>, Wrong> {
     let (line, odd) = match std::str::from_utf8(line) {
         Ok(line) => (line, None),
@@ -79,6 +83,9 @@ pub fn tokens(line: &[u8]) -> Result<Vec<Token>, Wrong> {
             return Err(Wrong::new(place(after), message));
         }
         found.push(Token { word, at: place(rest), end: place(after) });
+        if found.len() == MOST {
+            return Ok(found);
+        }
         rest = without_blanks(after);
     }
     odd.map_or(Ok(found), |byte| Err(Wrong::new(line.len(), ill_formed(*byte))))
