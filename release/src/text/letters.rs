@@ -27,7 +27,7 @@ const UNSEEN: [(char, char); 18] = [
 /// than the space, and those above.
 pub fn unseen(letter: char) -> bool {
     // Most characters of most texts, which are told at once.
-    if matches!(letter, ' '..='~' | '\u{a1}'..='\u{ac}' | '\u{ae}'..='\u{34e}') {
+    if matches!(letter, ' '..='~' | '\u{a1}'..='\u{ac}' | '\u{ae}'..='\u{34e}' | '\u{3165}'..='\u{fdcf}') {
         return false;
     }
     let before = UNSEEN.partition_point(|(_, last)| *last < letter);

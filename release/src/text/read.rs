@@ -28,8 +28,12 @@ pub fn read(text: &[u8]) -> Result<(Parts, Vec<usize>), Fault> {
     let mut place = Place::start();
     let mut places = Vec::new();
     let mut last = (0, &b""[..]);
-    for (index, line) in lines(text).enumerate().filter(|(_, line)| !line.is_empty()) {
+    for (index, line) in lines(text).enumerate() {
+        let Some(first) = line.iter().find(|byte| !b" \t".contains(byte)) else { continue };
         last = (index, line);
+        if *first == b'#' {
+            continue;
+        }
         let taken = take_line(line, &mut place, &mut encoder);
         if taken.map_err(|wrong| Fault::of(index, line, wrong))? {
             places.push(index);

@@ -103,7 +103,7 @@ fn without_blanks(text: &str) -> &str {
 
 /// Whether a character may stand in a word without quotes.
 fn bare(letter: char) -> bool {
-    letter != ' ' && !"\"#=\\".contains(letter) && !unseen(letter)
+    !matches!(letter, ' ' | '"' | '#' | '=' | '\\') && !unseen(letter)
 }
 
 fn bare_word(rest: &str) -> Result<(Word, &str), Unread<'_>> {
