@@ -226,17 +226,14 @@ fn drawn_calls(drawn: &mut Drawn) -> Vec<&'static str> {
 fn hold(folder: &Folder, calls: &[&str], input: &[u8], good: &[u8], round: &str) -> f64 {
     let mut longest: f64 = 0.0;
     folder.file("good", good);
-    for call in calls {
-        // Some commands write the files again.
-        folder.file("file", input);
-        folder.file("copy", good);
-        let call = filled(call);
-        let mut command = command();
-        command.current_dir(folder.path()).args(call.split(' '));
-        command.stdin(Stdio::null()).stdout(Stdio::null()).stderr(Stdio::null());
-        let before = processor();
-        let status = command.status().expect("the command starts").code();
-        let took = processor() - before;
+    for call in calls.iter().map(|call| filled(call)) {
+        let (status, mut took) = timed(folder, &call, input, good);
+        // Other work on the machine makes a run longer, so the shortest of three counts.
+        for _ in 0..2 {
+            if took > LIMIT {
+                took = took.min(timed(folder, &call, input, good).1);
+            }
+        }
         longest = longest.max(took);
         if !matches!(status, Some(0..=3)) || took > LIMIT {
             let kept = folder.file("kept", input);
@@ -245,6 +242,19 @@ fn hold(folder: &Folder, calls: &[&str], input: &[u8], good: &[u8], round: &str)
         }
     }
     longest
+}
+
+/// The status of a run, and its time of processor.
+fn timed(folder: &Folder, call: &str, input: &[u8], good: &[u8]) -> (Option<i32>, f64) {
+    // Some commands write the files again.
+    folder.file("file", input);
+    folder.file("copy", good);
+    let mut command = command();
+    command.current_dir(folder.path()).args(call.split(' '));
+    command.stdin(Stdio::null()).stdout(Stdio::null()).stderr(Stdio::null());
+    let before = processor();
+    let status = command.status().expect("the command starts").code();
+    (status, processor() - before)
 }
 
 #[test]
