@@ -1,6 +1,6 @@
 //! Drawn texts and records to the commands: none panics, and none takes more than 0.2 s of processor.
 //!
-//! 500 of each are drawn here, and MENQACHU_FUZZ=10000 draws so many, others with MENQACHU_FUZZ_SEED=2; each is given to six
+//! 300 of each are drawn here, and MENQACHU_FUZZ=10000 draws so many, others with MENQACHU_FUZZ_SEED=2; each is given to six
 //! of the calls below. The texts of the largest records are given to all calls.
 mod common;
 
@@ -260,7 +260,7 @@ fn timed(folder: &Folder, call: &str, input: &[u8], good: &[u8]) -> (Option<i32>
 #[test]
 fn drawn_texts_and_records() {
     let asked = |name: &str| std::env::var(name).ok().map(|number| number.parse::<u64>().expect(name));
-    let count = asked("MENQACHU_FUZZ").unwrap_or(500);
+    let count = asked("MENQACHU_FUZZ").unwrap_or(300);
     let seed = asked("MENQACHU_FUZZ_SEED").unwrap_or(1);
     let folder = Folder::new(&format!("fuzz_{seed}"));
     folder.file("more", b"head 1.0.0\nstruct more\nfield n scalar\nend\n");
