@@ -5,7 +5,7 @@ use menqachu::Side;
 
 use super::answer::{with, Told};
 use super::args::Args;
-use super::check::told;
+use super::check::told_of;
 use super::files::Given;
 use super::json::Json;
 use super::output::{print, print_line};
@@ -13,14 +13,14 @@ use super::premises::Notes;
 use super::{alike, files, Done, Stop, DONE, STOPPED};
 
 pub fn run(args: &Args) -> Done {
-    let given = args.operands.iter().map(|file| files::record(file)).collect::<Result<Vec<_>, _>>()?;
+    let given = args.operands.iter().map(files::record).collect::<Result<Vec<_>, _>>()?;
     let Some((first, offered)) = given.split_first() else {
         return Err(Stop::failed("chain: expected a first record"));
     };
     // The first record is never checked itself, so the list call says whether it can be read as released.
     let (answer, _) = list_whole(first.record(), Side::Released);
     if answer.number != 0 {
-        let refusal = Told::of_refusal(answer.number, Some(Side::Released), answer.place, first.record());
+        let refusal = Told::of_given(answer.number, Some(Side::Released), answer.place, first);
         return no_first(first, &refusal, args.json);
     }
     let links = links(first, offered);
@@ -32,7 +32,11 @@ pub fn run(args: &Args) -> Done {
         let lines: String = links.iter().map(|link| link.line() + "\n").collect();
         print((lines + &notes.lines()).as_bytes())?;
         for link in &links {
-            alike::tell(&[link.offered.record(), link.against.record()], b"", link.told.message().unwrap_or_default().as_bytes());
+            alike::tell(
+                &[link.offered.record(), link.against.record()],
+                b"",
+                link.told.message().unwrap_or_default().as_bytes(),
+            );
         }
     }
     Ok(if links.iter().all(|link| link.told.accepted()) { DONE } else { STOPPED })
@@ -49,7 +53,7 @@ fn links<'a>(first: &'a Given, offered: &'a [Given]) -> Vec<Link<'a>> {
     let mut last = first;
     let mut links = Vec::new();
     for offered in offered {
-        let link = Link { offered, against: last, told: told(offered.record(), last.record()) };
+        let link = Link { offered, against: last, told: told_of(offered, last) };
         if link.told.accepted() {
             last = offered;
         }

@@ -51,14 +51,14 @@ impl Form {
 }
 
 /// An operand: its name, which is its keyword in the text form where it has one, and its form.
-#[derive(Debug)]
+#[derive(Debug, PartialEq, Eq)]
 pub struct Operand {
     pub name: &'static str,
     pub form: Form,
 }
 
 /// A command: its byte, its name in document 01, its word in the text form, and its operands.
-#[derive(Debug)]
+#[derive(Debug, PartialEq, Eq)]
 pub struct Command {
     pub byte: u8,
     pub name: &'static str,
@@ -147,7 +147,7 @@ impl Value {
 }
 
 /// A command with the values of its operands.
-#[derive(Clone, Debug)]
+#[derive(Clone, Debug, PartialEq, Eq)]
 pub struct Said {
     pub command: &'static Command,
     pub values: Vec<Value>,

@@ -52,8 +52,17 @@ pub fn run<S: AsRef<OsStr>>(args: &[S]) -> Ran {
 
 /// Runs the command with these bytes on its standard input.
 pub fn run_on<S: AsRef<OsStr>>(args: &[S], input: &[u8]) -> Ran {
-    let mut command = command();
-    let piped = command.args(args).stdin(Stdio::piped()).stdout(Stdio::piped()).stderr(Stdio::piped());
+    fed(command().args(args), input)
+}
+
+/// Runs the command in a folder, with the words of a line.
+pub fn run_in(folder: &Path, line: &str) -> Ran {
+    fed(command().current_dir(folder).args(line.split(' ')), b"")
+}
+
+/// Runs a command with these bytes on its standard input.
+fn fed(command: &mut Command, input: &[u8]) -> Ran {
+    let piped = command.stdin(Stdio::piped()).stdout(Stdio::piped()).stderr(Stdio::piped());
     let mut child = piped.spawn().expect("the command starts");
     let mut pipe = child.stdin.take().expect("a pipe");
     let input = input.to_vec();
