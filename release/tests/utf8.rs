@@ -204,7 +204,10 @@ fn a_name_asked_for_that_looks_the_same() {
     let asked = run(&["owner", &file, "\u{212b}"]);
     assert_eq!((asked.status, asked.text()), (1, ""));
     let nobody = format!("release: {file}: nobody owns \u{212b}\n");
-    assert_eq!(asked.err, nobody + &note("\u{c5} (U+00C5) and A\u{30a} (U+0041 U+030A) and \u{212b} (U+212B)"));
+    assert_eq!(
+        asked.err,
+        nobody + &note("\u{c5} (U+00C5) and A\u{30a} (U+0041 U+030A) and \u{212b} (U+212B)")
+    );
     assert_eq!(run(&["owner", &file, "\u{c5}"]).said(0), "\u{c5}\n");
     let broken = run(&["pointers", &file]);
     assert!(broken.text().contains("struct_ptr names A\u{30a}, which is neither"), "{}", broken.text());

@@ -18,6 +18,7 @@ pub struct Rule {
 #[derive(Debug, Default)]
 pub struct Args {
     pub operands: Vec<OsString>,
+    pub all: bool,
     pub json: bool,
     pub released: bool,
     values: Vec<(&'static str, OsString)>,
@@ -57,6 +58,7 @@ pub fn parse(rule: &Rule, words: &[OsString]) -> Result<Asked, Stop> {
         } else if !rule.options.iter().any(|option| word == option) {
             return Err(wrong(rule, &format!("there is no option {}", shown(word))));
         } else {
+            args.all |= word == "--all";
             args.json |= word == "--json";
             args.released |= word == "--released";
         }

@@ -11,6 +11,6 @@ mod write;
 
 pub use read::{assemble, Fault};
 pub use tokens::{quoted, written};
-pub use write::{constant_value, line, show, texts};
+pub use write::{constant_value, line, operands, show, texts};
 
 impl std::error::Error for Fault {}

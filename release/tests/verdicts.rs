@@ -1,0 +1,137 @@
+//! The verdicts that `release diff` tells, held to the proved check: the first is its answer, and there is none for an accepted pair.
+mod common;
+
+use std::collections::BTreeSet;
+
+use common::vectors::pairs;
+use common::{record, run_on};
+use menqachu::diff::{differences, Differences, Read};
+use menqachu::explain::example::Example;
+use menqachu::explain::pages;
+use menqachu::record::numbers::word;
+use menqachu::record::pair::{Pair, OUTCOMES};
+use menqachu::record::parts::Parts;
+use menqachu::record::room::{check_whole, load_whole};
+use menqachu::Side;
+
+/// The verdicts on a pair, in the order of the check; none where a record cannot be read.
+fn numbers(current: &Parts, released: &Parts) -> Option<Vec<u32>> {
+    let is = Read::of(current.record(), Side::Current).ok()?;
+    let was = Read::of(released.record(), Side::Released).ok()?;
+    let found = differences(&is, &was);
+    let numbers: Vec<u32> = found.verdicts.iter().map(|verdict| verdict.number).collect();
+    assert_eq!(carried(&found), numbers.iter().copied().collect(), "each is carried by what it is about");
+    Some(numbers)
+}
+
+/// The numbers of all lines, slots, types and fields.
+fn carried(found: &Differences) -> BTreeSet<u32> {
+    let types = found.types.iter().flat_map(|one| {
+        let rows = one.rows.iter().flat_map(|row| &row.numbers);
+        one.numbers.iter().chain(rows)
+    });
+    let lines = found.lines.iter().flat_map(|line| &line.numbers);
+    let slots = found.slots.iter().flat_map(|slot| &slot.numbers);
+    types.chain(lines).chain(slots).copied().collect()
+}
+
+/// Whether the first verdict is what the check gives.
+fn held(current: &Parts, released: &Parts) -> Option<u32> {
+    let numbers = numbers(current, released)?;
+    let (answer, message) = check_whole(current.record(), released.record());
+    let message = String::from_utf8_lossy(&message).into_owned();
+    assert_eq!(numbers.first().copied().unwrap_or(0), answer.number, "{message}: {numbers:?}");
+    Some(answer.number)
+}
+
+#[test]
+fn the_vectors() {
+    let mut seen: Vec<u32> = pairs().iter().filter_map(|pair| held(&pair.current, &pair.released)).collect();
+    assert!(seen.len() > 1000, "{}", seen.len());
+    seen.sort_unstable();
+    seen.dedup();
+    let all: Vec<u32> = std::iter::once(0).chain(11..=46).collect();
+    assert_eq!(seen, all);
+}
+
+#[test]
+fn the_load() {
+    for seed in 0..100 {
+        for outcome in OUTCOMES {
+            let pair = Pair::read(&load_whole(outcome, seed).1).expect("a pair");
+            assert_eq!(held(&pair.current, &pair.released), Some(outcome), "seed {seed}");
+        }
+    }
+}
+
+/// The smallest examples break nothing else, but for these.
+#[test]
+fn the_pages() {
+    for page in pages() {
+        let Example::Checked { current, released } = &page.example else { continue };
+        let numbers = numbers(&record(current), &record(released));
+        let more: &[u32] = &[];
+        if let Some(numbers) = numbers {
+            let expected = [&[page.number][..], more].concat();
+            let told: BTreeSet<u32> = numbers.iter().copied().collect();
+            assert_eq!(told, expected.into_iter().collect(), "{}", page.number);
+        }
+    }
+}
+
+/// The page and its JSON have the number of the check.
+#[test]
+fn what_is_printed() {
+    let mut told = 0;
+    for pair in pairs().iter().step_by(7) {
+        let (answer, _) = check_whole(pair.current.record(), pair.released.record());
+        if !(11..=46).contains(&answer.number) {
+            continue;
+        }
+        let (number, word) = (answer.number, word(answer.number).expect("a word"));
+        let page = run_on(&["diff", "-", "-"], &pair.bytes());
+        assert!(page.said(0).contains(&format!("{number} {word}")), "{number} {word} in {}", page.text());
+        let json = run_on(&["diff", "-", "-", "--json"], &pair.bytes());
+        let listed = json.said(0).split("\"numbers\":[").any(|rest| {
+            let numbers = rest.split(']').next().unwrap_or_default();
+            numbers.split(',').any(|one| one == number.to_string())
+        });
+        assert!(listed, "{number} in {}", json.text());
+        told += 1;
+    }
+    assert!(told > 100, "{told}");
+}
+
+/// Records that break every pass at once.
+#[test]
+fn every_pass_at_once() {
+    let old = "head 1.2.0\nconstant A 1 api since=1.0.0\nconstant B 2\nconstant G 4\nconstant H 5\n\
+               enum e 1\nvalue X 1\nvalue Y 2\nvalue Z 3\nenum f 1\nvalue V 1\n\
+               bitfield b 1 since=1.0.0\nmember m 0\nmember n 1\nmember o 2\nmember p 3\nbitfield c 1 since=1.0.0\n\
+               struct scan slot=metadata version=G\nfield t struct_ptr type=tile\n\
+               struct other slot=info version=H\nstruct gone\nstruct tile\nfield a scalar\nfield b scalar type=u16\n\
+               field c scalar\nfield d scalar\nfamily fam k e l standalone\nvariant X\nfield x scalar\n\
+               family fell k e l standalone\nend";
+    let new = "head 1.1.0\nconstant A 1 api since=1.0.1\nconstant G 4\nconstant H 3\nconstant N 1 api since=1.0.0\n\
+               enum e 1\nvalue X 9\nvalue W 2\n\
+               bitfield b 1 since=1.0.1\nmember m 5\nmember q 1\nmember p 3 width=2\n\
+               struct scan slot=metadata version=G\nfield t struct_ptr type=tile\n\
+               struct other slot=info version=H\nstruct loose\nfield u scalar\nstruct tile\nfield b scalar type=u8\n\
+               field c cstr_ptr\nfield d scalar\nfamily fam k e l standalone\nvariant X\nfield x scalar\nfield y scalar\n\
+               family fell k e l\nend";
+    let numbers = numbers(&record(new), &record(old)).expect("both can be read");
+    let expected = [
+        15, 18, 17, 20, 23, 24, 25, 22, 29, 27, 28, 30, 26, 32, 32, 31, 32, 33, 34, 35, 36, 37, 35, 36, 37,
+        35, 39, 38, 40, 46, 43, 43,
+    ];
+    assert_eq!(numbers, expected);
+}
+
+/// A copy that says unreleased is held to its own pass alone.
+#[test]
+fn an_unreleased_copy() {
+    let old = "head 1.0.0 unreleased\nconstant A 1\nend";
+    assert_eq!(numbers(&record("head 1.0.0\nend"), &record(old)), Some(vec![11]));
+    let old = "head 1.0.0 unreleased\nversion a 1\nend";
+    assert_eq!(numbers(&record("head 1.0.0\nend"), &record(old)), Some(Vec::new()));
+}
