@@ -77,7 +77,7 @@ fn what_an_old_reader_takes() {
     assert!(page.contains(">no bytes</div>"), "{page}");
     let page = report("head 1.1.0\nend", old, &folder);
     assert!(
-        page.contains("<bdi>t</bdi> <small>gone</small>") && page.contains("2 bytes behind the end"),
+        page.contains("<bdi>t</bdi> <small>33 type gone</small>") && page.contains("2 bytes behind the end"),
         "{page}"
     );
 }

@@ -7,7 +7,8 @@ use super::State;
 use crate::record::commands::{
     Said, BIT_FIELD, END, ENUM, FAMILY, FIELD, FIELD_KEY, HEAD, MEMBER, STRUCT, VALUE, VARIANT, VERSION,
 };
-use crate::text::{line, written};
+use crate::record::sections;
+use crate::text::line;
 
 /// A line of either record or of both.
 pub struct Line<'a> {
@@ -78,10 +79,10 @@ fn keyed(commands: &[Said]) -> Vec<(Key, usize)> {
         };
         match byte {
             ENUM | BIT_FIELD | STRUCT | FAMILY => {
-                open = format!("{} {}", said.command.word, written(name));
+                open = sections::name(said);
                 family = open.clone();
             }
-            VARIANT => open = format!("{family}, variant {}", written(name)),
+            VARIANT => open = format!("{family}, {}", sections::name(said)),
             _ => {}
         }
         // A version line has nothing but its name, which its number belongs to.

@@ -38,7 +38,9 @@ fn differs(one: &Type) -> bool {
 }
 
 fn of_type(one: &Type, alike: &Alike, all: bool) -> Vec<Line> {
-    let shown = |row: &&Row| all || !row.marks().is_empty();
+    // Where the order alone changed, no field is marked and all are shown.
+    let all_rows = all || (one.state == State::Changed && !differs(one));
+    let shown = |row: &&Row| all_rows || !row.marks().is_empty();
     let rows: Vec<Line> = one.rows.iter().filter(shown).map(|row| of_field(row, alike)).collect();
     let mut lines = vec![heading(one, one.rows.len() - rows.len(), alike)];
     lines.extend(rows);
