@@ -27,7 +27,7 @@ fn page(name: &str, new: &str, old: &str, options: &[&str]) -> String {
 /// Every mark of a field, and the bytes of a changed type.
 #[test]
 fn layouts() {
-    let expected = "\
+    let expected = "
          released  current
 release  1.0.0     1.1.0    changed
 
@@ -53,7 +53,7 @@ tile: changed, 40 uncovered
     6     last scalar u8   gap padding
     7     -                last scalar u8
 ";
-    assert_eq!(page("diff_layouts", NEW, OLD, &[]), expected);
+    assert_eq!(page("diff_layouts", NEW, OLD, &[]), expected[1..]);
 }
 
 /// Without --all what is the same is left out, and folded among the bytes.
@@ -65,7 +65,7 @@ fn what_is_the_same() {
     let new =
         "head 1.0.0\nconstant A 1\nenum e 1\nvalue X 0\nvalue Y 2\nstruct same\nfield a scalar\nstruct t\n\
                field a scalar\nfield b scalar\nfield c scalar\nfield d scalar\nend";
-    let changes = "\
+    let changes = "
              released  current
 release      1.0.0     1.0.0    15 not later
 enum e
@@ -80,14 +80,14 @@ t: changed, 40 uncovered, 3 fields as before
     3     d[0] padding  d scalar
     4     d[1] padding  -
 ";
-    assert_eq!(page("diff_same", new, old, &[]), changes);
-    let all = "\
+    assert_eq!(page("diff_same", new, old, &[]), changes[1..]);
+    let all = "
              released  current
-release      1.0.0     1.0.0     15 not later
+release      1.0.0     1.0.0    15 not later
 constant A   1         1
 enum e       1         1
     value X  0         0
-    value Y  1         2         23 renumbered
+    value Y  1         2        23 renumbered
 struct same  no slot   no slot
 struct t     no slot   no slot
 
@@ -107,7 +107,7 @@ t: changed, 40 uncovered
     3     d[0] padding  d scalar
     4     d[1] padding  -
 ";
-    assert_eq!(page("diff_all", new, old, &["--all"]), all);
+    assert_eq!(page("diff_all", new, old, &["--all"]), all[1..]);
 }
 
 /// Each sort of declaration, with the verdicts on it.
@@ -175,9 +175,9 @@ fn generations() {
         &[],
     );
     for line in [
-        "struct other         slot=info version=G  slot=info                 changed",
-        "generation info      other G 3            other names no constant   41 no constant",
-        "generation metadata  scan G 3             scan G 3                  43 unraised",
+        "struct other         slot=info version=G  slot=info                changed",
+        "generation info      other G 3            other names no constant  41 no constant",
+        "generation metadata  scan G 3             scan G 3                 43 unraised",
         "tile: changed, 43 unraised, 1 field as before",
     ] {
         assert!(page.lines().any(|shown| shown == line), "{line} in\n{page}");
@@ -200,7 +200,7 @@ fn long_types() {
     assert_eq!(folded[16], "    .. 586 more lines; --all shows them");
     let whole = strip(&["--all"]);
     assert_eq!(whole.len(), 602);
-    assert_eq!(whole[1], "    0    field_with_a_rather_long_..[0]  x scalar");
+    assert_eq!(whole[1], "    0     field_with_a_rather_long_..[0]  x scalar");
     assert!(whole.iter().all(|line| line.len() <= 80), "{whole:?}");
 }
 

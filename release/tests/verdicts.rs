@@ -1,10 +1,10 @@
 //! The verdicts that `release diff` tells, held to the proved check: the first is its answer, and there is none for an accepted pair.
 mod common;
 
-use std::collections::BTreeSet;
+use std::collections::{BTreeMap, BTreeSet};
 
 use common::vectors::pairs;
-use common::{record, run_on};
+use common::{record, run_on, Drawn};
 use menqachu::diff::{differences, Differences, Read};
 use menqachu::explain::example::Example;
 use menqachu::explain::pages;
@@ -12,6 +12,7 @@ use menqachu::record::numbers::word;
 use menqachu::record::pair::{Pair, OUTCOMES};
 use menqachu::record::parts::Parts;
 use menqachu::record::room::{check_whole, load_whole};
+use menqachu::text::{assemble, show};
 use menqachu::Side;
 
 /// The verdicts on a pair, in the order of the check; none where a record cannot be read.
@@ -54,6 +55,51 @@ fn the_vectors() {
     assert_eq!(seen, all);
 }
 
+/// The lines of a text with some taken out, doubled, moved, changed in a digit, or taken over from elsewhere.
+fn drawn(text: &str, others: &[String], draw: &mut Drawn) -> String {
+    let mut lines: Vec<String> = text.lines().map(String::from).collect();
+    for _ in 0..1 + draw.below(4) {
+        let (at, to) = (1 + draw.below(lines.len() - 1), 1 + draw.below(lines.len() - 1));
+        match draw.below(6) {
+            0 => drop(lines.remove(at)),
+            1 => lines.insert(to, lines[at].clone()),
+            2 => lines.swap(at, to),
+            3 => lines.insert(to, others[draw.below(others.len())].clone()),
+            _ => {
+                let digit = char::from(b'0' + draw.below(10) as u8);
+                let found = lines[at].rfind(|letter: char| letter.is_ascii_digit());
+                found
+                    .into_iter()
+                    .for_each(|place| lines[at].replace_range(place..=place, &digit.to_string()));
+            }
+        }
+        if lines.len() < 3 {
+            break;
+        }
+    }
+    lines.join("\n")
+}
+
+/// Pairs drawn from those of the vectors: the same text on both sides, changed on one or on both.
+#[test]
+fn drawn_pairs() {
+    let texts: Vec<String> = pairs().iter().filter_map(|pair| show(pair.released.record()).ok()).collect();
+    let others: Vec<String> = texts.iter().flat_map(|text| text.lines()).map(String::from).collect();
+    let mut draw = Drawn(0x5eed);
+    let mut seen: BTreeMap<u32, usize> = BTreeMap::new();
+    let count = std::env::var("DRAWN").ok().and_then(|count| count.parse().ok()).unwrap_or(4000);
+    for _ in 0..count {
+        let text = &texts[draw.below(texts.len())];
+        let raised = text.replacen("head 1.", "head 2.", 1).replacen("head 0.", "head 1.", 1);
+        let old = if draw.below(3) == 0 { drawn(text, &others, &mut draw) } else { text.clone() };
+        let new = drawn(&raised, &others, &mut draw);
+        let (Ok(new), Ok(old)) = (assemble(new.as_bytes()), assemble(old.as_bytes())) else { continue };
+        held(&new, &old).into_iter().for_each(|number| *seen.entry(number).or_default() += 1);
+    }
+    assert!(seen.len() > 20, "{seen:?}");
+    println!("{seen:?}");
+}
+
 #[test]
 fn the_load() {
     for seed in 0..100 {
@@ -64,19 +110,20 @@ fn the_load() {
     }
 }
 
-/// The smallest examples break nothing else, but for these.
+/// What else some of the smallest examples break: a member of a new name arrives in the current release, a changed type that nothing
+/// owns is uncovered, and a field of another size reads otherwise.
+const MORE: [(u32, u32); 6] = [(27, 31), (34, 40), (35, 40), (36, 37), (36, 40), (37, 40)];
+
 #[test]
 fn the_pages() {
+    let mut more = Vec::new();
     for page in pages() {
         let Example::Checked { current, released } = &page.example else { continue };
-        let numbers = numbers(&record(current), &record(released));
-        let more: &[u32] = &[];
-        if let Some(numbers) = numbers {
-            let expected = [&[page.number][..], more].concat();
-            let told: BTreeSet<u32> = numbers.iter().copied().collect();
-            assert_eq!(told, expected.into_iter().collect(), "{}", page.number);
-        }
+        let Some(numbers) = numbers(&record(current), &record(released)) else { continue };
+        assert_eq!(numbers.first(), Some(&page.number));
+        more.extend(numbers.iter().filter(|other| **other != page.number).map(|other| (page.number, *other)));
     }
+    assert_eq!(more, MORE);
 }
 
 /// The page and its JSON have the number of the check.
