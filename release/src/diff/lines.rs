@@ -22,6 +22,11 @@ pub struct Line<'a> {
 }
 
 impl<'a> Line<'a> {
+    /// Whether it changed or a verdict is about it.
+    pub fn differs(&self) -> bool {
+        self.state != State::Same || !self.numbers.is_empty()
+    }
+
     /// The command of either record.
     pub fn said(&self) -> Option<&'a Said> {
         self.released.or(self.current)

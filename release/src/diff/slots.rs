@@ -13,6 +13,13 @@ pub struct Slot<'a> {
     pub numbers: Vec<u32>,
 }
 
+impl Slot<'_> {
+    /// Whether it changed or a verdict is about it.
+    pub fn differs(&self) -> bool {
+        self.state != State::Same || !self.numbers.is_empty()
+    }
+}
+
 #[derive(Clone, Copy, PartialEq, Eq)]
 pub struct Generation<'a> {
     pub structure: &'a [u8],

@@ -25,7 +25,7 @@ struct Entry<'d> {
 
 /// Those that differ or that a verdict is about, or all, under a heading; none where there is none.
 pub fn lines(found: &Differences, alike: &Alike, all: bool) -> Vec<Line> {
-    let shown = |pair: &&Pair| all || pair.state != State::Same || !pair.numbers.is_empty();
+    let shown = |pair: &&Pair| all || pair.differs();
     let mut lines = Vec::new();
     for entry in entries(&found.lines, alike) {
         let own = entry.own.filter(shown).filter(|pair| !left_to_layouts(pair));
@@ -38,13 +38,11 @@ pub fn lines(found: &Differences, alike: &Alike, all: bool) -> Vec<Line> {
         }
         lines.extend(parts);
     }
-    for slot in &found.slots {
-        if all || slot.state != State::Same || !slot.numbers.is_empty() {
-            let heading = Cell::new(format!("generation {}", written(slot.slot)), Style::Heading);
-            let [was, is] = [slot.released, slot.current].map(|one| Cell::plain(generation(one, alike)));
-            let marks = of_state(slot.state, &slot.numbers);
-            lines.push(Line::Cells(Table::Declarations, vec![heading, was, is, marks]));
-        }
+    for slot in found.slots.iter().filter(|slot| all || slot.differs()) {
+        let heading = Cell::new(format!("generation {}", written(slot.slot)), Style::Heading);
+        let [was, is] = [slot.released, slot.current].map(|one| Cell::plain(generation(one, alike)));
+        let marks = of_state(slot.state, &slot.numbers);
+        lines.push(Line::Cells(Table::Declarations, vec![heading, was, is, marks]));
     }
     if !lines.is_empty() {
         let heads = ["", "released", "current"].map(|text| Cell::new(text, Style::Heading));

@@ -3,7 +3,6 @@
 use std::collections::HashMap;
 
 use menqachu::diff::lines::Line;
-use menqachu::diff::State;
 use menqachu::record::commands::Said;
 use menqachu::record::numbers::named;
 use menqachu::text::line;
@@ -11,8 +10,7 @@ use menqachu::text::line;
 use super::html;
 
 pub fn section(lines: &[Line]) -> String {
-    let changes: Vec<&Line> =
-        lines.iter().filter(|line| line.state != State::Same || !line.numbers.is_empty()).collect();
+    let changes: Vec<&Line> = lines.iter().filter(|line| line.differs()).collect();
     if changes.is_empty() {
         return html::section("All differences", "<p>There is none.</p>\n");
     }
