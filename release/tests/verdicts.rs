@@ -128,7 +128,7 @@ fn the_pages() {
 #[test]
 fn what_is_printed() {
     let mut told = 0;
-    for pair in pairs().iter().step_by(7) {
+    for pair in pairs().iter().step_by(13) {
         let (answer, _) = check_whole(pair.current.record(), pair.released.record());
         if !(11..=46).contains(&answer.number) {
             continue;
@@ -144,7 +144,7 @@ fn what_is_printed() {
         assert!(listed, "{number} in {}", json.text());
         told += 1;
     }
-    assert!(told > 100, "{told}");
+    assert!(told > 60, "{told}");
 }
 
 /// Records that break every pass at once.
