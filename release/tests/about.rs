@@ -53,6 +53,7 @@ fn completions() {
     assert_eq!(offered(&["release", "ch"]), ["check", "chain"]);
     assert_eq!(offered(&["release", "--v"]), ["--version"]);
     assert_eq!(offered(&["release", "list", "--"]), ["--json", "--released", "--record", "--text", "--help"]);
+    assert_eq!(offered(&["release", "diff", "--"]), ["--all", "--json", "--record", "--text", "--help"]);
     assert_eq!(offered(&["release", "burn-in", "--s"]), ["--seeds"]);
     assert_eq!(offered(&["release", "draft", ""]), ["add", "remove", "count"]);
     assert_eq!(offered(&["release", "shelf", ""]), ["set", "back", "list"]);

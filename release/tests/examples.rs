@@ -71,7 +71,7 @@ fn with_examples(name: &str) -> Folder {
 
 #[test]
 fn the_page_of_the_examples() {
-    assert_eq!(replay("examples/README.md", with_examples("examples").path()), 64);
+    assert_eq!(replay("examples/README.md", with_examples("examples").path()), 65);
 }
 
 #[test]

@@ -20,7 +20,7 @@ const LIMIT: f64 = 0.2;
 const EACH: usize = 6;
 
 /// What an input is given to, as FILE, beside a record or text that can be read, as GOOD.
-const CALLS: [&str; 24] = [
+const CALLS: [&str; 25] = [
     "check FILE GOOD",
     "check GOOD FILE --json",
     "check FILE FILE",
@@ -32,6 +32,7 @@ const CALLS: [&str; 24] = [
     "pointers FILE",
     "pointers FILE --json",
     "diff FILE GOOD",
+    "diff GOOD FILE --all",
     "diff GOOD FILE --json",
     "report FILE GOOD",
     "report GOOD FILE",

@@ -15,7 +15,7 @@ const MORE: &str =
     "head 1.1.0\n# a well's focus\nstruct focus # new\n    # in steps\n    field z scalar type=u16\nend\n";
 
 /// Every call that reads records, with the files `new`, `old` and `more`.
-const CALLS: [&str; 25] = [
+const CALLS: [&str; 26] = [
     "check new old",
     "check new old --json",
     "check old old",
@@ -30,6 +30,7 @@ const CALLS: [&str; 25] = [
     "pointers new",
     "pointers new --json",
     "diff new old",
+    "diff new old --all",
     "diff new old --json",
     "report new old",
     "draft count new old",

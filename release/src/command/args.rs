@@ -43,6 +43,7 @@ impl Deref for Operand {
 #[derive(Debug, Default)]
 pub struct Args {
     pub operands: Vec<Operand>,
+    pub all: bool,
     pub json: bool,
     pub released: bool,
     values: Vec<(&'static str, OsString)>,
@@ -89,6 +90,7 @@ pub fn parse(rule: &Rule, words: &[OsString]) -> Result<Asked, Stop> {
             }
             taken = asked;
         } else {
+            args.all |= word == "--all";
             args.json |= word == "--json";
             args.released |= word == "--released";
         }

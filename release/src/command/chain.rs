@@ -10,10 +10,17 @@ use super::files::Given;
 use super::json::Json;
 use super::output::{print, print_line};
 use super::premises::Notes;
+use super::progress::Progress;
 use super::{alike, files, Done, Stop, DONE, STOPPED};
 
 pub fn run(args: &Args) -> Done {
-    let given = args.operands.iter().map(files::record).collect::<Result<Vec<_>, _>>()?;
+    // Each record is read and then checked.
+    let mut progress = Progress::new(2 * args.operands.len() as u64);
+    let mut given = Vec::new();
+    for file in &args.operands {
+        progress.at(given.len() as u64);
+        given.push(files::record(file)?);
+    }
     let Some((first, offered)) = given.split_first() else {
         return Err(Stop::failed("chain: expected a first record"));
     };
@@ -23,7 +30,7 @@ pub fn run(args: &Args) -> Done {
         let refusal = Told::of_given(answer.number, Some(Side::Released), answer.place, first);
         return no_first(first, &refusal, args.json);
     }
-    let links = links(first, offered);
+    let links = links(first, offered, &mut progress);
     let notes = notes(first, &links)?;
     if args.json {
         let value = json(first, None, &links);
@@ -49,10 +56,11 @@ struct Link<'a> {
     told: Told,
 }
 
-fn links<'a>(first: &'a Given, offered: &'a [Given]) -> Vec<Link<'a>> {
-    let mut last = first;
+fn links<'a>(first: &'a Given, offered: &'a [Given], progress: &mut Progress) -> Vec<Link<'a>> {
+    let (mut last, all) = (first, offered.len() + 1);
     let mut links = Vec::new();
-    for offered in offered {
+    for (at, offered) in offered.iter().enumerate() {
+        progress.at((all + at) as u64);
         let link = Link { offered, against: last, told: told_of(offered, last) };
         if link.told.accepted() {
             last = offered;

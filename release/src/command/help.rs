@@ -20,7 +20,7 @@ Checks the record of a scan-record schema against the record of the last release
   release list RECORD [--released] [--json]  where every field lies
   release owner RECORD NAME [--json]         which versioned structure a name belongs to
   release pointers RECORD [--json]           whether every pointer names what it must
-  release diff CURRENT RELEASED [--json]     both layouts side by side
+  release diff CURRENT RELEASED [--all] [--json]  what they differ in, with the verdicts
   release report CURRENT RELEASED > PAGE     the verdict and all changes for a browser
   release draft EDIT DRAFT .. [--json]       a type added, taken out, or changes counted
   release shelf CALL SHELF .. [--json]       drafts left under names, and taken back
@@ -89,7 +89,8 @@ usage: release chain FIRST OFFERED.. [--json]
 Checks each offered record against the last accepted one, where FIRST counts as
 accepted, and prints a line for each. A record that is not accepted is dropped, and
 the next one is checked against the same record again. Notes follow as those of
-check, over FIRST and all accepted records.
+check, over FIRST and all accepted records. Where standard error is a terminal a bar
+there says how far a long chain is.
 
   --json  an object with the keys first, refusal (of FIRST), offered (a list of
           objects with file, against and answer, which has the keys of check up to
@@ -155,20 +156,40 @@ or file error.
 ";
 
 pub const DIFF: &str = "\
-usage: release diff CURRENT RELEASED [--json]
+usage: release diff CURRENT RELEASED [--all] [--json]
 
-Prints the layouts of both records side by side, type by type. A type is same, new,
-gone or changed. A field has its offset, size and description on each side and is
-marked new, gone, moved, resized or redescribed. Padding is marked too, although the
-check lets it change under a raised generation. A released field stands beside the
-first current field of its name, which is the one that the check compares it with.
+Prints what the two records differ in, over all that the check looks at: the releases,
+constants, aliases, enums with their values, bit fields with their members, slots,
+families, plugin keys and version entries, each as its line of the text form has it
+behind the name; the generation in each slot; and the layouts type by type. A field has
+its offset, size and type on each side. A released field stands beside the first
+current field of its name, which is the one that the check compares it with. Padding is
+marked too, although the check lets it change under a raised generation.
 
-  --json  an object with the keys refusal and types, a list of objects with name,
-          state and fields, a list of objects with name, marks, released and
-          current; each of the last two is null or has offset, size and description
+What a verdict of the check is about has the verdict's number and word behind it, and
+not only the first, which is the check's answer: each that the check would give if none
+came before it. Other changes are new, gone or changed, and fields also moved, resized
+or redescribed. `release explain NUMBER` says more of a verdict.
+
+Below each changed type its bytes follow: what stood in each, and what stands there now.
+n[1] is the byte 1 of the field n, counted from 0. Long types are folded.
+
+Where standard output is a terminal it has colours, unless NO_COLOR is set.
+
+  --all   what is the same too, and every byte
+  --json  an object with the keys refusal, types, declarations and generations, with
+          what is the same too. Of types: a list of objects with name, state, numbers
+          (of verdicts), fields, a list of objects with name, marks, numbers, released
+          and current, of which each is null or has offset, size and description; and
+          bytes, of a changed type a list of objects with from, to (not among them),
+          released and current, each null or an object with field and from. Of
+          declarations: a list of objects with command, in (the line that it stands
+          in, or null), name, state, numbers, released and current, its lines or null.
+          Of generations: a list of objects with slot, state, numbers, released and
+          current, each null or an object with structure, constant and number
   --record, --text  how every file is taken; else its bytes tell (`release help`)
 
-Exit status: 0 shown, 2 a damaged record, 3 a usage or file error.
+Exit status: 0 shown, also for a verdict; 2 a damaged record, 3 a usage or file error.
 ";
 
 pub const REPORT: &str = "\
@@ -370,16 +391,17 @@ usage: release burn-in --seeds A..B [--outcome N] [--json]
 
 Makes the pair of each seed from A up to B, B not among them, with each of the six
 outcomes or with one, checks it, and stops at the first whose check gives another
-number. A line is printed for each thousand seeds, a line for the whole at the end,
-and a bar on standard error where that is a terminal.
+number. A line is printed for each thousand seeds, a line for the whole at the end.
+Where standard error is a terminal a bar there says how far it is. A burn-in ends when
+nobody reads its lines any more.
 
   --seeds A..B  the seeds; B is at most 2147483648
   --outcome N   one outcome: 0, 20, 34, 35, 36 or 43
   --json        only the summary: an object with the keys from, to, outcomes, pairs,
                 bytes and difference, which is null or has seed, outcome and number
 
-Exit status: 0 each pair has its outcome, 1 one has not, 3 another outcome or seed,
-a usage or file error.
+Exit status: 0 each pair has its outcome, 1 one has not, 3 another outcome or seed, a
+usage or file error, or standard output closed before the end.
 ";
 
 pub const HELP: &str = "\

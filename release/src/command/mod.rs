@@ -19,16 +19,16 @@ mod list;
 mod load;
 mod output;
 mod owner;
+mod paint;
 mod pointers;
 mod premises;
 mod problem;
+mod progress;
 mod reordered;
 mod report;
-mod rows;
 mod shelf;
 mod show;
 mod source;
-mod table;
 
 use std::ffi::OsString;
 
@@ -43,7 +43,7 @@ pub const DAMAGED: u8 = 2;
 /// Wrong usage, or a file that cannot be read or written.
 pub const FAILED: u8 = 3;
 
-/// Why a command ends early: the exit status, and what standard error says.
+/// Why a command ends early: the exit status, and what standard error says, if anything.
 #[derive(Debug)]
 pub struct Stop {
     pub status: u8,
@@ -83,7 +83,10 @@ static ENTRIES: [Entry; 18] = [
     },
     Entry { rule: rule("owner", help::OWNER, 2, 2, JSON), run: owner::run },
     Entry { rule: rule("pointers", help::POINTERS, 1, 1, JSON), run: pointers::run },
-    Entry { rule: rule("diff", help::DIFF, 2, 2, JSON), run: diff::run },
+    Entry {
+        rule: rule("diff", help::DIFF, 2, 2, &["--all", "--json", "--record", "--text"]),
+        run: diff::run,
+    },
     Entry { rule: rule("report", help::REPORT, 2, 2, PLAIN), run: report::run },
     Entry { rule: rule("draft", help::DRAFT, 3, 4, JSON), run: draft::run },
     Entry { rule: rule("shelf", help::SHELF, 2, 5, JSON), run: shelf::run },

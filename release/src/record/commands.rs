@@ -3,6 +3,7 @@
 
 pub const HEAD: u8 = 0x01;
 pub const CONSTANT: u8 = 0x02;
+pub const ALIAS: u8 = 0x03;
 pub const ENUM: u8 = 0x04;
 pub const VALUE: u8 = 0x05;
 pub const BIT_FIELD: u8 = 0x06;

@@ -16,4 +16,4 @@ pub use edit::{added, removed};
 pub use fault::Fault;
 pub use read::{assemble, read};
 pub use tokens::{quoted, written};
-pub use write::{constant_value, line, show, texts};
+pub use write::{constant_value, line, operands, show, texts};

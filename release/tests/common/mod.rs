@@ -2,6 +2,7 @@
 // Each test file is a program of its own and uses a part of this.
 #![allow(dead_code)]
 
+pub mod terminal;
 pub mod vectors;
 
 use std::ffi::OsStr;
