@@ -1,6 +1,8 @@
 //! The proved calls as safe functions over byte slices, with what the command `release` knows of records.
 
 #[forbid(unsafe_code)]
+pub mod diff;
+#[forbid(unsafe_code)]
 pub mod explain;
 #[forbid(unsafe_code)]
 pub mod premises;

@@ -52,9 +52,11 @@ fn offered(words: &[&str]) -> Vec<String> {
 fn completions() {
     assert_eq!(offered(&["release", "ch"]), ["check", "chain"]);
     assert_eq!(offered(&["release", "--v"]), ["--version"]);
-    assert_eq!(offered(&["release", "list", "--"]), ["--json", "--released", "--help"]);
+    assert_eq!(offered(&["release", "list", "--"]), ["--json", "--released", "--record", "--text", "--help"]);
+    assert_eq!(offered(&["release", "diff", "--"]), ["--all", "--json", "--record", "--text", "--help"]);
     assert_eq!(offered(&["release", "burn-in", "--s"]), ["--seeds"]);
     assert_eq!(offered(&["release", "draft", ""]), ["add", "remove", "count"]);
+    assert_eq!(offered(&["release", "shelf", ""]), ["set", "back", "list"]);
     assert_eq!(offered(&["release", "help", "burn"]), ["burn-in"]);
     // The rest are files, which bash completes itself.
     assert!(offered(&["release", "check", "a"]).is_empty());
@@ -75,6 +77,12 @@ fn without_the_archive() {
     assert!(said.contains("there is no ") && said.contains("run `rt staticlib menqachu`"), "{said}");
 }
 
+/// Cargo of an older Rust says which one is asked for.
+#[test]
+fn the_rust_that_is_asked_for() {
+    assert_eq!(env!("CARGO_PKG_RUST_VERSION"), "1.82");
+}
+
 /// A fault of a text can be handed on as any error.
 #[test]
 fn a_fault_is_an_error() {
@@ -82,5 +90,8 @@ fn a_fault_is_an_error() {
         Ok(menqachu::text::assemble(text.as_bytes())?.stream.len())
     }
     assert_eq!(made("head 1.0.0\nend").expect("a record"), 6);
-    assert!(made("head 1.0.0").expect_err("no end").to_string().starts_with("line 1: expected `end`"));
+    assert!(made("head 1.0.0")
+        .expect_err("no end")
+        .to_string()
+        .starts_with("line 1, column 11: expected `end`"));
 }

@@ -213,18 +213,6 @@ fn usage_and_files() {
     assert!(run(&["check", &good, &good, "--released"]).complained(3).contains("there is no option"));
 }
 
-/// A text in place of a record is answered as 01 says, with advice on standard error.
-#[test]
-fn a_text_in_place_of_a_record() {
-    let folder = Folder::new("check_text");
-    let good = folder.record("good.rec", "head 1.0.0\nend");
-    let text = folder.file("text.txt", b"head 1.1.0\nend\n");
-    let ran = run(&["check", &text, &good]);
-    assert_eq!(ran.status, 2);
-    assert!(ran.text().starts_with("8 long: current record, place 0 of the stream: "), "{}", ran.text());
-    assert!(ran.err.contains("text.txt begins like a text; `release assemble` makes"), "{}", ran.err);
-}
-
 /// File names that begin with a dash come behind `--`.
 #[test]
 fn names_behind_two_dashes() {

@@ -1,7 +1,13 @@
 //! `release draft`.
 mod common;
 
-use common::{record, run, run_on, Folder};
+use common::vectors::records;
+use common::{record, run, run_on, Drawn, Folder};
+use menqachu::record::commands::Said;
+use menqachu::record::decode::commands;
+use menqachu::record::parts::Parts;
+use menqachu::text::{added, assemble, removed, show};
+use menqachu::{draft_add, draft_remove, DraftAnswer};
 
 const RELEASED: &str = "head 0.8.0\nenum op 1\nstruct tile\nfield n scalar type=u16\nend";
 const DRAFT: &str = "head 0.9.0\nenum op 1\nstruct tile\nfield n scalar type=u16\nversion scan 4\nend";
@@ -97,4 +103,59 @@ fn what_is_written() {
     assert_eq!(written.len(), 8 + record(text).stream.len() + pool);
     assert_eq!(std::fs::metadata(&draft).expect("the draft").permissions().mode() & 0o777, 0o640);
     assert!(std::fs::symlink_metadata(link).expect("the link").is_symlink());
+}
+
+/// A text with comments and empty lines put in, and the names of its types.
+fn commented(parts: &Parts, drawn: &mut Drawn) -> Option<(String, Vec<Vec<u8>>)> {
+    let text = show(parts.record()).ok()?;
+    let mut lines: Vec<&str> = text.lines().collect();
+    for _ in 0..drawn.below(4) {
+        lines.insert(drawn.below(lines.len() + 1), ["", "# struct tile", "  # end", "\t"][drawn.below(4)]);
+    }
+    let types = |said: &&Said| matches!(said.command.word, "struct" | "family");
+    let all = commands(parts.record()).ok()?;
+    let names = all.iter().filter(types).filter_map(|said| said.text(0)).map(<[u8]>::to_vec).collect();
+    Some((lines.join("\n"), names))
+}
+
+/// The text of a head, the first type of a name in another text, and an end: what is left of that without all other lines.
+fn alone(text: &str, name: &[u8]) -> Option<String> {
+    let less = String::from_utf8(removed(text.as_bytes(), name).ok()?).ok()?;
+    let mut kept = less.lines().peekable();
+    let block: Vec<&str> = text.lines().filter(|line| kept.next_if_eq(line).is_none()).collect();
+    let text = format!("head 1.0.0\n{}\nend\n", block.join("\n"));
+    assemble(text.as_bytes()).is_ok().then_some(text)
+}
+
+/// What the lines of an edited text say is what the proved call makes of the record, on the records of the vectors.
+#[test]
+fn edits_in_lines() {
+    let mut drawn = Drawn(0xD2AF7);
+    let mut addition = None;
+    let mut made = [0; 2];
+    for parts in records().into_iter().filter(|parts| parts.stream.len() < 4000) {
+        let Some((text, names)) = commented(&parts, &mut drawn) else { continue };
+        let draft = record(&text);
+        let Some(name) = names.get(drawn.below(names.len())) else { continue };
+        let mut holds = |which: usize, edited: Vec<u8>, call: &dyn Fn(&mut [u8]) -> DraftAnswer| {
+            let mut buffer = draft.to_bytes();
+            buffer.resize(60_000, 0);
+            if call(&mut buffer).answer.number != 0 {
+                return;
+            }
+            let result = Parts::read(&mut &buffer[..]).expect("a slice can be read");
+            let again = assemble(&edited).unwrap_or_else(|fault| panic!("{fault} of:\n{text}"));
+            assert_eq!(commands(again.record()), commands(result.record()), "of:\n{text}");
+            made[which] += 1;
+        };
+        let less = removed(text.as_bytes(), name).expect("lines");
+        holds(0, less, &|buffer| draft_remove(0, buffer, name, draft.record()));
+        if let Some(addition) = &addition {
+            let more = added(text.as_bytes(), String::as_bytes(addition)).expect("lines");
+            let parts = record(addition);
+            holds(1, more, &|buffer| draft_add(0, buffer, parts.record(), draft.record()));
+        }
+        addition = alone(&text, name).or(addition);
+    }
+    assert!(made.iter().all(|count| *count > 300), "{made:?}");
 }

@@ -1,4 +1,4 @@
-//! The commands in examples/README.md and docs/TEXT-FORM.md, with what they print, and the records there.
+//! The commands in README.md, examples/README.md, docs/CI.md and docs/TEXT-FORM.md, with what they print, and the records there.
 mod common;
 
 use std::fs;
@@ -71,12 +71,17 @@ fn with_examples(name: &str) -> Folder {
 
 #[test]
 fn the_page_of_the_examples() {
-    assert_eq!(replay("examples/README.md", with_examples("examples").path()), 57);
+    assert_eq!(replay("examples/README.md", with_examples("examples").path()), 65);
+}
+
+#[test]
+fn the_first_path_of_the_readme() {
+    assert_eq!(replay("README.md", with_examples("readme").path()), 1);
 }
 
 #[test]
 fn the_page_of_ci_systems() {
-    assert_eq!(replay("docs/CI.md", with_examples("ci").path()), 6);
+    assert_eq!(replay("docs/CI.md", with_examples("ci").path()), 5);
 }
 
 #[test]

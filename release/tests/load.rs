@@ -191,7 +191,7 @@ fn the_command_burn_in() {
     );
     assert_eq!(run(&["burn-in", "--seeds=3..7", "--outcome=43", "--json"]).said(0), json);
     let last = run(&["burn-in", "--outcome", "0", "--seeds", "2147483647..2147483648"]);
-    assert!(last.said(0).starts_with("seeds 2147483647..2147483648: 1 pairs, "));
+    assert!(last.said(0).starts_with("seeds 2147483647..2147483648: 1 pair, "));
 }
 
 #[test]

@@ -77,9 +77,25 @@ fn what_an_old_reader_takes() {
     assert!(page.contains(">no bytes</div>"), "{page}");
     let page = report("head 1.1.0\nend", old, &folder);
     assert!(
-        page.contains("<bdi>t</bdi> <small>gone</small>") && page.contains("2 bytes behind the end"),
+        page.contains("<bdi>t</bdi> <small>33 type gone</small>") && page.contains("2 bytes behind the end"),
         "{page}"
     );
+}
+
+/// What a verdict is about has its number behind it, not only the first.
+#[test]
+fn numbers_of_verdicts() {
+    let folder = Folder::new("report_numbers");
+    let old = "head 1.0.0\nconstant A 1\nconstant B 1\nstruct t\nfield a scalar\nend";
+    let new = "head 1.1.0\nconstant A 2\nstruct t\nfield a scalar\nfield b scalar\nend";
+    let page = report(new, old, &folder);
+    for part in [
+        "<code><bdi>constant A 2</bdi></code> <em>21 constant changed</em></td>",
+        "<td class=\"none\">- <em>20 constant gone</em></td>",
+        "<h3><bdi>t</bdi> <small>changed, 40 uncovered</small></h3>",
+    ] {
+        assert!(page.contains(part), "{part} in {page}");
+    }
 }
 
 /// Names that are markup leave the page's tags as they are with harmless names, and nothing is loaded or run.

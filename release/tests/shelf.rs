@@ -64,7 +64,7 @@ fn drafts_come_back() {
     let lens = [&files.one, &files.two].map(|file| bytes(file).len());
     let listed = format!("before the move: {} bytes\nwells: {} bytes\n", lens[0], lens[1]);
     assert_eq!(files.list().said(0), listed);
-    let draft = files.folder.file("draft.rec", b"something else");
+    let draft = files.folder.file("draft.rec", b"something else, and no text\0");
     assert_eq!(files.back("wells", &draft).said(0), "changed 1\n");
     assert_eq!(bytes(&draft), bytes(&files.two));
     assert_eq!(files.back("before the move", &draft).said(0), "changed 0\n");

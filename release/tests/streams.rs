@@ -2,7 +2,7 @@
 mod common;
 
 use std::fs::File;
-use std::io::{pipe, Write};
+use std::io::{pipe, BufRead, BufReader, Write};
 use std::process::Stdio;
 
 use common::vectors::records;
@@ -30,6 +30,7 @@ fn calls() -> Vec<(Vec<&'static str>, i32)> {
         ("owner FILE s --json", 0),
         ("owner FILE t --json", 1),
         ("diff FILE FILE", 0),
+        ("diff FILE FILE --all", 0),
         ("diff FILE FILE --json", 0),
         ("report FILE FILE", 0),
         ("lint FILE", 1),
@@ -81,6 +82,21 @@ fn pipe_closed_in_the_middle() {
         drop(child.stdout.take());
         assert_eq!(child.wait().expect("ends").code(), Some(0));
     }
+}
+
+/// A burn-in over all seeds ends without a word when nobody reads its lines any more, and does not say that each pair had its outcome.
+#[test]
+fn burn_in_that_nobody_reads() {
+    let mut burn_in = command();
+    burn_in.args(["burn-in", "--seeds", "0..2147483648"]).stdout(Stdio::piped()).stderr(Stdio::piped());
+    let mut child = burn_in.spawn().expect("the command starts");
+    let mut first = String::new();
+    let mut lines = BufReader::new(child.stdout.take().expect("a pipe"));
+    lines.read_line(&mut first).expect("a line");
+    assert!(first.starts_with("1000 seeds, 6000 pairs, "), "{first}");
+    drop(lines);
+    let output = child.wait_with_output().expect("the command ends");
+    assert_eq!((output.status.code(), &output.stderr[..]), (Some(3), &b""[..]));
 }
 
 #[test]

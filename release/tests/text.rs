@@ -114,9 +114,10 @@ fn equal_texts_are_shared() {
     assert_eq!(shared.pool, b"1.0.0onetwo");
 }
 
-/// What `assemble` says of a wrong text.
+/// What `assemble` says of a wrong text, without the column.
 fn fault(text: &str) -> String {
-    assemble(text.as_bytes()).expect_err(text).to_string()
+    let fault = assemble(text.as_bytes()).expect_err(text);
+    format!("line {}: {}", fault.line, fault.message)
 }
 
 /// Holds what is said of wrong texts to what is expected.
@@ -274,6 +275,8 @@ fn limits() {
     assert_eq!(long, "line 2: expected the name of the alias in at most 255 bytes, found 256");
     let long = fault(&format!("head {}\nend", name(256)));
     assert_eq!(long, "line 1: expected the release of the head in at most 255 bytes, found 256");
+    let words = fault(&format!("head\nstruct s\nfield f scalar type=u8{}\nend", " x".repeat(100)));
+    assert_eq!(words, "line 3: expected element, count, rows, cols, size or the end of the line, found x");
     let far = fault(&format!("head\n{}\nend", name(1000)));
     assert!(far.ends_with(&format!(", found {}.. (1000 bytes)", name(60))), "{far}");
 
@@ -344,10 +347,13 @@ fn damaged_records_are_not_shown() {
 fn a_wrong_text_writes_no_record() {
     let folder = Folder::new("text_wrong");
     let text = folder.file("wrong.txt", b"head 1.0.0\nstruct\n");
-    let line =
-        format!("release: {text}: line 2: expected the name of the struct, found the end of the line\n");
-    assert_eq!(run(&["assemble", &text]).complained(2), line);
-    assert!(run_on(&["assemble", "-"], b"").complained(2).starts_with("release: standard input: line 1: "));
+    let said = format!(
+        "release: {text}: line 2, column 7: expected the name of the struct, found the end of the line\n    \
+         struct\n          ^\n"
+    );
+    assert_eq!(run(&["assemble", &text]).complained(2), said);
+    let ran = run_on(&["assemble", "-"], b"");
+    assert!(ran.complained(2).starts_with("release: standard input: line 1, column 1: expected `head`, "));
 }
 
 #[test]

@@ -63,7 +63,7 @@ fn numbers_for_what_is_not_seen() {
     assert!(json.said(0).starts_with(types), "{}", json.text());
     let earlier = folder.record("earlier.rec", "head 0.9.0\nstruct \"a\\u{202E}b\"\nend");
     let table = run(&["diff", &file, &earlier]);
-    assert!(table.said(0).contains("\na\\u{202E}b: changed\n    \\u{80}"), "{}", table.text());
+    assert!(table.said(0).contains("\na\\u{202E}b: changed, 40 uncovered\n    \\u{80}"), "{}", table.text());
     let gone = folder.record("gone.rec", "head 1.1.0\nend");
     let verdict = run(&["check", &gone, &file]);
     assert!(verdict.said(1).starts_with("33 type gone: a\\u{202E}b was "), "{}", verdict.text());
@@ -137,12 +137,20 @@ fn columns() {
     );
     let old = folder
         .record("old.rec", "head 1.0.0\nstruct t\nfield µm scalar type=u16\nfield 焦点 scalar type=u8\nend");
-    let table = "        released        current\n\
-                 t: changed\n    \
-                 µm  0 2 scalar u16  0 2 scalar u16\n    \
-                 焦点  2 1 scalar u8   2 1 scalar u8\n    \
-                 A\u{30a}b  -               3 1 scalar      new\n";
-    assert_eq!(run(&["diff", &new, &old]).said(0), table);
+    let table = "
+        released                  current
+        offset  size  type        offset  size  type
+t: changed, 40 uncovered
+    µm       0     2  scalar u16       0     2  scalar u16
+    焦点       2     1  scalar u8        2     1  scalar u8
+    A\u{30a}b       -                         3     1  scalar      new
+    byte  stood there    stands there now
+    0-1   µm scalar u16  as before
+    2     焦点 scalar u8   as before
+    3     -              A\u{30a}b scalar
+";
+    let ran = run(&["diff", "--all", &new, &old]);
+    assert!(ran.said(0).ends_with(table), "{}", ran.text());
 }
 
 /// Three spellings of one letter and two of another: three and two names, each shown with its code points.
@@ -173,17 +181,16 @@ fn a_pair_that_looks_the_same() {
     let rows: Vec<Vec<&str>> = said
         .said(0)
         .lines()
-        .skip(2)
+        .skip_while(|line| !line.starts_with("t: "))
+        .skip(1)
         .map(|line| line.trim().split("  ").filter(|cell| !cell.is_empty()).collect())
         .collect();
     let cells = |row: &[&str]| row.iter().map(|cell| cell.trim().to_string()).collect::<Vec<_>>();
     let rows: Vec<Vec<String>> = rows.iter().map(|row| cells(row)).collect();
-    assert_eq!(rows[0], ["\u{3bc}m (U+03BC)", "-", "0 1 scalar", "new"]);
-    assert_eq!(rows[1], ["\u{b5}m (U+00B5)", "0 1 scalar", "-", "gone"]);
-    assert_eq!(
-        rows[2],
-        ["p", "1 4 struct_ptr \u{c5} (U+00C5)", "1 4 struct_ptr \u{212b} (U+212B)", "redescribed"]
-    );
+    assert_eq!(rows[0], ["\u{3bc}m (U+03BC)", "-", "0", "1", "scalar", "new"]);
+    assert_eq!(rows[1], ["\u{b5}m (U+00B5)", "0", "1", "scalar", "-", "34 field gone"]);
+    let (was, is) = ("struct_ptr \u{c5} (U+00C5)", "struct_ptr \u{212b} (U+212B)");
+    assert_eq!(rows[2], ["p", "1", "4", was, "1", "4", is, "37 redescribed"]);
 
     let note =
         "release: note: \u{3bc}m (U+03BC) and \u{b5}m (U+00B5) look the same and are different names\n";
@@ -204,7 +211,10 @@ fn a_name_asked_for_that_looks_the_same() {
     let asked = run(&["owner", &file, "\u{212b}"]);
     assert_eq!((asked.status, asked.text()), (1, ""));
     let nobody = format!("release: {file}: nobody owns \u{212b}\n");
-    assert_eq!(asked.err, nobody + &note("\u{c5} (U+00C5) and A\u{30a} (U+0041 U+030A) and \u{212b} (U+212B)"));
+    assert_eq!(
+        asked.err,
+        nobody + &note("\u{c5} (U+00C5) and A\u{30a} (U+0041 U+030A) and \u{212b} (U+212B)")
+    );
     assert_eq!(run(&["owner", &file, "\u{c5}"]).said(0), "\u{c5}\n");
     let broken = run(&["pointers", &file]);
     assert!(broken.text().contains("struct_ptr names A\u{30a}, which is neither"), "{}", broken.text());

@@ -10,7 +10,7 @@ pub fn help(args: &Args) -> Done {
     let text = match args.operands.first() {
         None => help::WHOLE,
         Some(name) => {
-            let entry = ENTRIES.iter().find(|entry| name == entry.rule.name);
+            let entry = ENTRIES.iter().find(|entry| &**name == entry.rule.name);
             let unknown =
                 || Stop::failed(format!("help: there is no command {}\n{}", shown(name), help::COMMANDS));
             entry.ok_or_else(unknown)?.rule.help
@@ -35,6 +35,7 @@ pub fn completions(_: &Args) -> Done {
     for entry in &ENTRIES {
         let words = match entry.rule.name {
             "draft" => "add remove count",
+            "shelf" => "set back list",
             "help" => &names,
             _ => "",
         };

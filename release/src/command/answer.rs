@@ -8,6 +8,7 @@ use menqachu::record::parts::STREAM_LIMIT;
 use menqachu::text::letters::shown;
 use menqachu::{Answer, Record, Side};
 
+use super::files::Given;
 use super::json::Json;
 use super::{DAMAGED, DONE, STOPPED};
 
@@ -30,6 +31,8 @@ struct Refusal {
     in_pool: bool,
     at_end: bool,
     byte: Option<u8>,
+    /// The line of the text that the record was made of, if it was.
+    line: Option<usize>,
     reason: &'static str,
 }
 
@@ -51,18 +54,36 @@ impl Told {
         let refusal = match number {
             LETTER => {
                 let byte = record.pool.get(place).copied();
-                Refusal { side, place, in_pool: true, at_end: false, byte, reason }
+                Refusal { side, place, in_pool: true, at_end: false, byte, line: None, reason }
             }
             LONG => {
                 let in_pool = record.stream.len() <= STREAM_LIMIT;
-                Refusal { side, place, in_pool, at_end: false, byte: None, reason }
+                Refusal { side, place, in_pool, at_end: false, byte: None, line: None, reason }
             }
             _ => {
                 let byte = record.stream.get(place).copied();
-                Refusal { side, place, in_pool: false, at_end: byte.is_none(), byte, reason }
+                Refusal { side, place, in_pool: false, at_end: byte.is_none(), byte, line: None, reason }
             }
         };
         Told { number, message: None, refusal: Some(refusal) }
+    }
+
+    /// The refusal of a record that was given and read as this side.
+    pub fn of_given(number: u32, side: Option<Side>, place: usize, given: &Given) -> Told {
+        Told::of_refusal(number, side, place, given.record()).in_text(given)
+    }
+
+    /// With the line of the text that a refused record was made of, if it was.
+    pub fn in_text(mut self, given: &Given) -> Told {
+        if let Some(refusal) = self.refusal.as_mut().filter(|refusal| !refusal.in_pool) {
+            refusal.line = given.line_at(refusal.place);
+        }
+        self
+    }
+
+    /// The side whose record is refused.
+    pub fn side(&self) -> Option<Side> {
+        self.refusal.as_ref().and_then(|refusal| refusal.side)
     }
 
     /// A number that speaks of no record.
@@ -73,7 +94,8 @@ impl Told {
     /// The refusal of a record that an edit would make, and that is at no hand.
     pub fn of_result(number: u32, place: usize) -> Told {
         let reason = reason(number).unwrap_or_default();
-        let refusal = Refusal { side: None, place, in_pool: false, at_end: false, byte: None, reason };
+        let refusal =
+            Refusal { side: None, place, in_pool: false, at_end: false, byte: None, line: None, reason };
         Told { number, message: None, refusal: Some(refusal) }
     }
 
@@ -161,7 +183,8 @@ impl Refusal {
             (None, _) => String::new(),
         };
         let side = self.side.map_or(String::new(), |side| format!("{} ", side_name(side)));
-        format!("{side}record, place {} of the {}{at}", self.place, self.part())
+        let line = self.line.map_or(String::new(), |line| format!(", line {line}"));
+        format!("{side}record{line}, place {} of the {}{at}", self.place, self.part())
     }
 }
 

@@ -1,6 +1,7 @@
 //! The words behind a command's name: operands and options.
 
 use std::ffi::{OsStr, OsString};
+use std::ops::Deref;
 
 use super::files::shown;
 use super::{help, Stop};
@@ -15,9 +16,34 @@ pub struct Rule {
     pub options: &'static [&'static str],
 }
 
+/// How the bytes of an operand's file are taken: as they tell, or as the caller says.
+#[derive(Clone, Copy, Debug, Default, PartialEq, Eq)]
+pub enum Taken {
+    #[default]
+    AsTold,
+    Record,
+    Text,
+}
+
+/// A word that is no option, and how its file is taken if it names one.
+#[derive(Debug)]
+pub struct Operand {
+    word: OsString,
+    pub taken: Taken,
+}
+
+impl Deref for Operand {
+    type Target = OsStr;
+
+    fn deref(&self) -> &OsStr {
+        &self.word
+    }
+}
+
 #[derive(Debug, Default)]
 pub struct Args {
-    pub operands: Vec<OsString>,
+    pub operands: Vec<Operand>,
+    pub all: bool,
     pub json: bool,
     pub released: bool,
     values: Vec<(&'static str, OsString)>,
@@ -38,11 +64,12 @@ pub enum Asked {
 /// Options may stand anywhere up to `--`; a lone `-` is an operand.
 pub fn parse(rule: &Rule, words: &[OsString]) -> Result<Asked, Stop> {
     let mut args = Args::default();
+    let mut taken = Taken::AsTold;
     let mut options = true;
     let mut words = words.iter();
     while let Some(word) = words.next() {
         if !options || word == "-" || !word.as_encoded_bytes().starts_with(b"-") {
-            args.operands.push(word.clone());
+            args.operands.push(Operand { word: word.clone(), taken });
         } else if word == "--" {
             options = false;
         } else if word == "--help" || word == "-h" {
@@ -56,11 +83,20 @@ pub fn parse(rule: &Rule, words: &[OsString]) -> Result<Asked, Stop> {
             args.values.push((name, value));
         } else if !rule.options.iter().any(|option| word == option) {
             return Err(wrong(rule, &format!("there is no option {}", shown(word))));
+        } else if word == "--record" || word == "--text" {
+            let asked = if word == "--text" { Taken::Text } else { Taken::Record };
+            if taken != Taken::AsTold && taken != asked {
+                return Err(wrong(rule, "--record and --text are given both"));
+            }
+            taken = asked;
         } else {
+            args.all |= word == "--all";
             args.json |= word == "--json";
             args.released |= word == "--released";
         }
     }
+    // An option may stand behind the operands.
+    args.operands.iter_mut().for_each(|operand| operand.taken = taken);
     let given = args.operands.len();
     if given < rule.least || given > rule.most {
         return Err(wrong(rule, &format!("expected {}, found {given}", counted(rule))));

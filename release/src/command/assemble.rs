@@ -18,6 +18,6 @@ pub fn run(args: &Args) -> Done {
     let text = files::text(file)?;
     match assemble(&text) {
         Ok(parts) => print(&parts.to_bytes()).map(|()| DONE),
-        Err(fault) => Err(Stop::damaged(format!("{}: {fault}", files::shown_file(file)))),
+        Err(fault) => Err(files::wrong_text(file, &fault, &text)),
     }
 }

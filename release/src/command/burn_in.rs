@@ -1,7 +1,6 @@
 //! `release burn-in`: pairs of many seeds, each made by the load call and checked.
 
 use std::ffi::OsStr;
-use std::io::{stderr, IsTerminal, Write};
 use std::ops::Range;
 
 use menqachu::record::pair::{Pair, OUTCOMES, SEEDS};
@@ -11,13 +10,12 @@ use super::args::Args;
 use super::files::shown;
 use super::json::Json;
 use super::load::{number, unfit};
-use super::output::print_line;
+use super::output::{counted, print_line, print_on};
+use super::progress::Progress;
 use super::{Done, Stop, DONE, STOPPED};
 
 /// How many seeds a line of the report stands for.
 const LINE: u32 = 1000;
-/// The width of the progress bar.
-const BAR: u64 = 40;
 
 pub fn run(args: &Args) -> Done {
     let Some(seeds) = args.value("--seeds") else {
@@ -30,9 +28,16 @@ pub fn run(args: &Args) -> Done {
     };
     // Lines are for people: with --json the summary is all that is printed.
     let lines = !args.json;
-    let burnt = burn(seeds, &outcomes, made, &mut |burnt| progress(burnt, lines));
-    draw("");
-    let burnt = burnt?;
+    let mut progress = Progress::new(seeds.len() as u64);
+    let mut told = |burnt: &Burnt| {
+        progress.at(burnt.done.into());
+        if lines && burnt.done % LINE == 0 {
+            print_on(&burnt.so_far())
+        } else {
+            Ok(())
+        }
+    };
+    let burnt = burn(seeds, &outcomes, made, &mut told)?;
     print_line(&if args.json { burnt.json().to_string() } else { burnt.line() })?;
     Ok(if burnt.difference.is_none() { DONE } else { STOPPED })
 }
@@ -94,13 +99,22 @@ fn made(outcome: u32, seed: u32) -> Made {
 impl Burnt<'_> {
     fn line(&self) -> String {
         let Range { start, end } = self.seeds;
-        let (pairs, bytes) = (self.pairs, self.bytes);
+        let (pairs, bytes) = (counted(self.pairs, "pair"), counted(self.bytes, "byte"));
         match &self.difference {
-            None => format!("seeds {start}..{end}: {pairs} pairs, {bytes} bytes, each with its outcome"),
+            None => format!("seeds {start}..{end}: {pairs}, {bytes}, each with its outcome"),
             Some(Difference { seed, outcome, number }) => {
-                format!("seed {seed}, outcome {outcome}: the check gives {number}, after {pairs} pairs with theirs")
+                let theirs = if self.pairs == 1 { "its own" } else { "theirs" };
+                format!(
+                    "seed {seed}, outcome {outcome}: the check gives {number}, after {pairs} with {theirs}"
+                )
             }
         }
+    }
+
+    /// A line for each thousand seeds.
+    fn so_far(&self) -> String {
+        let (pairs, bytes) = (counted(self.pairs, "pair"), counted(self.bytes, "byte"));
+        format!("{}, {pairs}, {bytes}", counted(self.done.into(), "seed"))
     }
 
     fn json(&self) -> Json {
@@ -120,33 +134,6 @@ impl Burnt<'_> {
             ("bytes", Json::Number(self.bytes)),
             ("difference", Json::or_null(difference)),
         ])
-    }
-
-    /// The bar at this point.
-    fn bar(&self) -> String {
-        let (done, all) = (u64::from(self.done), self.seeds.len() as u64);
-        let (filled, percent) = ((done * BAR / all) as usize, done * 100 / all);
-        format!("[{:<width$}] {percent:3} %", "#".repeat(filled), width = BAR as usize)
-    }
-}
-
-/// A line for each thousand seeds, and the bar below it.
-fn progress(burnt: &Burnt, lines: bool) -> Result<(), Stop> {
-    if burnt.done % LINE != 0 {
-        return Ok(());
-    }
-    draw("");
-    if lines {
-        print_line(&format!("{} seeds, {} pairs, {} bytes", burnt.done, burnt.pairs, burnt.bytes))?;
-    }
-    draw(&burnt.bar());
-    Ok(())
-}
-
-/// Puts a bar in place of the one before, where standard error is a terminal: an empty one leaves the line free for a text.
-fn draw(bar: &str) {
-    if stderr().is_terminal() {
-        let _ = write!(stderr(), "\r\x1b[K{bar}");
     }
 }
 
@@ -183,14 +170,5 @@ mod tests {
         let json = r#""pairs":15,"bytes":150,"difference":{"seed":7,"outcome":35,"number":36}}"#;
         assert!(burnt.json().to_string().ends_with(json));
         assert_eq!(told, 2);
-    }
-
-    #[test]
-    fn bars() {
-        let burnt =
-            |done| Burnt { seeds: 0..3000, outcomes: &[], done, pairs: 0, bytes: 0, difference: None };
-        assert_eq!(burnt(0).bar(), format!("[{}]   0 %", " ".repeat(40)));
-        assert_eq!(burnt(1000).bar(), format!("[{}{}]  33 %", "#".repeat(13), " ".repeat(27)));
-        assert_eq!(burnt(3000).bar(), format!("[{}] 100 %", "#".repeat(40)));
     }
 }

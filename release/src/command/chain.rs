@@ -5,25 +5,32 @@ use menqachu::Side;
 
 use super::answer::{with, Told};
 use super::args::Args;
-use super::check::told;
+use super::check::told_of;
 use super::files::Given;
 use super::json::Json;
 use super::output::{print, print_line};
 use super::premises::Notes;
+use super::progress::Progress;
 use super::{alike, files, Done, Stop, DONE, STOPPED};
 
 pub fn run(args: &Args) -> Done {
-    let given = args.operands.iter().map(|file| files::record(file)).collect::<Result<Vec<_>, _>>()?;
+    // Each record is read and then checked.
+    let mut progress = Progress::new(2 * args.operands.len() as u64);
+    let mut given = Vec::new();
+    for file in &args.operands {
+        progress.at(given.len() as u64);
+        given.push(files::record(file)?);
+    }
     let Some((first, offered)) = given.split_first() else {
         return Err(Stop::failed("chain: expected a first record"));
     };
     // The first record is never checked itself, so the list call says whether it can be read as released.
     let (answer, _) = list_whole(first.record(), Side::Released);
     if answer.number != 0 {
-        let refusal = Told::of_refusal(answer.number, Some(Side::Released), answer.place, first.record());
+        let refusal = Told::of_given(answer.number, Some(Side::Released), answer.place, first);
         return no_first(first, &refusal, args.json);
     }
-    let links = links(first, offered);
+    let links = links(first, offered, &mut progress);
     let notes = notes(first, &links)?;
     if args.json {
         let value = json(first, None, &links);
@@ -32,7 +39,11 @@ pub fn run(args: &Args) -> Done {
         let lines: String = links.iter().map(|link| link.line() + "\n").collect();
         print((lines + &notes.lines()).as_bytes())?;
         for link in &links {
-            alike::tell(&[link.offered.record(), link.against.record()], b"", link.told.message().unwrap_or_default().as_bytes());
+            alike::tell(
+                &[link.offered.record(), link.against.record()],
+                b"",
+                link.told.message().unwrap_or_default().as_bytes(),
+            );
         }
     }
     Ok(if links.iter().all(|link| link.told.accepted()) { DONE } else { STOPPED })
@@ -45,11 +56,12 @@ struct Link<'a> {
     told: Told,
 }
 
-fn links<'a>(first: &'a Given, offered: &'a [Given]) -> Vec<Link<'a>> {
-    let mut last = first;
+fn links<'a>(first: &'a Given, offered: &'a [Given], progress: &mut Progress) -> Vec<Link<'a>> {
+    let (mut last, all) = (first, offered.len() + 1);
     let mut links = Vec::new();
-    for offered in offered {
-        let link = Link { offered, against: last, told: told(offered.record(), last.record()) };
+    for (at, offered) in offered.iter().enumerate() {
+        progress.at((all + at) as u64);
+        let link = Link { offered, against: last, told: told_of(offered, last) };
         if link.told.accepted() {
             last = offered;
         }

@@ -1,10 +1,11 @@
 //! `release check`: one record against another.
 
 use menqachu::record::room::check_whole;
-use menqachu::Record;
+use menqachu::{Record, Side};
 
 use super::answer::{with, Told};
 use super::args::Args;
+use super::files::Given;
 use super::json::Json;
 use super::output::{print, print_line};
 use super::premises::Notes;
@@ -13,7 +14,7 @@ use super::{alike, files, Done};
 pub fn run(args: &Args) -> Done {
     let current = files::record(&args.operands[0])?;
     let released = files::record(&args.operands[1])?;
-    let told = told(current.record(), released.record());
+    let told = told_of(&current, &released);
     let notes = match told.accepted() {
         true => Notes::of(&[("the released record", &released), ("the current record", &current)])?,
         false => Notes::default(),
@@ -29,6 +30,16 @@ pub fn run(args: &Args) -> Done {
         alike::tell(&[current.record(), released.record()], b"", message);
     }
     Ok(told.status())
+}
+
+/// What the proved check says of two records that were given.
+pub fn told_of(current: &Given, released: &Given) -> Told {
+    let told = told(current.record(), released.record());
+    match told.side() {
+        Some(Side::Current) => told.in_text(current),
+        Some(Side::Released) => told.in_text(released),
+        None => told,
+    }
 }
 
 /// What the proved check says of two records.

@@ -1,12 +1,12 @@
 //! `release draft`: a type added to a draft or taken out of it, and the number of layouts changed.
 
-use std::ffi::OsStr;
-
+use menqachu::record::decode::commands;
 use menqachu::record::parts::{Parts, POOL_LIMIT, STREAM_LIMIT};
-use menqachu::{draft_add, draft_count, draft_remove, Answer, DraftAnswer, Side};
+use menqachu::text::{added, assemble, removed, show, Fault};
+use menqachu::{draft_add, draft_count, draft_remove, Answer, DraftAnswer, Record, Side};
 
 use super::answer::Told;
-use super::args::Args;
+use super::args::{Args, Operand};
 use super::files::{self, Given};
 use super::json::Json;
 use super::output::print_line;
@@ -18,8 +18,7 @@ const KEY: &str = "changed";
 const WHOLE: usize = 8 + STREAM_LIMIT + POOL_LIMIT;
 
 pub fn run(args: &Args) -> Done {
-    let words: Vec<&OsStr> = args.operands.iter().map(|word| word.as_os_str()).collect();
-    match (words[0].to_str(), &words[1..]) {
+    match (args.operands[0].to_str(), &args.operands[1..]) {
         (Some("count"), [draft, released]) => count(args, draft, released),
         (Some("add"), [draft, addition, released]) => add(args, draft, addition, released),
         (Some("remove"), [draft, name, released]) => remove(args, draft, name, released),
@@ -30,34 +29,58 @@ pub fn run(args: &Args) -> Done {
     }
 }
 
-fn count(args: &Args, draft: &OsStr, released: &OsStr) -> Done {
+fn count(args: &Args, draft: &Operand, released: &Operand) -> Done {
     let pair = Pair { draft: files::record(draft)?, released: files::record(released)?, json: args.json };
     let changed = pair.counted(&pair.draft.bytes())?;
     pair.say(changed)
 }
 
-fn add(args: &Args, draft: &OsStr, addition: &OsStr, released: &OsStr) -> Done {
+fn add(args: &Args, draft: &Operand, addition: &Operand, released: &Operand) -> Done {
     let draft = edited(draft)?;
     let addition = files::record(addition)?;
     let pair = Pair { draft, released: files::record(released)?, json: args.json };
-    pair.edit(Some(&addition), |changed, buffer| {
-        draft_add(changed, buffer, addition.record(), pair.released.record())
-    })
+    pair.edit(&Edit::Add(addition))
 }
 
-fn remove(args: &Args, draft: &OsStr, name: &OsStr, released: &OsStr) -> Done {
+fn remove(args: &Args, draft: &Operand, name: &Operand, released: &Operand) -> Done {
     let pair = Pair { draft: edited(draft)?, released: files::record(released)?, json: args.json };
     let name = name.as_encoded_bytes();
-    let done = pair.edit(None, |changed, buffer| draft_remove(changed, buffer, name, pair.released.record()));
+    let done = pair.edit(&Edit::Remove(name));
     if done.is_err() && !args.json {
         alike::tell(&[pair.draft.record()], name, name);
     }
     done
 }
 
+enum Edit<'a> {
+    Add(Given),
+    Remove(&'a [u8]),
+}
+
+impl Edit<'_> {
+    /// The edit of a record, by the proved call.
+    fn of_record(&self, changed: usize, buffer: &mut [u8], released: Record) -> DraftAnswer {
+        match self {
+            Edit::Add(addition) => draft_add(changed, buffer, addition.record(), released),
+            Edit::Remove(name) => draft_remove(changed, buffer, name, released),
+        }
+    }
+
+    /// The edit of a text, in its lines.
+    fn of_text(&self, text: &[u8]) -> Result<Vec<u8>, Fault> {
+        match self {
+            Edit::Add(addition) => match addition.text() {
+                Some(more) => added(text, more),
+                None => added(text, show(addition.record()).unwrap_or_default().as_bytes()),
+            },
+            Edit::Remove(name) => removed(text, name),
+        }
+    }
+}
+
 /// A draft that is to be written again, and so cannot come from standard input.
-fn edited(draft: &OsStr) -> Result<Given, Stop> {
-    if draft == "-" {
+fn edited(draft: &Operand) -> Result<Given, Stop> {
+    if &**draft == "-" {
         return Err(Stop::failed("draft: an edit writes the draft again; name its file"));
     }
     files::record(draft)
@@ -83,30 +106,49 @@ impl Pair {
             Answer { side: 0, .. } => (Side::Current, &self.draft),
             _ => (Side::Released, &self.released),
         };
-        let told = Told::of_refusal(answer.number, Some(side), answer.place, given.record());
+        let told = Told::of_given(answer.number, Some(side), answer.place, given);
         Err(problem::refused(&told, given, self.key()))
     }
 
     /// Makes an edit in a buffer that has room for every record, and puts the result in the draft's place.
-    fn edit(&self, addition: Option<&Given>, call: impl FnOnce(usize, &mut [u8]) -> DraftAnswer) -> Done {
+    fn edit(&self, edit: &Edit) -> Done {
         let mut buffer = self.draft.bytes();
         buffer.resize(buffer.len().max(WHOLE), 0);
         let changed = self.counted(&buffer)?;
-        let DraftAnswer { answer, changed } = call(changed, &mut buffer);
+        let DraftAnswer { answer, changed } = edit.of_record(changed, &mut buffer, self.released.record());
         if answer.number != 0 {
-            return Err(self.declined(&answer, addition));
+            return Err(self.declined(&answer, edit));
         }
         let result = Parts::read(&mut buffer.as_slice()).expect("a slice can be read");
-        files::replace(&self.draft.file, &result.to_bytes())?;
+        let bytes = match self.draft.text() {
+            Some(text) => self.edited_text(text, edit, &result)?,
+            None => result.to_bytes(),
+        };
+        files::replace(&self.draft.file, &bytes)?;
         self.say(changed)
     }
 
+    /// The draft's text with the edit in its lines. It has to say what the proved call made.
+    fn edited_text(&self, text: &[u8], edit: &Edit, result: &Parts) -> Result<Vec<u8>, Stop> {
+        let file = self.draft.shown();
+        let unfit = |fault| Stop::failed(format!("{file}: the text with the edit in its lines: {fault}"));
+        let edited = edit.of_text(text).map_err(unfit)?;
+        let again = assemble(&edited).map_err(unfit)?;
+        match (commands(again.record()), commands(result.record())) {
+            (Ok(again), Ok(result)) if again == result => Ok(edited),
+            _ => Err(Stop::failed(format!(
+                "{file}: the edited text does not say what the edit makes; this is a fault of this program, and \
+                 the draft is left as it was"
+            ))),
+        }
+    }
+
     /// Why an edit is not made: the draft and the copy were read, so a refusal speaks of the addition or of the result.
-    fn declined(&self, answer: &Answer, addition: Option<&Given>) -> Stop {
+    fn declined(&self, answer: &Answer, edit: &Edit) -> Stop {
         let Answer { number, side, place, .. } = *answer;
-        match (number, side, addition) {
-            (1..=9, 2, Some(given)) => {
-                let told = Told::of_refusal(number, Some(Side::Current), place, given.record());
+        match (number, side, edit) {
+            (1..=9, 2, Edit::Add(given)) => {
+                let told = Told::of_given(number, Some(Side::Current), place, given);
                 problem::refused(&told, given, self.key())
             }
             (1..=9, ..) => problem::refused(&Told::of_result(number, place), &self.draft, self.key()),

@@ -2,34 +2,59 @@
 
 use std::ffi::{OsStr, OsString};
 use std::fs::File;
-use std::io::{self, Read, Write};
+use std::io::{self, Stdin, Write};
 use std::path::{Path, PathBuf};
-use std::sync::{Mutex, PoisonError};
+use std::sync::{LazyLock, Mutex, PoisonError};
 
-use menqachu::record::parts::{Left, Parts};
+use menqachu::record::commands::by_byte;
+use menqachu::record::parts::Parts;
 use menqachu::text::letters::{escaped, unseen};
+use menqachu::text::{read, Fault};
 use menqachu::Record;
 
+use super::args::{Operand, Taken};
 use super::output::complain;
+use super::source::{whole, Found, Source};
 use super::Stop;
 
-/// Far more than the text form of any record or a shelf of eight drafts needs.
-const ROOM: u64 = 16 * 1024 * 1024;
-
-/// A record as it was given: the name of its file, and its parts.
+/// A record as it was given: the name of its file, its parts, and the text that it was made of, if it was.
 pub struct Given {
     pub file: OsString,
     parts: Parts,
+    text: Option<Text>,
+}
+
+/// A text, and the line of each of its commands, counted from 0.
+struct Text {
+    bytes: Vec<u8>,
+    lines: Vec<usize>,
 }
 
 impl Given {
     /// A record out of a file that holds more.
     pub fn within(file: &OsStr, parts: Parts) -> Given {
-        Given { file: file.to_os_string(), parts }
+        Given { file: file.to_os_string(), parts, text: None }
     }
 
     pub fn record(&self) -> Record<'_> {
         self.parts.record()
+    }
+
+    /// The text that the record was made of, if it was.
+    pub fn text(&self) -> Option<&[u8]> {
+        self.text.as_ref().map(|text| &text.bytes[..])
+    }
+
+    /// The line of the text in which the command at this place of the stream stands, counted from 1.
+    pub fn line_at(&self, place: usize) -> Option<usize> {
+        let mut at = 0;
+        for line in &self.text.as_ref()?.lines {
+            if at == place {
+                return Some(line + 1);
+            }
+            at += by_byte(*self.parts.stream.get(at)?)?.width();
+        }
+        None
     }
 
     pub fn shown(&self) -> String {
@@ -47,16 +72,51 @@ impl Given {
     }
 }
 
-/// A record from a file, or the next one from standard input.
-pub fn record(file: &OsStr) -> Result<Given, Stop> {
-    let parts = if file == "-" {
-        next_parts(&mut io::stdin().lock(), file)
+/// Standard input, from which more than one record may be read.
+static INPUT: LazyLock<Mutex<Source<Stdin>>> = LazyLock::new(|| Mutex::new(Source::new(io::stdin())));
+
+/// A record, or the record of a text, from a file or as the next one from standard input.
+pub fn record(operand: &Operand) -> Result<Given, Stop> {
+    let file: &OsStr = operand;
+    let found = if file == "-" {
+        INPUT.lock().unwrap_or_else(PoisonError::into_inner).next(operand.taken)
     } else {
-        File::open(file).and_then(|mut opened| read_parts(&mut opened, file)).map(|(parts, _)| parts)
+        File::open(file).and_then(|opened| Source::new(opened).next(operand.taken))
     };
-    match parts {
-        Ok(parts) => Ok(Given { file: file.to_os_string(), parts }),
-        Err(error) => Err(unread(file, &error)),
+    let given = |parts, text| Given { file: file.to_os_string(), parts, text };
+    match found.map_err(|error| unread(file, &error))? {
+        Found::Record(parts) => Ok(given(parts, None)),
+        Found::Spoiled(parts, (line, column, byte)) => {
+            let file = shown_file(file);
+            complain(&format!(
+                "note: {file} begins like a text, but has the byte {byte:02X} at line {line}, column {column}, \
+                 and so is taken as a record; --text takes it as a text"
+            ));
+            Ok(given(parts, None))
+        }
+        Found::Text(bytes) => {
+            let (parts, lines) = read(&bytes).map_err(|fault| wrong_text(file, &fault, &bytes))?;
+            Ok(given(parts, Some(Text { bytes, lines })))
+        }
+        Found::Over => Err(over(file, "the text form of a record")),
+        Found::Spent => Err(Stop::failed(
+            "standard input was taken as a text up to its end; name a file for what else is to be read",
+        )),
+    }
+}
+
+/// Why a text is not taken: its file, the line and the column, what was expected there, and the line itself.
+pub fn wrong_text(file: &OsStr, fault: &Fault, text: &[u8]) -> Stop {
+    Stop::damaged(format!("{}: {fault}\n{}", shown_file(file), fault.pointed(text)))
+}
+
+/// Whether what an operand names is to be written as a text: where it is one, or where the caller says so.
+pub fn written_as_text(operand: &Operand) -> bool {
+    let there = || File::open(&**operand).and_then(|opened| Source::new(opened).next(Taken::AsTold));
+    match operand.taken {
+        Taken::Text => true,
+        Taken::Record => false,
+        Taken::AsTold => matches!(there(), Ok(Found::Text(_))),
     }
 }
 
@@ -87,32 +147,6 @@ fn write_like(path: &Path, beside: &OsStr, bytes: &[u8]) -> io::Result<()> {
     new.sync_all()
 }
 
-/// What the record before left on standard input.
-static LEFT: Mutex<Option<Left>> = Mutex::new(None);
-
-/// The next record from standard input.
-fn next_parts(from: &mut impl Read, file: &OsStr) -> io::Result<Parts> {
-    let mut left = LEFT.lock().unwrap_or_else(PoisonError::into_inner);
-    if let Some(left) = left.take() {
-        left.skip(from)?;
-    }
-    let (parts, rest) = read_parts(from, file)?;
-    *left = Some(rest);
-    Ok(parts)
-}
-
-/// Reads a record, with a note where the stream's length is four letters: its text form was meant, perhaps.
-fn read_parts(from: &mut impl Read, file: &OsStr) -> io::Result<(Parts, Left)> {
-    let mut length = Vec::new();
-    from.take(4).read_to_end(&mut length)?;
-    let letter = |byte: &u8| byte.is_ascii_graphic() || byte.is_ascii_whitespace();
-    if length.len() == 4 && length.iter().all(letter) {
-        let file = shown_file(file);
-        complain(&format!("{file} begins like a text; `release assemble` makes a record of a text"));
-    }
-    Parts::begin(&mut length.chain(from))
-}
-
 /// A text from a file or from standard input.
 pub fn text(file: &OsStr) -> Result<Vec<u8>, Stop> {
     let read = if file == "-" { whole(io::stdin().lock()) } else { File::open(file).and_then(whole) };
@@ -126,13 +160,6 @@ pub fn shelf(file: &OsStr) -> Result<Option<Vec<u8>>, Stop> {
         Err(error) if error.kind() == io::ErrorKind::NotFound => Ok(None),
         Err(error) => Err(Stop::failed(format!("cannot read {}: {error}", shown_file(file)))),
     }
-}
-
-/// All bytes, none where they are too many.
-fn whole(from: impl Read) -> io::Result<Option<Vec<u8>>> {
-    let mut bytes = Vec::new();
-    from.take(ROOM + 1).read_to_end(&mut bytes)?;
-    Ok((bytes.len() as u64 <= ROOM).then_some(bytes))
 }
 
 fn over(file: &OsStr, what: &str) -> Stop {

@@ -20,7 +20,7 @@ Checks the record of a scan-record schema against the record of the last release
   release list RECORD [--released] [--json]  where every field lies
   release owner RECORD NAME [--json]         which versioned structure a name belongs to
   release pointers RECORD [--json]           whether every pointer names what it must
-  release diff CURRENT RELEASED [--json]     both layouts side by side
+  release diff CURRENT RELEASED [--all] [--json]  what they differ in, with the verdicts
   release report CURRENT RELEASED > PAGE     the verdict and all changes for a browser
   release draft EDIT DRAFT .. [--json]       a type added, taken out, or changes counted
   release shelf CALL SHELF .. [--json]       drafts left under names, and taken back
@@ -36,9 +36,17 @@ Checks the record of a scan-record schema against the record of the last release
   release --version                          the version, and that of the proved library
 
 A record file holds the command stream and then the text pool, each as a length of
-four bytes (little-endian) and its bytes. - in place of a file is standard input;
-where it is given more than once, the records follow each other there. Words after
--- are operands, also if they begin with a dash.
+four bytes (little-endian) and its bytes. Where a record is asked for, its text form
+(`release help assemble`) does as well. A file of four bytes or more is taken as a text
+if all its bytes are text: UTF-8 without control characters other than tabs and the ends
+of lines. Any other file is a record, also a text with one byte that is none.
+
+  --record   take every file as a record, whatever its bytes
+  --text     take every file as a text
+
+- in place of a file is standard input; where it is given more than once, the records
+follow each other there, and a text goes up to its end. Words after -- are operands,
+also if they begin with a dash.
 
 Exit status:
   0  accepted, or done
@@ -47,7 +55,8 @@ Exit status:
      is not proved that they are accepted alike (reordered), a record outside the
      premises or with a remark (lint), or a pair whose check gives another number than
      its outcome (burn-in)
-  2  a damaged record or shelf, or a text that cannot be assembled
+  2  a damaged record or shelf, or a text that is wrong: standard error has the file, the
+     line and the column, what was expected there, and the line itself
   3  a usage error, a file that cannot be read or written, an edit that cannot be made
      (draft), or a name that cannot be set or is not held (shelf)
 ";
@@ -69,6 +78,7 @@ is outside one, a note follows, with the first place and how many more there are
           side, part, place, byte and command (of a refusal); what does not apply
           is null; hint (of a verdict); and premises, a list of objects with
           premise, record, words (of document 01) and what
+  --record, --text  how every file is taken; else its bytes tell (`release help`)
 
 Exit status: 0 accepted, 1 a verdict, 2 a damaged record, 3 a usage or file error.
 ";
@@ -79,11 +89,13 @@ usage: release chain FIRST OFFERED.. [--json]
 Checks each offered record against the last accepted one, where FIRST counts as
 accepted, and prints a line for each. A record that is not accepted is dropped, and
 the next one is checked against the same record again. Notes follow as those of
-check, over FIRST and all accepted records.
+check, over FIRST and all accepted records. Where standard error is a terminal a bar
+there says how far a long chain is.
 
   --json  an object with the keys first, refusal (of FIRST), offered (a list of
           objects with file, against and answer, which has the keys of check up to
           command), last, the file of the last accepted record, and premises
+  --record, --text  how every file is taken; else its bytes tell (`release help`)
 
 Exit status: 0 all are accepted, 1 one is dropped, 2 FIRST cannot be read as a
 released record, 3 a usage or file error.
@@ -104,6 +116,7 @@ fields has no line.
   --json      an object with the keys refusal and types, a list of objects with
               name and fields, a list of objects with name, offset, size and
               description; a type without fields has an empty list
+  --record, --text  how every file is taken; else its bytes tell (`release help`)
 
 Exit status: 0 listed, 2 a damaged record, 3 a usage or file error.
 ";
@@ -117,6 +130,7 @@ it. Where it belongs to nobody, nothing is printed but a line on standard error.
 record is read as a current one.
 
   --json  an object with the keys refusal and owner, which is null for nobody
+  --record, --text  how every file is taken; else its bytes tell (`release help`)
 
 Exit status: 0 an owner, 1 nobody, 2 a damaged record, 3 a usage or file error.
 ";
@@ -135,25 +149,47 @@ this the number, its word, the place, the type, the field, its kind and its name
   --json  an object with the keys refusal and broken, which is null where every
           pointer is right, and else has number, word, place, type, field, kind and
           name, which is null where there is none
+  --record, --text  how every file is taken; else its bytes tell (`release help`)
 
 Exit status: 0 accepted, 1 a pointer breaks the rule, 2 a damaged record, 3 a usage
 or file error.
 ";
 
 pub const DIFF: &str = "\
-usage: release diff CURRENT RELEASED [--json]
+usage: release diff CURRENT RELEASED [--all] [--json]
 
-Prints the layouts of both records side by side, type by type. A type is same, new,
-gone or changed. A field has its offset, size and description on each side and is
-marked new, gone, moved, resized or redescribed. Padding is marked too, although the
-check lets it change under a raised generation. A released field stands beside the
-first current field of its name, which is the one that the check compares it with.
+Prints what the two records differ in, over all that the check looks at: the releases,
+constants, aliases, enums with their values, bit fields with their members, slots,
+families, plugin keys and version entries, each as its line of the text form has it
+behind the name; the generation in each slot; and the layouts type by type. A field has
+its offset, size and type on each side. A released field stands beside the first
+current field of its name, which is the one that the check compares it with. Padding is
+marked too, although the check lets it change under a raised generation.
 
-  --json  an object with the keys refusal and types, a list of objects with name,
-          state and fields, a list of objects with name, marks, released and
-          current; each of the last two is null or has offset, size and description
+What a verdict of the check is about has the verdict's number and word behind it, and
+not only the first, which is the check's answer: each that the check would give if none
+came before it. Other changes are new, gone or changed, and fields also moved, resized
+or redescribed. `release explain NUMBER` says more of a verdict.
 
-Exit status: 0 shown, 2 a damaged record, 3 a usage or file error.
+Below each changed type its bytes follow: what stood in each, and what stands there now.
+n[1] is the byte 1 of the field n, counted from 0. Long types are folded.
+
+Where standard output is a terminal it has colours, unless NO_COLOR is set.
+
+  --all   what is the same too, and every byte
+  --json  an object with the keys refusal, types, declarations and generations, with
+          what is the same too. Of types: a list of objects with name, state, numbers
+          (of verdicts), fields, a list of objects with name, marks, numbers, released
+          and current, of which each is null or has offset, size and description; and
+          bytes, of a changed type a list of objects with from, to (not among them),
+          released and current, each null or an object with field and from. Of
+          declarations: a list of objects with command, in (the line that it stands
+          in, or null), name, state, numbers, released and current, its lines or null.
+          Of generations: a list of objects with slot, state, numbers, released and
+          current, each null or an object with structure, constant and number
+  --record, --text  how every file is taken; else its bytes tell (`release help`)
+
+Exit status: 0 shown, also for a verdict; 2 a damaged record, 3 a usage or file error.
 ";
 
 pub const REPORT: &str = "\
@@ -164,6 +200,8 @@ what to do about it; for every type that changed a map of its bytes, with what a
 reader built for the last release would take from the new ones; all differences, line
 by line of the text form; and where the two records are outside the premises of what
 is proved of chains.
+
+  --record, --text  how every file is taken; else its bytes tell (`release help`)
 
 Exit status: 0 written, also for a verdict; 2 a damaged record, 3 a usage or file
 error.
@@ -184,7 +222,11 @@ parts. All other commands stay as they are, and texts that none of them uses are
 dropped. The file is written beside the draft and then takes its place; where an edit
 is refused, the draft is not touched.
 
+A draft that is a text stays one: the lines of the type are put in front of `end`, or
+taken out, and all others stay as they are, comments too.
+
   --json  an object with the keys refusal (which has the keys of check) and changed
+  --record, --text  how every file is taken; else its bytes tell (`release help`)
 
 Exit status: 0 done, 2 a damaged record, or a draft that would be one, 3 a usage or
 file error, 55 (the draft has a type of that name) or 56 (it has none).
@@ -207,9 +249,13 @@ of its stream and its pool. `list` prints each name with the bytes of its draft,
 order of the rows. A file is written beside the old one and then takes its place; where
 a call is refused, no file is touched.
 
+The shelf holds records. A draft that is set as a text loses its comments; `back` writes
+a text where the file DRAFT is one, or with --text, and else a record.
+
   --json  an object with the keys refusal (which has the keys of check) and held,
           changed or drafts, a list of objects with name and bytes; a row without a
           name has null
+  --record, --text  how every file is taken; else its bytes tell (`release help`)
 
 Exit status: 0 done, 2 a damaged record, or a file that is no shelf, 3 a usage or file
 error, 57 (eight other names are held, or the name does not have 1 to 16 bytes) or 58
@@ -238,6 +284,7 @@ ONE that OTHER lacks is named, or else the first of OTHER, and what differs in i
           same_pool, same_bytes (every command is one of the other's), twice (the
           first name that is) and apart (null, or an object with at, what, operand,
           first and second)
+  --record, --text  how every file is taken; else its bytes tell (`release help`)
 
 Exit status: 0 the proof covers them, or they are equal; 1 it does not; 2 a damaged
 record; 3 a usage or file error.
@@ -265,6 +312,7 @@ released one, which may lack some texts.
 
   --json  an object with the keys refusal, premises (a list of objects with premise,
           words, of document 01, and what) and remarks (a list of texts)
+  --record, --text  how every file is taken; else its bytes tell (`release help`)
 
 Exit status: 0 nothing to say, 1 something is said, 2 a damaged record, 3 a usage or
 file error.
@@ -310,8 +358,8 @@ A text with blanks, quotes, #, = or \\ in it, or without any byte, is written in
 quotes, with \\\" and \\\\ for a quote and a backslash. # begins a comment.
 docs/TEXT-FORM.md describes the form whole.
 
-Exit status: 0 written, 2 the text is wrong (the line and what was expected there
-are on standard error, and no record is written), 3 a usage or file error.
+Exit status: 0 written, 2 the text is wrong (the line, the column and what was expected
+there are on standard error, and no record is written), 3 a usage or file error.
 ";
 
 pub const SHOW: &str = "\
@@ -319,6 +367,9 @@ usage: release show RECORD
 
 Prints the text form of a record, of which `release assemble` makes a record with
 the same answers. `release assemble --help` and docs/TEXT-FORM.md describe the form.
+Of a text it prints what its record says, without comments and in one layout.
+
+  --record, --text  how every file is taken; else its bytes tell (`release help`)
 
 Exit status: 0 shown, 2 a damaged record, 3 a usage or file error.
 ";
@@ -340,16 +391,17 @@ usage: release burn-in --seeds A..B [--outcome N] [--json]
 
 Makes the pair of each seed from A up to B, B not among them, with each of the six
 outcomes or with one, checks it, and stops at the first whose check gives another
-number. A line is printed for each thousand seeds, a line for the whole at the end,
-and a bar on standard error where that is a terminal.
+number. A line is printed for each thousand seeds, a line for the whole at the end.
+Where standard error is a terminal a bar there says how far it is. A burn-in ends when
+nobody reads its lines any more.
 
   --seeds A..B  the seeds; B is at most 2147483648
   --outcome N   one outcome: 0, 20, 34, 35, 36 or 43
   --json        only the summary: an object with the keys from, to, outcomes, pairs,
                 bytes and difference, which is null or has seed, outcome and number
 
-Exit status: 0 each pair has its outcome, 1 one has not, 3 another outcome or seed,
-a usage or file error.
+Exit status: 0 each pair has its outcome, 1 one has not, 3 another outcome or seed, a
+usage or file error, or standard output closed before the end.
 ";
 
 pub const HELP: &str = "\

@@ -19,15 +19,16 @@ mod list;
 mod load;
 mod output;
 mod owner;
+mod paint;
 mod pointers;
 mod premises;
 mod problem;
+mod progress;
 mod reordered;
 mod report;
-mod rows;
 mod shelf;
 mod show;
-mod table;
+mod source;
 
 use std::ffi::OsString;
 
@@ -42,7 +43,7 @@ pub const DAMAGED: u8 = 2;
 /// Wrong usage, or a file that cannot be read or written.
 pub const FAILED: u8 = 3;
 
-/// Why a command ends early: the exit status, and what standard error says.
+/// Why a command ends early: the exit status, and what standard error says, if anything.
 #[derive(Debug)]
 pub struct Stop {
     pub status: u8,
@@ -67,25 +68,33 @@ struct Entry {
     run: fn(&Args) -> Done,
 }
 
-const JSON: &[&str] = &["--json"];
+/// Those of a command that reads records.
+const JSON: &[&str] = &["--json", "--record", "--text"];
+const PLAIN: &[&str] = &["--record", "--text"];
 const BURN_IN: &[&str] = &["--json", "--seeds=", "--outcome="];
 const MANY: usize = usize::MAX;
 
 static ENTRIES: [Entry; 18] = [
     Entry { rule: rule("check", help::CHECK, 2, 2, JSON), run: check::run },
     Entry { rule: rule("chain", help::CHAIN, 2, MANY, JSON), run: chain::run },
-    Entry { rule: rule("list", help::LIST, 1, 1, &["--json", "--released"]), run: list::run },
+    Entry {
+        rule: rule("list", help::LIST, 1, 1, &["--json", "--released", "--record", "--text"]),
+        run: list::run,
+    },
     Entry { rule: rule("owner", help::OWNER, 2, 2, JSON), run: owner::run },
     Entry { rule: rule("pointers", help::POINTERS, 1, 1, JSON), run: pointers::run },
-    Entry { rule: rule("diff", help::DIFF, 2, 2, JSON), run: diff::run },
-    Entry { rule: rule("report", help::REPORT, 2, 2, &[]), run: report::run },
+    Entry {
+        rule: rule("diff", help::DIFF, 2, 2, &["--all", "--json", "--record", "--text"]),
+        run: diff::run,
+    },
+    Entry { rule: rule("report", help::REPORT, 2, 2, PLAIN), run: report::run },
     Entry { rule: rule("draft", help::DRAFT, 3, 4, JSON), run: draft::run },
     Entry { rule: rule("shelf", help::SHELF, 2, 5, JSON), run: shelf::run },
     Entry { rule: rule("reordered", help::REORDERED, 2, 2, JSON), run: reordered::run },
     Entry { rule: rule("lint", help::LINT, 1, 1, JSON), run: lint::run },
-    Entry { rule: rule("explain", help::EXPLAIN, 0, 1, JSON), run: explain::run },
+    Entry { rule: rule("explain", help::EXPLAIN, 0, 1, &["--json"]), run: explain::run },
     Entry { rule: rule("assemble", help::ASSEMBLE, 1, 1, &[]), run: assemble::run },
-    Entry { rule: rule("show", help::SHOW, 1, 1, &[]), run: show::run },
+    Entry { rule: rule("show", help::SHOW, 1, 1, PLAIN), run: show::run },
     Entry { rule: rule("load", help::LOAD, 2, 2, &[]), run: load::run },
     Entry { rule: rule("burn-in", help::BURN_IN, 0, 0, BURN_IN), run: burn_in::run },
     Entry { rule: rule("help", help::HELP, 0, 1, &[]), run: about::help },

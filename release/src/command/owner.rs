@@ -15,7 +15,7 @@ pub fn run(args: &Args) -> Done {
     let name = args.operands[1].as_encoded_bytes();
     let owner = match owner(record, name) {
         Owner::Refused { number, place } => {
-            let told = Told::of_refusal(number, Some(Side::Current), place, record);
+            let told = Told::of_given(number, Some(Side::Current), place, &given);
             return Err(problem::refused(&told, &given, args.json.then_some("owner")));
         }
         Owner::Named { start, len } => record.pool.get(start..start.saturating_add(len)),

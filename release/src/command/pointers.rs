@@ -7,6 +7,7 @@ use menqachu::text::written;
 use menqachu::Side;
 
 use super::args::Args;
+use super::files::Given;
 use super::json::Json;
 use super::output::print_line;
 use super::{alike, files, problem, Done, DONE, STOPPED};
@@ -23,21 +24,22 @@ pub fn run(args: &Args) -> Done {
         let value = vec![("refusal", Json::Null), ("broken", Json::or_null(broken.as_ref().map(json)))];
         print_line(&Json::Object(value).to_string())?;
     } else {
-        print_line(&broken.as_ref().map_or("accepted".to_string(), line))?;
+        print_line(&broken.as_ref().map_or("accepted".to_string(), |broken| line(broken, &given)))?;
         let name = broken.as_ref().and_then(|broken| broken.name.as_deref());
         alike::tell(&[given.record()], b"", name.unwrap_or_default());
     }
     Ok(if broken.is_some() { STOPPED } else { DONE })
 }
 
-fn line(broken: &Broken) -> String {
+fn line(broken: &Broken, given: &Given) -> String {
     let (number, kind) = (broken.number, shown(&broken.kind));
     let field = format!("{}.{}", shown(&broken.type_name), shown(&broken.field));
     let named = match &broken.name {
         None => "has no name".to_string(),
         Some(name) => format!("names {}, which is {}", written(name), found(broken)),
     };
-    let place = format!("place {} of the stream", broken.place);
+    let line = given.line_at(broken.place).map_or(String::new(), |line| format!("line {line}, "));
+    let place = format!("{line}place {} of the stream", broken.place);
     format!("{number} {}: {place}, {field}: {kind} {named}", word(number).unwrap_or_default())
 }
 

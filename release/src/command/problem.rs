@@ -14,7 +14,7 @@ pub fn stop(problem: Problem, given: &Given, side: Option<Side>, json: Option<&'
     let file = given.shown();
     match problem {
         Problem::Refused(answer) => {
-            let told = Told::of_refusal(answer.number, side, answer.place, given.record());
+            let told = Told::of_given(answer.number, side, answer.place, given);
             refused(&told, given, json)
         }
         Problem::Undecoded { place } => Stop::failed(format!(
@@ -45,17 +45,21 @@ pub fn print_refusal(told: &Told, json: Option<&'static str>) -> Result<(), Stop
 
 #[cfg(test)]
 mod tests {
+    use std::ffi::OsStr;
+
+    use menqachu::record::parts::Parts;
+
     use super::*;
-    use crate::command::{files, FAILED};
+    use crate::command::FAILED;
 
     /// A list that does not fit is said to, with the line, and nothing is printed.
     #[test]
     fn what_does_not_fit() {
-        let given = files::record(std::ffi::OsStr::new("/dev/null")).expect("the device can be read");
+        let given = Given::within(OsStr::new("plate.rec"), Parts::default());
         let stop = |problem| stop(problem, &given, Some(Side::Current), None);
         let unfit = stop(Problem::Unfit { line: 3 });
         assert_eq!(unfit.status, FAILED);
-        assert!(unfit.message.starts_with("/dev/null: line 3 of its list does not fit the names"));
+        assert!(unfit.message.starts_with("plate.rec: line 3 of its list does not fit the names"));
         let undecoded = stop(Problem::Undecoded { place: 5 });
         assert_eq!(undecoded.status, FAILED);
         assert!(undecoded.message.contains("its command at place 5 is not understood"));

@@ -4,10 +4,11 @@ use std::ffi::OsStr;
 
 use menqachu::record::parts::{Parts, POOL_LIMIT, STREAM_LIMIT};
 use menqachu::record::shelf::Shelved;
+use menqachu::text::show;
 use menqachu::{shelf_back, Answer, ShelfAnswer, Side};
 
 use super::answer::Told;
-use super::args::Args;
+use super::args::{Args, Operand};
 use super::files::{self, shown, shown_file, Given};
 use super::json::Json;
 use super::output::print_line;
@@ -20,8 +21,7 @@ const NOT_HELD: u32 = 58;
 const WHOLE: usize = 8 + STREAM_LIMIT + POOL_LIMIT;
 
 pub fn run(args: &Args) -> Done {
-    let words: Vec<&OsStr> = args.operands.iter().map(|word| word.as_os_str()).collect();
-    match (words[0].to_str(), &words[1..]) {
+    match (args.operands[0].to_str(), &args.operands[1..]) {
         (Some("set"), [shelf, name, draft]) => set(args, shelf, name, draft),
         (Some("back"), [shelf, name, draft, released]) => back(args, shelf, name, draft, released),
         (Some("list"), [shelf]) => list(args, shelf),
@@ -90,7 +90,7 @@ fn missing(file: &OsStr) -> Result<Shelved, Stop> {
     Err(Stop::failed(format!("there is no shelf {}; `release shelf set` makes one", shown_file(file))))
 }
 
-fn set(args: &Args, file: &OsStr, name: &OsStr, draft: &OsStr) -> Done {
+fn set(args: &Args, file: &OsStr, name: &OsStr, draft: &Operand) -> Done {
     let mut shelf = File::open(args, file, "held", || Ok(Shelved::empty()))?;
     let draft = files::record(draft)?;
     let ShelfAnswer { answer, .. } = shelf.shelved.set(name.as_encoded_bytes(), &draft.bytes());
@@ -105,7 +105,7 @@ fn set(args: &Args, file: &OsStr, name: &OsStr, draft: &OsStr) -> Done {
         }
         NOT_HELD => return Err(shelf.unsound()),
         number => {
-            let told = Told::of_refusal(number, Some(Side::Current), answer.place, draft.record());
+            let told = Told::of_given(number, Some(Side::Current), answer.place, &draft);
             return Err(problem::refused(&told, &draft, shelf.json_key()));
         }
     }
@@ -114,8 +114,8 @@ fn set(args: &Args, file: &OsStr, name: &OsStr, draft: &OsStr) -> Done {
     shelf.say(format!("held {held}"), Json::Number(held as u64))
 }
 
-fn back(args: &Args, file: &OsStr, name: &OsStr, draft: &OsStr, released: &OsStr) -> Done {
-    if draft == "-" {
+fn back(args: &Args, file: &OsStr, name: &OsStr, draft: &Operand, released: &Operand) -> Done {
+    if &**draft == "-" {
         return Err(Stop::failed("shelf: the draft is written to a file; name it"));
     }
     let shelf = File::open(args, file, "changed", || missing(file))?;
@@ -129,8 +129,18 @@ fn back(args: &Args, file: &OsStr, name: &OsStr, draft: &OsStr, released: &OsStr
         return Err(not_back(&shelf, &answer, name, &released));
     }
     let record = Parts::read(&mut buffer.as_slice()).expect("a slice can be read");
-    files::replace(draft, &record.to_bytes())?;
+    files::replace(draft, &written(draft, record)?)?;
     shelf.say(format!("changed {changed}"), Json::Number(changed as u64))
+}
+
+/// A draft as it is written to a file: as its text form where the file is a text, or where the caller says so.
+fn written(draft: &Operand, record: Parts) -> Result<Vec<u8>, Stop> {
+    if !files::written_as_text(draft) {
+        return Ok(record.to_bytes());
+    }
+    let given = Given::within(draft, record);
+    let text = show(given.record()).map_err(|problem| problem::stop(problem, &given, None, None))?;
+    Ok(text.into_bytes())
 }
 
 /// Why a draft does not come back.
@@ -144,7 +154,7 @@ fn not_back(shelf: &File, answer: &Answer, name: &OsStr, released: &Given) -> St
     let bytes = shelf.shelved.bytes(&row).unwrap_or_default();
     let draft = Given::within(shelf.file, Parts::read(&mut &*bytes).expect("a slice can be read"));
     let (side, given) = if side == 0 { (Side::Current, &draft) } else { (Side::Released, released) };
-    let told = Told::of_refusal(number, Some(side), place, given.record());
+    let told = Told::of_given(number, Some(side), place, given);
     problem::refused(&told, given, shelf.json_key())
 }
 

@@ -2,24 +2,22 @@
 //! nothing declares.
 
 use super::record::fields;
-use crate::record::commands::{by_word, Said, BIT_FIELD, ENUM, FAMILY};
+use crate::record::commands::{Said, ALIAS, BIT_FIELD, ENUM, FAMILY};
 use crate::text::written;
 
 /// The scalar words that have a size.
 const SCALARS: [&[u8]; 4] = [b"u8", b"char", b"u16", b"u32"];
-const ALIAS: &[u8] = b"alias";
 
 /// Each remark, in the order of the record.
 pub fn remarks(commands: &[Said]) -> Vec<String> {
-    let alias = by_word(ALIAS).map_or(0, |command| command.byte);
     let declared = |byte: u8| -> Vec<&[u8]> {
         commands.iter().filter(|said| said.command.byte == byte).filter_map(|said| said.text(0)).collect()
     };
-    let tables = Tables { enums: declared(ENUM), aliases: declared(alias), bit_fields: declared(BIT_FIELD) };
+    let tables = Tables { enums: declared(ENUM), aliases: declared(ALIAS), bit_fields: declared(BIT_FIELD) };
     let mut found = Vec::new();
     for said in commands {
         let name = written(said.text(0).unwrap_or_default());
-        if said.command.byte == alias {
+        if said.command.byte == ALIAS {
             found.extend(scalar(&format!("alias {name}"), said.text(1)));
         } else if said.command.byte == FAMILY {
             found.extend(scalar(&format!("the length of family {name}"), said.text(4)));

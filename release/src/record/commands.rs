@@ -3,6 +3,7 @@
 
 pub const HEAD: u8 = 0x01;
 pub const CONSTANT: u8 = 0x02;
+pub const ALIAS: u8 = 0x03;
 pub const ENUM: u8 = 0x04;
 pub const VALUE: u8 = 0x05;
 pub const BIT_FIELD: u8 = 0x06;
@@ -51,14 +52,14 @@ impl Form {
 }
 
 /// An operand: its name, which is its keyword in the text form where it has one, and its form.
-#[derive(Debug)]
+#[derive(Debug, PartialEq, Eq)]
 pub struct Operand {
     pub name: &'static str,
     pub form: Form,
 }
 
 /// A command: its byte, its name in document 01, its word in the text form, and its operands.
-#[derive(Debug)]
+#[derive(Debug, PartialEq, Eq)]
 pub struct Command {
     pub byte: u8,
     pub name: &'static str,
@@ -147,7 +148,7 @@ impl Value {
 }
 
 /// A command with the values of its operands.
-#[derive(Clone, Debug)]
+#[derive(Clone, Debug, PartialEq, Eq)]
 pub struct Said {
     pub command: &'static Command,
     pub values: Vec<Value>,

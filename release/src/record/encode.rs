@@ -17,13 +17,18 @@ pub struct Encoder {
     parts: Parts,
     places: HashMap<Vec<u8>, u16>,
     lent: usize,
+    /// The places of the lent bytes, by the bytes that stand there as far as a text goes.
+    sorted: Option<Vec<u16>>,
 }
+
+const TEXT_LIMIT: usize = 255;
 
 impl Encoder {
     /// Puts bytes at the front of the pool, where texts are then looked for before they are added.
     pub fn lend(&mut self, bytes: &[u8]) -> Result<(), Full> {
         self.append(bytes)?;
         self.lent = self.parts.pool.len();
+        self.sorted = None;
         Ok(())
     }
 
@@ -73,14 +78,31 @@ impl Encoder {
         if let Some(&place) = self.places.get(text) {
             return Ok(place);
         }
-        let lent = self.parts.pool[..self.lent].windows(text.len()).position(|window| window == text);
-        let place = match lent {
+        let place = match self.lent_place(text) {
             Some(place) => place,
             None => self.append(text)?,
         };
         // A place is below the pool's limit and so fits 16 bits.
         self.places.insert(text.to_vec(), place as u16);
         Ok(place as u16)
+    }
+
+    /// The first place at which a text stands in the lent bytes.
+    fn lent_place(&mut self, text: &[u8]) -> Option<usize> {
+        let lent = &self.parts.pool[..self.lent];
+        let from = |place: &u16| {
+            let rest = &lent[usize::from(*place)..];
+            &rest[..rest.len().min(TEXT_LIMIT)]
+        };
+        let sorted = self.sorted.get_or_insert_with(|| {
+            // A place is below the pool's limit and so fits 16 bits.
+            let mut places: Vec<u16> = (0..lent.len() as u16).collect();
+            places.sort_unstable_by_key(|place| from(place));
+            places
+        });
+        let first = sorted.partition_point(|place| from(place) < text);
+        let here = sorted[first..].iter().take_while(|place| from(place).starts_with(text));
+        here.min().map(|place| usize::from(*place))
     }
 
     fn append(&mut self, bytes: &[u8]) -> Result<usize, Full> {

@@ -5,6 +5,11 @@ pub fn word(number: u32) -> Option<&'static str> {
     WORDS.iter().find(|(of, _)| *of == number).map(|(_, word)| *word)
 }
 
+/// A number with its word: `35 moved`.
+pub fn named(number: u32) -> String {
+    format!("{number} {}", word(number).unwrap_or_default())
+}
+
 /// The number of a word.
 pub fn number(word: &str) -> Option<u32> {
     WORDS.iter().find(|(_, of)| *of == word).map(|(number, _)| *number)

@@ -20,6 +20,10 @@ fn spelling(text: &str) -> Option<(&'static str, &'static str)> {
 
 /// The text with one spelling for all that look the same, and the spellings that it has.
 fn folded(text: &str) -> (String, Vec<&'static str>) {
+    // Every spelling has a letter beyond ASCII.
+    if text.is_ascii() {
+        return (text.to_string(), Vec::new());
+    }
     let (mut folded, mut found) = (String::new(), Vec::new());
     let mut rest = text;
     while let Some(letter) = rest.chars().next() {

@@ -1,7 +1,7 @@
 //! Characters: which of them a reader of a screen or a page does not see, and how they are written then.
 
 /// Characters that take no room or turn the direction of what stands beside them, and others that no screen shows as what they are:
-/// first and last of a stretch.
+/// first and last of a stretch, in their order.
 const UNSEEN: [(char, char); 18] = [
     ('\u{ad}', '\u{ad}'),
     ('\u{34f}', '\u{34f}'),
@@ -26,11 +26,15 @@ const UNSEEN: [(char, char); 18] = [
 /// Whether a character is written by its number, since it could not be seen or told from a blank: control characters, blanks other
 /// than the space, and those above.
 pub fn unseen(letter: char) -> bool {
-    let among = |(first, last): &(char, char)| (*first..=*last).contains(&letter);
+    // Most characters of most texts, which are told at once.
+    if matches!(letter, ' '..='~' | '\u{a1}'..='\u{ac}' | '\u{ae}'..='\u{34e}' | '\u{3165}'..='\u{fdcf}') {
+        return false;
+    }
+    let before = UNSEEN.partition_point(|(_, last)| *last < letter);
     letter.is_control()
-        || (letter.is_whitespace() && letter != ' ')
+        || letter.is_whitespace()
         || u32::from(letter) & 0xFFFE == 0xFFFE
-        || UNSEEN.iter().any(among)
+        || UNSEEN.get(before).is_some_and(|(first, _)| *first <= letter)
 }
 
 /// Whether a pool may hold the character.
@@ -79,6 +83,17 @@ mod tests {
         }
         for letter in " a~\u{a1}\u{b5}\u{c5}\u{212b}\u{30a}\u{3bc}\u{7126}\u{1f52c}\u{e000}".chars() {
             assert!(!unseen(letter), "{:X}", u32::from(letter));
+        }
+    }
+
+    /// Every character is told by the table and the rules alone.
+    #[test]
+    fn every_character() {
+        for letter in '\0'..=char::MAX {
+            let rules = letter.is_control() || (letter.is_whitespace() && letter != ' ');
+            let among = UNSEEN.iter().any(|(first, last)| (*first..=*last).contains(&letter));
+            let rules = rules || u32::from(letter) & 0xFFFE == 0xFFFE || among;
+            assert_eq!(unseen(letter), rules, "{:X}", u32::from(letter));
         }
     }
 

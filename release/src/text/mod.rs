@@ -2,15 +2,18 @@
 //! stretches of the pool.
 
 pub mod alike;
+mod edit;
+mod fault;
 pub mod letters;
 mod place;
 mod read;
+pub mod sort;
 mod tokens;
 mod words;
 mod write;
 
-pub use read::{assemble, Fault};
+pub use edit::{added, removed};
+pub use fault::Fault;
+pub use read::{assemble, read};
 pub use tokens::{quoted, written};
-pub use write::{constant_value, line, show, texts};
-
-impl std::error::Error for Fault {}
+pub use write::{constant_value, line, operands, show, texts};

@@ -1,22 +1,24 @@
 //! The words behind a command: its operands.
 
-use super::tokens::Token;
+use super::tokens::{Token, Word, Wrong};
 use crate::record::commands::{Command, Form, Operand, Said, Value, CONSTANT, HEAD};
 
 const TEXT_LIMIT: usize = 255;
 
-/// The words of a line that are still to be read.
+/// The words of a line that are still to be read, and where the last of them ends.
 pub struct Words<'a> {
     rest: &'a [Token],
+    end: usize,
 }
 
 impl<'a> Words<'a> {
-    pub fn new(rest: &'a [Token]) -> Words<'a> {
-        Words { rest }
+    /// The words behind the first one of a line.
+    pub fn after(first: &Token, rest: &'a [Token]) -> Words<'a> {
+        Words { rest, end: rest.last().unwrap_or(first).end }
     }
 
     /// The operands of a command: the required ones in their order, then the others by keyword.
-    pub fn command(&mut self, command: &'static Command) -> Result<Said, String> {
+    pub fn command(&mut self, command: &'static Command) -> Result<Said, Wrong> {
         let mut said = Said::unsaid(command);
         for (index, operand) in command.operands.iter().enumerate() {
             match (command.byte, index) {
@@ -35,7 +37,7 @@ impl<'a> Words<'a> {
     }
 
     /// The release of a head, unless the line is at its end or goes on with the keyword.
-    fn release(&mut self) -> Result<Option<Vec<u8>>, String> {
+    fn release(&mut self) -> Result<Option<Vec<u8>>, Wrong> {
         match self.rest.first() {
             None => Ok(None),
             Some(token) if is_word(token, b"unreleased") => Ok(None),
@@ -44,7 +46,7 @@ impl<'a> Words<'a> {
     }
 
     /// A constant's integer, or `text` and its text.
-    fn constant_value(&mut self, said: &mut Said) -> Result<(), String> {
+    fn constant_value(&mut self, said: &mut Said) -> Result<(), Wrong> {
         if self.rest.first().is_some_and(|token| is_word(token, b"text")) {
             self.rest = &self.rest[1..];
             self.skip_equals();
@@ -57,7 +59,7 @@ impl<'a> Words<'a> {
     }
 
     /// Keywords up to the end of the line, each at most once.
-    fn keywords(&mut self, said: &mut Said) -> Result<(), String> {
+    fn keywords(&mut self, said: &mut Said) -> Result<(), Wrong> {
         let all = said.command.operands.iter().enumerate();
         let mut left: Vec<(usize, &Operand)> = all.filter(|(i, _)| said.command.has_keyword(*i)).collect();
         while let Some((token, rest)) = self.rest.split_first() {
@@ -72,7 +74,7 @@ impl<'a> Words<'a> {
         Ok(())
     }
 
-    fn keyword_value(&mut self, operand: &Operand) -> Result<Value, String> {
+    fn keyword_value(&mut self, operand: &Operand) -> Result<Value, Wrong> {
         if operand.form == Form::Flag {
             return Ok(Value::Flag(true));
         }
@@ -80,7 +82,7 @@ impl<'a> Words<'a> {
         self.value(operand.form, &format!("the value of {}", operand.name))
     }
 
-    fn value(&mut self, form: Form, what: &str) -> Result<Value, String> {
+    fn value(&mut self, form: Form, what: &str) -> Result<Value, Wrong> {
         Ok(match form {
             Form::Text | Form::Optional => Value::Text(Some(self.text(what)?)),
             Form::Flag => Value::Flag(true),
@@ -92,50 +94,53 @@ impl<'a> Words<'a> {
         })
     }
 
-    fn word(&mut self, what: &str) -> Result<u32, String> {
+    fn word(&mut self, what: &str) -> Result<u32, Wrong> {
         self.number(what, "from 0 to 4294967295")
     }
 
-    fn number<N: std::str::FromStr>(&mut self, what: &str, range: &str) -> Result<N, String> {
+    fn number<N: std::str::FromStr>(&mut self, what: &str, range: &str) -> Result<N, Wrong> {
         let expected = format!("{what}, a whole number {range}");
         let token = self.next(&expected)?;
-        let digits = match token {
-            Token::Bare(word) if !word.starts_with(b"+") => std::str::from_utf8(word).ok(),
+        let digits = match &token.word {
+            Word::Bare(word) if !word.starts_with(b"+") => std::str::from_utf8(word).ok(),
             _ => None,
         };
         let number = digits.and_then(|digits| digits.parse().ok());
-        number.ok_or_else(|| format!("expected {expected}, found {token}"))
+        number.ok_or_else(|| Wrong::new(token.at, format!("expected {expected}, found {}", token.word)))
     }
 
-    fn text(&mut self, what: &str) -> Result<Vec<u8>, String> {
+    fn text(&mut self, what: &str) -> Result<Vec<u8>, Wrong> {
+        let at = self.rest.first().map_or(self.end, |token| token.at);
         let text = self.any_text(what)?;
         if text.len() > TEXT_LIMIT {
-            return Err(format!("expected {what} in at most 255 bytes, found {}", text.len()));
+            let found = text.len();
+            return Err(Wrong::new(at, format!("expected {what} in at most 255 bytes, found {found}")));
         }
         Ok(text.to_vec())
     }
 
-    pub fn any_text(&mut self, what: &str) -> Result<&'a [u8], String> {
-        match self.next(what)? {
-            Token::Bare(text) | Token::Quoted(text) => Ok(text),
-            Token::Equals => Err(format!("expected {what}, found =")),
+    pub fn any_text(&mut self, what: &str) -> Result<&'a [u8], Wrong> {
+        let token = self.next(what)?;
+        match &token.word {
+            Word::Bare(text) | Word::Quoted(text) => Ok(text),
+            Word::Equals => Err(Wrong::new(token.at, format!("expected {what}, found ="))),
         }
     }
 
-    fn next(&mut self, what: &str) -> Result<&'a Token, String> {
-        let (token, rest) =
-            self.rest.split_first().ok_or_else(|| format!("expected {what}, found the end of the line"))?;
+    fn next(&mut self, what: &str) -> Result<&'a Token, Wrong> {
+        let ended = || Wrong::new(self.end, format!("expected {what}, found the end of the line"));
+        let (token, rest) = self.rest.split_first().ok_or_else(ended)?;
         self.rest = rest;
         Ok(token)
     }
 
     fn skip_equals(&mut self) {
-        if let [Token::Equals, rest @ ..] = self.rest {
+        if let [Token { word: Word::Equals, .. }, rest @ ..] = self.rest {
             self.rest = rest;
         }
     }
 
-    pub fn finish(&self) -> Result<(), String> {
+    pub fn finish(&self) -> Result<(), Wrong> {
         match self.rest.first() {
             Some(token) => Err(unexpected(token, &[])),
             None => Ok(()),
@@ -144,14 +149,14 @@ impl<'a> Words<'a> {
 }
 
 fn is_word(token: &Token, word: &[u8]) -> bool {
-    matches!(token, Token::Bare(bare) if bare == word)
+    matches!(&token.word, Word::Bare(bare) if bare == word)
 }
 
 /// A word that is none of the keywords still to come.
-fn unexpected(token: &Token, left: &[(usize, &Operand)]) -> String {
+fn unexpected(token: &Token, left: &[(usize, &Operand)]) -> Wrong {
     let mut expected: Vec<&str> = left.iter().map(|(_, operand)| operand.name).collect();
     expected.push("the end of the line");
-    format!("expected {}, found {token}", any_of(&expected))
+    Wrong::new(token.at, format!("expected {}, found {}", any_of(&expected), token.word))
 }
 
 /// `a, b or c`

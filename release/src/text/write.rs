@@ -83,16 +83,21 @@ fn pool_lines(commands: &[Said], pool: &[u8]) -> String {
 
 /// A command as its line has it, without blanks in front.
 pub fn line(said: &Said) -> String {
-    let mut line = said.command.word.to_string();
-    for (index, operand) in said.command.operands.iter().enumerate() {
+    format!("{}{}", said.command.word, operands(said, 0))
+}
+
+/// The operands of a command from this one on, as its line has them: each with a blank before it.
+pub fn operands(said: &Said, from: usize) -> String {
+    let mut text = String::new();
+    for (index, operand) in said.command.operands.iter().enumerate().skip(from) {
         match (said.command.byte, index) {
-            (HEAD, 0) => line.push_str(&release(said)),
-            (CONSTANT, 1) => line.push_str(&constant_value(said)),
+            (HEAD, 0) => text.push_str(&release(said)),
+            (CONSTANT, 1) => text.push_str(&constant_value(said)),
             (CONSTANT, 2..=3) => {}
-            _ => line.push_str(&operand_text(operand, &said.values[index])),
+            _ => text.push_str(&operand_text(operand, &said.values[index])),
         }
     }
-    line
+    text
 }
 
 /// A release that reads as the keyword is quoted.

@@ -2,6 +2,7 @@
 // Each test file is a program of its own and uses a part of this.
 #![allow(dead_code)]
 
+pub mod terminal;
 pub mod vectors;
 
 use std::ffi::OsStr;
@@ -52,8 +53,17 @@ pub fn run<S: AsRef<OsStr>>(args: &[S]) -> Ran {
 
 /// Runs the command with these bytes on its standard input.
 pub fn run_on<S: AsRef<OsStr>>(args: &[S], input: &[u8]) -> Ran {
-    let mut command = command();
-    let piped = command.args(args).stdin(Stdio::piped()).stdout(Stdio::piped()).stderr(Stdio::piped());
+    fed(command().args(args), input)
+}
+
+/// Runs the command in a folder, with the words of a line.
+pub fn run_in(folder: &Path, line: &str) -> Ran {
+    fed(command().current_dir(folder).args(line.split(' ')), b"")
+}
+
+/// Runs a command with these bytes on its standard input.
+fn fed(command: &mut Command, input: &[u8]) -> Ran {
+    let piped = command.stdin(Stdio::piped()).stdout(Stdio::piped()).stderr(Stdio::piped());
     let mut child = piped.spawn().expect("the command starts");
     let mut pipe = child.stdin.take().expect("a pipe");
     let input = input.to_vec();

@@ -1,34 +1,33 @@
 //! The byte map of a type: the fields of the last release beside the fields of now, and what a reader that shipped takes
 //! from the new bytes.
 
-use std::collections::{BTreeMap, BTreeSet};
+use std::collections::BTreeMap;
 
-use menqachu::record::layout::{Field, Layouts};
+use menqachu::diff::bytes::{counted, edges, runs, Run};
+use menqachu::diff::rows::{Row, Type};
+use menqachu::diff::State;
+use menqachu::record::layout::Field;
 
 use super::html::{name, section};
-use crate::command::rows::{Pair, Row};
+use crate::command::output::counted as number_of;
 
 /// The maps of all types that the last release describes and that are changed or gone.
-pub fn maps(pairs: &[Pair], was: &Layouts, is: &Layouts) -> String {
-    let touched: Vec<&Pair> = pairs.iter().filter(|pair| matches!(pair.state, "changed" | "gone")).collect();
+pub fn maps(types: &[Type]) -> String {
+    let touched: Vec<&Type> =
+        types.iter().filter(|one| matches!(one.state, State::Changed | State::Gone)).collect();
     if touched.is_empty() {
         return section("Bytes", "<p>No type of the last release has changed.</p>\n");
     }
-    let maps: String = touched.iter().map(|pair| map(pair, fields(was, pair), fields(is, pair))).collect();
+    let maps: String = touched.into_iter().map(map).collect();
     let legend = "<p class=\"legend\">Each block is a field, from top to bottom byte by byte. The last column is what a \
                   reader built for the last release takes for a field when it is given the new bytes.</p>\n";
     section("Bytes", &format!("{legend}{maps}"))
 }
 
-/// The fields of a type, none where it is not described.
-fn fields<'a>(layouts: &'a Layouts, pair: &Pair) -> &'a [Field] {
-    layouts.get(pair.name).map_or(&[][..], Vec::as_slice)
-}
-
 /// What changed in a field of either record.
-fn marks(pair: &Pair, field: &Field) -> Vec<&'static str> {
+fn marks(one: &Type, field: &Field) -> Vec<&'static str> {
     let is = |one: Option<&Field>| one.is_some_and(|one| std::ptr::eq(one, field));
-    pair.rows.iter().find(|row| is(row.released) || is(row.current)).map_or(Vec::new(), Row::marks)
+    one.rows.iter().find(|row| is(row.released) || is(row.current)).map_or(Vec::new(), Row::marks)
 }
 
 /// A row of the grid: a stretch of bytes, or the place of a field without bytes.
@@ -41,8 +40,7 @@ struct Scale {
 
 impl Scale {
     fn of(was: &[Field], is: &[Field]) -> Scale {
-        let ends = was.iter().chain(is).flat_map(|field| [field.offset, field.offset + field.size]);
-        let edges: Vec<u64> = ends.collect::<BTreeSet<u64>>().into_iter().collect();
+        let edges = edges(was, is);
         let mut scale = Scale { rows: Vec::new(), first: BTreeMap::new(), bytes: BTreeMap::new() };
         for (index, &edge) in edges.iter().enumerate() {
             scale.first.insert(edge, scale.rows.len());
@@ -79,30 +77,30 @@ impl Scale {
     }
 }
 
-fn map(pair: &Pair, was: &[Field], is: &[Field]) -> String {
-    let scale = Scale::of(was, is);
+fn map(one: &Type) -> String {
+    let (was, is) = (one.released, one.current);
+    let (scale, runs) = (Scale::of(was, is), runs(was, is));
     let mut blocks = String::new();
     for (row, bytes) in scale.rows.iter().enumerate() {
         if let Some((from, to)) = bytes {
-            let label = if to - from == 1 { from.to_string() } else { format!("{from}-{}", to - 1) };
-            blocks.push_str(&block("byte", 1, (row, row + 1), &label));
+            blocks.push_str(&block("byte", 1, (row, row + 1), &counted(*from, *to)));
         }
     }
     for (field, span) in spans(&scale, was) {
-        let marks = marks(pair, field);
+        let marks = marks(one, field);
         blocks.push_str(&block(class(field, &marks), 2, span, &told(field, &[])));
         if !field.padding {
-            let (good, text) = taken(field, is);
+            let (good, text) = taken(field, is, &runs);
             blocks.push_str(&block(if good { "right" } else { "wrong" }, 4, span, &text));
         }
     }
     for (field, span) in spans(&scale, is) {
-        let marks = marks(pair, field);
+        let marks = marks(one, field);
         blocks.push_str(&block(class(field, &marks), 3, span, &told(field, &marks)));
     }
     let heads = "<b class=\"head\">byte</b><b class=\"head\">last release</b><b class=\"head\">now</b>\
                  <b class=\"head\">an old reader takes</b>\n";
-    let (title, state, heights) = (name(pair.name), pair.state, scale.heights());
+    let (title, state, heights) = (name(one.name), one.told(), scale.heights());
     format!(
         "<h3>{title} <small>{state}</small></h3>\n<div class=\"map\" style=\"grid-template-rows:auto {heights}\">\n\
          {heads}{blocks}</div>\n"
@@ -146,7 +144,7 @@ fn told(field: &Field, marks: &[&str]) -> String {
 }
 
 /// What a reader of the last release takes for a field, and whether it is that field.
-fn taken(old: &Field, is: &[Field]) -> (bool, String) {
+fn taken(old: &Field, is: &[Field], runs: &[Run]) -> (bool, String) {
     let same = |new: &&Field| {
         (&new.name, new.offset, new.size, &new.description)
             == (&old.name, old.offset, old.size, &old.description)
@@ -154,24 +152,20 @@ fn taken(old: &Field, is: &[Field]) -> (bool, String) {
     if is.iter().find(same).is_some_and(|new| !new.padding) {
         return (true, "as before".to_string());
     }
-    let (from, to) = (old.offset, old.offset + old.size);
-    let mut parts: Vec<String> = Vec::new();
-    for new in is {
-        let (start, end) = (new.offset, new.offset + new.size);
-        let (first, last) = (from.max(start), to.min(end));
-        if first < last {
-            let which = match (first - start, last - start) {
-                (0, length) if length == new.size => "all".to_string(),
-                (first, last) if last - first == 1 => format!("byte {first}"),
-                (first, last) => format!("bytes {first} to {}", last - 1),
-            };
-            parts.push(format!("{which} of {} <small>{}</small>", name(&new.name), name(&new.description)));
-        }
-    }
-    let end = is.iter().map(|new| new.offset + new.size).max().unwrap_or(0);
-    if to > end.max(from) {
-        let lost = to - end.max(from);
-        parts.push(format!("{lost} byte{} behind the end", if lost == 1 { "" } else { "s" }));
-    }
+    let inside = |run: &&Run| run.released.is_some_and(|part| std::ptr::eq(part.field, old));
+    let parts: Vec<String> = runs.iter().filter(inside).map(told_part).collect();
     (false, if parts.is_empty() { "no bytes".to_string() } else { parts.join(", ") })
+}
+
+/// What stands in a run of bytes now.
+fn told_part(run: &Run) -> String {
+    let Some(part) = run.current else {
+        return format!("{} behind the end", number_of(run.to - run.from, "byte"));
+    };
+    let which = match (part.from, part.to) {
+        _ if part.is_whole() => "all".to_string(),
+        (from, to) if to - from == 1 => format!("byte {from}"),
+        (from, to) => format!("bytes {from} to {}", to - 1),
+    };
+    format!("{which} of {} <small>{}</small>", name(&part.field.name), name(&part.field.description))
 }

@@ -7,22 +7,20 @@ mod style;
 
 use std::io::{stdout, IsTerminal};
 
+use menqachu::diff::rows::Type;
+use menqachu::diff::{differences, State};
 use menqachu::explain::page;
-use menqachu::record::commands::Said;
-use menqachu::record::decode::commands;
-use menqachu::record::layout::{layouts, Layouts};
 use menqachu::record::numbers::word;
-use menqachu::record::Problem;
 use menqachu::Side;
 
 use super::answer::Told;
 use super::args::Args;
 use super::check::told;
+use super::diff::read;
 use super::files::Given;
 use super::output::print;
 use super::premises::Notes;
-use super::rows::{pairs, Pair};
-use super::{files, problem, Done, Stop, DONE};
+use super::{files, Done, Stop, DONE};
 use html::{escaped, in_code, list, plain, section};
 
 pub fn run(args: &Args) -> Done {
@@ -37,27 +35,18 @@ pub fn run(args: &Args) -> Done {
 
 /// The page of two records that can be read.
 fn whole(current: &Given, released: &Given) -> Result<String, Stop> {
-    let (is, now) = read(current, Side::Current)?;
-    let (was, then) = read(released, Side::Released)?;
+    let (is, was) = (read(current, Side::Current, None)?, read(released, Side::Released, None)?);
     let told = told(current.record(), released.record());
-    let pairs = pairs(&was, &is);
+    let found = differences(&is, &was);
     let parts = [
         verdict(&told, current, released),
-        map::maps(&pairs, &was, &is),
-        changes::section(&changes::changes(&then, &now)),
-        new_types(&pairs),
+        map::maps(&found.types),
+        changes::section(&found.lines),
+        new_types(&found.types),
         premises(&told, current, released)?,
     ];
     let title = format!("{} against {}", current.shown(), released.shown());
     Ok(html::page(&title, style::STYLE, &parts.concat(), &foot()))
-}
-
-/// The layouts and the commands of a record.
-fn read(given: &Given, side: Side) -> Result<(Layouts, Vec<Said>), Stop> {
-    let stop = |problem| problem::stop(problem, given, Some(side), None);
-    let layouts = layouts(given.record(), side).map_err(stop)?;
-    let said = commands(given.record()).map_err(|place| stop(Problem::Undecoded { place }))?;
-    Ok((layouts, said))
 }
 
 /// The verdict in words: the message, what it means, why it is a fault, and what to do.
@@ -83,9 +72,9 @@ fn verdict(told: &Told, current: &Given, released: &Given) -> String {
 }
 
 /// Types that no reader that shipped knows.
-fn new_types(pairs: &[Pair]) -> String {
-    let new = pairs.iter().filter(|pair| pair.state == "new");
-    let names: Vec<String> = new.map(|pair| html::name(pair.name)).collect();
+fn new_types(types: &[Type]) -> String {
+    let new = types.iter().filter(|one| one.state == State::New);
+    let names: Vec<String> = new.map(|one| html::name(one.name)).collect();
     if names.is_empty() {
         return String::new();
     }

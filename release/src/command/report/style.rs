@@ -30,7 +30,7 @@ dd { margin: 0; }
 .map > .moved, .map > .wrong { background: var(--bad); border-color: var(--bad-line); }
 .map > .right { background: var(--good); border-color: var(--good-line); }
 .head { font-size: 0.9em; align-self: end; }
-.map em { font-weight: bold; font-style: normal; }
+em { font-weight: bold; font-style: normal; }
 table { border-collapse: collapse; width: 100%; table-layout: fixed; }
 th { text-align: left; padding: 0.3em; }
 td { vertical-align: top; padding: 0.3em; border-top: 1px solid var(--line); }
