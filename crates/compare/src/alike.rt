@@ -68,7 +68,7 @@ fn alike_at(
 }
 
 // The next fields of two types, where they are alike and of one size: the place of the first, the places after them and the size.
-#[derive(Drop)]
+#[derive(Clone, Copy)]
 pub enum AlikeStep {
     Differ,
     Alike(usize, usize, usize, u64),
@@ -116,7 +116,7 @@ pub(crate) fn body_at(at: usize, offset: u64) -> SpotCursor
 }
 
 // What is ahead of two types.
-#[derive(Drop)]
+#[derive(Clone, Copy)]
 pub struct Both {
     pub is: SpotCursor,
     pub was: SpotCursor,

@@ -33,7 +33,7 @@ use verdicts::verdict::Verdict;
 
 // What the passes ask of both records beside their bytes: the release about to ship, the one the copy gives, and where the lists of
 // each stream end.
-#[derive(Drop)]
+#[derive(Clone, Copy)]
 pub struct Facts {
     pub current: Text,
     pub copy: OptText,
@@ -42,7 +42,7 @@ pub struct Facts {
 }
 
 // How many types each record has.
-#[derive(Drop)]
+#[derive(Clone, Copy)]
 pub struct Counts {
     pub types: usize,
     pub shipped: usize,

@@ -171,7 +171,7 @@ fn is_under(pool: &[u8], entry: u32, root: &[u8]) -> bool
 }
 
 // A changed type under a root, by its handle.
-#[derive(Drop)]
+#[derive(Clone, Copy)]
 pub enum Touched {
     Untouched,
     Changed(u32),

@@ -129,7 +129,7 @@ fn entry_of(
 }
 
 // The changed type before, by its handle, and its entry.
-#[derive(Drop)]
+#[derive(Clone, Copy)]
 pub enum Last {
     NoLast,
     Entry(u32, u32),

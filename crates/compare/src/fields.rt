@@ -122,7 +122,7 @@ fn check_place(
 }
 
 // A released type against the current one of its name: what it is called, what is ahead of each, and the index of its entry.
-#[derive(Drop)]
+#[derive(Clone, Copy)]
 pub struct Pairing {
     pub owner: TypeName,
     pub is: SpotCursor,
@@ -339,7 +339,7 @@ fn check_changed(
 }
 
 // A released type and the current one of its name, by their handles, and the index of the current one.
-#[derive(Drop)]
+#[derive(Clone, Copy)]
 pub struct Handles {
     pub is: u32,
     pub was: u32,

@@ -88,7 +88,7 @@ fn check_still(
 }
 
 // A root with its number now, and the releases that a verdict on it names.
-#[derive(Drop)]
+#[derive(Clone, Copy)]
 pub struct Numbered {
     pub root: Text,
     pub constant: Text,
@@ -200,7 +200,7 @@ fn check_against(
 }
 
 // A slot for a root, and the releases that a verdict on its number names.
-#[derive(Drop)]
+#[derive(Clone, Copy)]
 pub struct Slot {
     pub root: StructStep,
     pub current: Text,
@@ -249,7 +249,7 @@ fn check_slot(
 }
 
 // The slots for the roots, and the releases that a verdict names.
-#[derive(Drop)]
+#[derive(Clone, Copy)]
 pub struct Roots {
     pub slots: Versioned,
     pub current: Text,

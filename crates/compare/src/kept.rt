@@ -76,7 +76,7 @@ fn is_first(
 }
 
 // Where two types are compared: the front of the current one, the places of the next fields of both and their offset.
-#[derive(Drop)]
+#[derive(Clone, Copy)]
 pub struct Walk {
     pub front: SpotCursor,
     pub at: usize,

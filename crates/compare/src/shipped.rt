@@ -15,7 +15,7 @@ use record::named::{api_constant, last_unstored};
 use record::operands::OptText;
 use record::text::{Text, bytes_of, same};
 
-#[derive(Drop)]
+#[derive(Clone, Copy)]
 pub enum Shipped {
     // The copy has no such item: it arrives now.
     Absent,

@@ -69,7 +69,7 @@ fn gained(
 }
 
 // The handles of a layout now and before.
-#[derive(Drop)]
+#[derive(Clone, Copy)]
 pub enum Pair {
     NoPair,
     Both(u32, u32),

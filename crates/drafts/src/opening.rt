@@ -16,7 +16,7 @@ use record::refusal::{Refusal, Side};
 use record::seek::Sought;
 
 // Both can be read; or the side of the first that cannot, with its refusal and its place.
-#[derive(Drop)]
+#[derive(Clone, Copy)]
 pub enum Opening {
     Ready,
     Barred(u32, Refusal, usize),

@@ -12,7 +12,7 @@ use crate::marking::{fill_ranks, mark_commands, put_marked};
 use crate::writing::put_commands;
 
 // The places after the commands and after the texts.
-#[derive(Drop)]
+#[derive(Clone, Copy)]
 pub struct Ends {
     pub stream: usize,
     pub pool: usize,

@@ -4,7 +4,7 @@ ghost use Rattle.record.specs.Commands.{operands, wide};
 ghost use Rattle.drafts.specs.Code.{or_none};
 
 // Up to eight letters, of which so many count.
-#[derive(Drop)]
+#[derive(Clone, Copy)]
 pub struct Row {
     pub letters: [u8; 8],
     pub len: usize,

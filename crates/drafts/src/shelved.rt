@@ -11,7 +11,7 @@ use record::writer::put;
 // The names and places of up to eight drafts: of each row sixteen bytes, how many of them are its name, and the start and the length of its place in
 // the held buffer. A row whose name has no byte is free.
 #[repr(C)]
-#[derive(Drop)]
+#[derive(Clone, Copy)]
 pub struct Shelf {
     pub names: [u8; 128],
     pub name_lens: [usize; 8],
@@ -21,7 +21,7 @@ pub struct Shelf {
 
 // Number, side, place and length, the count found afresh, and the shelf afterwards.
 #[repr(C)]
-#[derive(Drop)]
+#[derive(Clone, Copy)]
 pub struct ShelfAnswer {
     pub answer: Answer,
     pub changed: usize,

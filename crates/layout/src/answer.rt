@@ -5,7 +5,7 @@ ghost use Rattle.layout.specs.Answer.{refusal_of, Answered};
 use record::refusal::{Refusal, Side};
 
 #[repr(C)]
-#[derive(Drop)]
+#[derive(Clone, Copy)]
 pub struct Answer {
     pub number: u32,
     pub side: u32,

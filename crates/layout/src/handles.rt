@@ -37,7 +37,7 @@ pub(crate) fn fill_places(stream: &[u8], number: u8, out: &mut [u32]) -> usize
 }
 
 // How many structures a record has, and the place of its first family; where there is none it is the stream's end.
-#[derive(Drop)]
+#[derive(Clone, Copy)]
 struct Structs {
     n: usize,
     family: usize,

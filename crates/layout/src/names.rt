@@ -40,7 +40,7 @@ pub fn name_at<'a>(stream: &[u8], pool: &'a [u8], at: usize) -> &'a [u8]
 }
 
 // A type's name: for a variant its family's and its own, which stands after two colons.
-#[derive(Drop)]
+#[derive(Clone, Copy)]
 pub struct TypeName {
     pub front: Text,
     pub back: OptText,

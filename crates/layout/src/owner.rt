@@ -11,7 +11,7 @@ use record::scalars::built_in;
 use record::text::Text;
 
 // The owner's name, as the stretch that the root's own command gives; or none; or the record's refusal with its place.
-#[derive(Drop)]
+#[derive(Clone, Copy)]
 pub enum OwnerAnswer {
     Unowned,
     OwnedBy(Text),
@@ -20,7 +20,7 @@ pub enum OwnerAnswer {
 
 // The owner's answer as numbers; what has no meaning is 0.
 #[repr(C)]
-#[derive(Drop)]
+#[derive(Clone, Copy)]
 pub struct OwnerFields {
     pub number: u32,
     pub place: usize,

@@ -20,7 +20,7 @@ use record::sizes::{front_bytes, scalar_bytes, sum, wide};
 use record::text::{Text, same};
 
 // A field of a type: where it is and how it reads.
-#[derive(Drop)]
+#[derive(Clone, Copy)]
 pub struct Spot {
     pub name: Text,
     pub offset: u64,
@@ -30,7 +30,7 @@ pub struct Spot {
 }
 
 // What comes next of a type: a family's discriminant, its length field, then the fields of the record.
-#[derive(Drop)]
+#[derive(Clone, Copy)]
 pub enum Ahead {
     Front(Family, Cursor),
     Middle(Family, Cursor),
@@ -38,13 +38,13 @@ pub enum Ahead {
 }
 
 // What is ahead, and its offset as far as the limit of number 9.
-#[derive(Drop)]
+#[derive(Clone, Copy)]
 pub struct SpotCursor {
     pub ahead: Ahead,
     pub offset: u64,
 }
 
-#[derive(Drop)]
+#[derive(Clone, Copy)]
 pub enum SpotStep {
     NoSpot,
     ASpot(Spot, SpotCursor),

@@ -124,7 +124,7 @@ pub(crate) fn few_types(stream: &[u8], pool: &[u8], types: &mut [u32], scratch: 
 }
 
 // A type of the table, by its index.
-#[derive(Drop)]
+#[derive(Clone, Copy)]
 pub enum TypeFound {
     NoType,
     At(usize),

@@ -1,5 +1,6 @@
 // Prints the list of a record's layouts. Standard input is the record, read as current: stream and pool, each a length of four bytes,
 // little-endian, and its bytes.
+#![tactic(auto)]
 use layout::list::list_layouts;
 use parts::{lent_len, print_refusal};
 use record::refusal::Side;

@@ -7,14 +7,14 @@ use record::text::Text;
 use record::writer::put;
 
 // A number that may be absent: flag 0.
-#[derive(Drop)]
+#[derive(Clone, Copy)]
 pub struct Num {
     pub flag: u8,
     pub value: u32,
 }
 
 // A field's operands; an absent text has start 65535 and length 0.
-#[derive(Drop)]
+#[derive(Clone, Copy)]
 pub struct FieldCommand {
     pub name: Text,
     pub kind: Text,

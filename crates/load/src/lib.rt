@@ -1,4 +1,5 @@
 // The load: specs/ has the definition of the pairs, proofs/ that each has its outcome.
+#![tactic(auto)]
 pub mod commands;
 pub mod drawn;
 pub mod draws;

@@ -1,5 +1,5 @@
 // The outcomes that a pair can have.
-#[derive(Drop)]
+#[derive(Clone, Copy)]
 pub enum Outcome {
     Accepted,
     ConstantGone,

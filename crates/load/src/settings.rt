@@ -5,7 +5,7 @@ ghost use Rattle.load.specs.Range.{InRange};
 
 use crate::draws::{draw, seed_after};
 
-#[derive(Drop)]
+#[derive(Clone, Copy)]
 pub struct Setting {
     // 02: the number of structures, and of the fields of each, in the released record.
     pub structs: u32,

@@ -1,8 +1,9 @@
 // Numbers and length-and-bytes parts from a file descriptor, for the programs that replay vectors.
+#![tactic(auto)]
 ghost use Rattle.std.specs.Prelude.{◌≤◌, ◌<◌, length};
 
 // What was read; whole is false where the input ends before.
-#[derive(Drop)]
+#[derive(Clone, Copy)]
 pub struct Part {
     pub whole: bool,
     pub len: usize,

@@ -16,7 +16,7 @@ use record::seek::Sought;
 use record::text::bytes_of;
 
 // What a pointer of a kind must name: its pointee.
-#[derive(Drop)]
+#[derive(Clone, Copy)]
 pub enum Pointee {
     ToStruct,
     ToFamily,
@@ -24,7 +24,7 @@ pub enum Pointee {
 }
 
 // The number of a field's error, if it has one.
-#[derive(Drop)]
+#[derive(Clone, Copy)]
 pub enum Fault {
     NoFault,
     Faulty(u32),

@@ -323,6 +323,7 @@ module _ (s : Types) where
   -- and the first root that leads there is what the walk says
   said : (rs : List Str) (os : List Owned) (n r : Str) → Closed s os → owned_in os n ≡ none → First s n rs r → root_of (owned_in (claim_roots s rs os) n) ≡ some r
   unfolding claim_roots root_of size
+  said [] os n r c f x3 = elim x3 [ ]
   said (q ∷ rs) os n r c f (now y l) =
       let w = root-leads q os c l in
       let k = roots-keep rs (claim size s q q os) n w.0 w.1 in

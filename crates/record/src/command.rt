@@ -8,14 +8,14 @@ use crate::operands::{OptNumber, OptText, flag_at, opt_number_at, opt_text_at, t
 use crate::text::Text;
 
 // The head of a record.
-#[derive(Drop)]
+#[derive(Clone, Copy)]
 pub struct Head {
     pub release: OptText,
     pub unreleased: bool,
 }
 
 // A constant: an integer, kept as its 64 bits, or a text.
-#[derive(Drop)]
+#[derive(Clone, Copy)]
 pub struct Constant {
     pub name: Text,
     pub is_text: bool,
@@ -26,14 +26,14 @@ pub struct Constant {
 }
 
 // A name for a scalar word.
-#[derive(Drop)]
+#[derive(Clone, Copy)]
 pub struct TypeAlias {
     pub name: Text,
     pub underlying: Text,
 }
 
 // An enum; its values follow.
-#[derive(Drop)]
+#[derive(Clone, Copy)]
 pub struct Enum {
     pub name: Text,
     pub size: u32,
@@ -42,7 +42,7 @@ pub struct Enum {
 }
 
 // A value of an enum; the number is kept as its 64 bits.
-#[derive(Drop)]
+#[derive(Clone, Copy)]
 pub struct Value {
     pub name: Text,
     pub value: u64,
@@ -50,7 +50,7 @@ pub struct Value {
 }
 
 // A bit field; its members follow.
-#[derive(Drop)]
+#[derive(Clone, Copy)]
 pub struct Bitfield {
     pub name: Text,
     pub size: u32,
@@ -58,7 +58,7 @@ pub struct Bitfield {
 }
 
 // A member of a bit field.
-#[derive(Drop)]
+#[derive(Clone, Copy)]
 pub struct Member {
     pub name: Text,
     pub bit: u32,
@@ -67,7 +67,7 @@ pub struct Member {
 }
 
 // A structure; its fields follow.
-#[derive(Drop)]
+#[derive(Clone, Copy)]
 pub struct Struct {
     pub name: Text,
     pub generation_slot: OptText,
@@ -75,7 +75,7 @@ pub struct Struct {
 }
 
 // A family (a tagged FAM of the Rust); its common fields follow, then its variants.
-#[derive(Drop)]
+#[derive(Clone, Copy)]
 pub struct Family {
     pub name: Text,
     pub discriminant_field: Text,
@@ -86,13 +86,13 @@ pub struct Family {
 }
 
 // A variant of a family; its fields follow.
-#[derive(Drop)]
+#[derive(Clone, Copy)]
 pub struct Variant {
     pub discriminant: Text,
 }
 
 // A field of a structure, a family or a variant.
-#[derive(Drop)]
+#[derive(Clone, Copy)]
 pub struct Field {
     pub name: Text,
     pub kind: Text,
@@ -105,20 +105,20 @@ pub struct Field {
 }
 
 // A plugin key.
-#[derive(Drop)]
+#[derive(Clone, Copy)]
 pub struct PluginKey {
     pub name: Text,
     pub first_release: OptText,
 }
 
 // A generation of a structure that has shipped.
-#[derive(Drop)]
+#[derive(Clone, Copy)]
 pub struct Version {
     pub struct_name: Text,
     pub version: u32,
 }
 
-#[derive(Drop)]
+#[derive(Clone, Copy)]
 pub enum Command {
     Head(Head),
     Constant(Constant),
@@ -320,7 +320,7 @@ pub(crate) fn command_of(byte: u8, s: &[u8]) -> Command
 }
 
 // What is open after a command: a field or a variant that follows belongs to it.
-#[derive(Drop)]
+#[derive(Clone, Copy)]
 pub enum Parent {
     NoParent,
     InStruct,
@@ -328,14 +328,14 @@ pub enum Parent {
 }
 
 // A place in the stream, with the number of the command before it (0 at the front) and what that command leaves open.
-#[derive(Drop)]
+#[derive(Clone, Copy)]
 pub struct Cursor {
     pub at: usize,
     pub last: u8,
     pub parent: Parent,
 }
 
-#[derive(Drop)]
+#[derive(Clone, Copy)]
 pub enum Step {
     Next(Command, Cursor),
     Stop,

@@ -15,7 +15,7 @@ use crate::sizes::or_else;
 use crate::text::{Text, bytes_of};
 use crate::writer::{number_len, put, put_number, put_text, put_worded};
 
-#[derive(Drop)]
+#[derive(Clone, Copy)]
 pub enum Description {
     // A kind alone.
     Plain(Text),
@@ -32,7 +32,7 @@ pub enum Description {
 }
 
 // How a field's type reads, and whether the field is padding.
-#[derive(Drop)]
+#[derive(Clone, Copy)]
 pub struct Shape {
     pub described: Description,
     pub padding: bool,

@@ -8,7 +8,7 @@ use crate::le::byte_at;
 use crate::seek::after_at;
 
 // The place after the last command of each list; 0 where there is none.
-#[derive(Drop)]
+#[derive(Clone, Copy)]
 pub struct Ends {
     pub constants: usize,
     pub enums: usize,

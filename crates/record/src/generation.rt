@@ -10,7 +10,7 @@ use crate::seek::Sought;
 use crate::text::{Text, bytes_of};
 
 // The name of the constant that holds the generation, as the structure's command gives it, and the number.
-#[derive(Drop)]
+#[derive(Clone, Copy)]
 pub enum Generation {
     NoGeneration,
     Held(Text, u32),

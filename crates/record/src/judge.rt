@@ -11,7 +11,7 @@ use crate::refusal::{Refusal, Side};
 use texts::utf8::at_edge;
 
 // The least refusal among a command's operands, 4 before 5 before 6.
-#[derive(Drop)]
+#[derive(Clone, Copy)]
 pub enum Fault {
     Fine,
     Outside,
@@ -20,13 +20,13 @@ pub enum Fault {
 }
 
 // The width of a command, and whether it may stand where it does. No command has the width 0.
-#[derive(Drop)]
+#[derive(Clone, Copy)]
 pub struct Row {
     pub width: usize,
     pub stands: bool,
 }
 
-#[derive(Drop)]
+#[derive(Clone, Copy)]
 pub enum Judged {
     Next(Command, Cursor),
     Done,

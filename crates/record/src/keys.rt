@@ -8,26 +8,26 @@ use crate::lists::{KeyStep, StructStep, UnstoredStep, next_key, next_struct, nex
 use crate::seek::{Between, Sought, seek};
 
 // What is left of the walk over structures' fields: the structures from a cursor on; the fields and then the structures from a cursor on.
-#[derive(Drop)]
+#[derive(Clone, Copy)]
 pub enum StoredAt {
     Structs(Cursor),
     Fields(Cursor),
 }
 
-#[derive(Drop)]
+#[derive(Clone, Copy)]
 pub enum StoredStep {
     NoStored,
     AStored(PluginKey, StoredAt),
 }
 
 // What is left of the walk over all keys: those of structures' fields and then the unstored ones; the unstored ones from a cursor on.
-#[derive(Drop)]
+#[derive(Clone, Copy)]
 pub enum KeysAt {
     Stored(StoredAt),
     Unstored(Cursor),
 }
 
-#[derive(Drop)]
+#[derive(Clone, Copy)]
 pub enum PluginKeyStep {
     NoPluginKey,
     APluginKey(PluginKey, KeysAt),
@@ -48,7 +48,7 @@ pub fn first_key() -> KeysAt
 }
 
 // A plugin key of some fields, with the cursor after its field; or none, with the cursor after the last field.
-#[derive(Drop)]
+#[derive(Clone, Copy)]
 enum FieldKey {
     Ended(Cursor),
     Keyed(PluginKey, Cursor),

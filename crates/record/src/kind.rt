@@ -5,7 +5,7 @@ ghost use Rattle.record.specs.Kind.{words, of_length, kind_among, kind_of};
 use crate::text::same;
 
 // What a field is; Other is a word that names no kind.
-#[derive(Drop)]
+#[derive(Clone, Copy)]
 pub enum Kind {
     Scalar,
     Enum,

@@ -14,7 +14,7 @@ use crate::ownership::eight_clear;
 use crate::text::bytes_of;
 
 // A place whose mark is no higher than that of any field with a mark that refers to a name, as far as it is known.
-#[derive(Drop)]
+#[derive(Clone, Copy)]
 pub enum Lead {
     Unknown,
     NoField,

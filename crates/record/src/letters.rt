@@ -2,7 +2,7 @@
 ghost use Rattle.std.specs.Prelude.{◌≡◌};
 ghost use Rattle.record.specs.Letters.{odd_letter};
 
-#[derive(Drop)]
+#[derive(Clone, Copy)]
 pub enum Letters {
     Good,
     Odd(usize),

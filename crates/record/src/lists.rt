@@ -16,7 +16,7 @@ use crate::cut;
 use crate::seek::{Between, Sought, seek};
 use crate::text::{bytes_of, same};
 
-#[derive(Drop)]
+#[derive(Clone, Copy)]
 pub enum HeadStep {
     NoHead,
     AHead(Head, Cursor),
@@ -32,7 +32,7 @@ pub fn next_head(stream: &[u8], from: Cursor) -> HeadStep
     HeadStep::AHead(head_at(cut::from(stream, at)), Cursor::place(after))
 }
 
-#[derive(Drop)]
+#[derive(Clone, Copy)]
 pub enum ConstantStep {
     NoConstant,
     AConstant(Constant, Cursor),
@@ -48,7 +48,7 @@ pub fn next_constant(stream: &[u8], from: Cursor) -> ConstantStep
     ConstantStep::AConstant(constant_at(cut::from(stream, at)), Cursor::place(after))
 }
 
-#[derive(Drop)]
+#[derive(Clone, Copy)]
 pub enum AliasStep {
     NoAlias,
     AnAlias(TypeAlias, Cursor),
@@ -64,7 +64,7 @@ pub fn next_alias(stream: &[u8], from: Cursor) -> AliasStep
     AliasStep::AnAlias(alias_at(cut::from(stream, at)), Cursor::place(after))
 }
 
-#[derive(Drop)]
+#[derive(Clone, Copy)]
 pub enum ValueStep {
     NoValue,
     AValue(Value, Cursor),
@@ -80,7 +80,7 @@ pub fn next_value(stream: &[u8], from: Cursor) -> ValueStep
     ValueStep::AValue(value_at(cut::from(stream, at)), Cursor::place(after))
 }
 
-#[derive(Drop)]
+#[derive(Clone, Copy)]
 pub enum EnumStep {
     NoEnum,
     AnEnum(Enum, Cursor),
@@ -96,7 +96,7 @@ pub fn next_enum(stream: &[u8], from: Cursor) -> EnumStep
     EnumStep::AnEnum(enum_at(cut::from(stream, at)), Cursor::place(after))
 }
 
-#[derive(Drop)]
+#[derive(Clone, Copy)]
 pub enum MemberStep {
     NoMember,
     AMember(Member, Cursor),
@@ -112,7 +112,7 @@ pub fn next_member(stream: &[u8], from: Cursor) -> MemberStep
     MemberStep::AMember(member_at(cut::from(stream, at)), Cursor::place(after))
 }
 
-#[derive(Drop)]
+#[derive(Clone, Copy)]
 pub enum BitfieldStep {
     NoBitfield,
     ABitfield(Bitfield, Cursor),
@@ -128,7 +128,7 @@ pub fn next_bitfield(stream: &[u8], from: Cursor) -> BitfieldStep
     BitfieldStep::ABitfield(bitfield_at(cut::from(stream, at)), Cursor::place(after))
 }
 
-#[derive(Drop)]
+#[derive(Clone, Copy)]
 pub enum KeyStep {
     NoKey,
     AKey(PluginKey, Cursor),
@@ -144,7 +144,7 @@ pub fn next_key(stream: &[u8], from: Cursor) -> KeyStep
     KeyStep::AKey(key_at(cut::from(stream, at)), Cursor::place(after))
 }
 
-#[derive(Drop)]
+#[derive(Clone, Copy)]
 pub enum FieldStep {
     NoField,
     AField(Field, Cursor),
@@ -160,7 +160,7 @@ pub fn next_field(stream: &[u8], from: Cursor) -> FieldStep
     FieldStep::AField(field_at(cut::from(stream, at)), Cursor::place(after))
 }
 
-#[derive(Drop)]
+#[derive(Clone, Copy)]
 pub enum StructStep {
     NoStruct,
     AStruct(Struct, Cursor),
@@ -176,7 +176,7 @@ pub fn next_struct(stream: &[u8], from: Cursor) -> StructStep
     StructStep::AStruct(struct_at(cut::from(stream, at)), Cursor::place(after))
 }
 
-#[derive(Drop)]
+#[derive(Clone, Copy)]
 pub enum VariantStep {
     NoVariant,
     AVariant(Variant, Cursor),
@@ -192,7 +192,7 @@ pub fn next_variant(stream: &[u8], from: Cursor) -> VariantStep
     VariantStep::AVariant(variant_at(cut::from(stream, at)), Cursor::place(after))
 }
 
-#[derive(Drop)]
+#[derive(Clone, Copy)]
 pub enum FamilyStep {
     NoFamily,
     AFamily(Family, Cursor),
@@ -208,7 +208,7 @@ pub fn next_family(stream: &[u8], from: Cursor) -> FamilyStep
     FamilyStep::AFamily(family_at(cut::from(stream, at)), Cursor::place(after))
 }
 
-#[derive(Drop)]
+#[derive(Clone, Copy)]
 pub enum UnstoredStep {
     NoUnstored,
     AnUnstored(PluginKey, Cursor),
@@ -224,7 +224,7 @@ pub fn next_unstored(stream: &[u8], from: Cursor) -> UnstoredStep
     UnstoredStep::AnUnstored(key_at(cut::from(stream, at)), Cursor::place(after))
 }
 
-#[derive(Drop)]
+#[derive(Clone, Copy)]
 pub enum VersionStep {
     NoVersion,
     AVersion(Version, Cursor),

@@ -22,7 +22,7 @@ use crate::versioned::Versioned;
 const VISITED: u8 = 4;
 
 // The place of a type's command, where its fields begin, and whether variants stand between them.
-#[derive(Drop)]
+#[derive(Clone, Copy)]
 struct Body {
     place: usize,
     from: Cursor,
@@ -67,7 +67,7 @@ fn type_fields(stream: &[u8], pool: &[u8], index: &[u16], name: &[u8]) -> Body
 }
 
 // The place of a field's command, and the cursor after it.
-#[derive(Drop)]
+#[derive(Clone, Copy)]
 enum PlaceStep {
     NoPlace,
     APlace(usize, Cursor),
@@ -102,7 +102,7 @@ pub fn reference_at(stream: &[u8], pool: &[u8], place: usize) -> OptText
 }
 
 // What a reference leads to.
-#[derive(Drop)]
+#[derive(Clone, Copy)]
 enum Target {
     Nothing,
     Fields(Body),

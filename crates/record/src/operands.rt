@@ -5,13 +5,13 @@ ghost use Rattle.record.specs.Operands.{text_at, opt_text, opt_text_at, opt_numb
 use crate::le;
 use crate::text::Text;
 
-#[derive(Drop)]
+#[derive(Clone, Copy)]
 pub enum OptText {
     Absent,
     Given(Text),
 }
 
-#[derive(Drop)]
+#[derive(Clone, Copy)]
 pub enum OptNumber {
     Missing,
     Number(u32),

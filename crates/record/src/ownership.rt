@@ -21,7 +21,7 @@ use crate::versioned::{Versioned, versioned_structs};
 use texts::le::word;
 
 // The owner's name, as the stretch that the root's own command gives.
-#[derive(Drop)]
+#[derive(Clone, Copy)]
 pub enum Owner {
     Nobody,
     Owned(Text),

@@ -12,7 +12,7 @@ use crate::refusal::{Refusal, Side};
 use crate::vast::{Vast, vast_type};
 
 // A record that can be read has the schema that the unjudged lists give.
-#[derive(Drop)]
+#[derive(Clone, Copy)]
 pub enum Outcome {
     Readable,
     Refused(Refusal, usize),

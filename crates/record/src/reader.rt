@@ -5,7 +5,7 @@ ghost use Rattle.record.specs.Commands.{start, step_at};
 
 use crate::command::{Cursor, Parent, Step};
 
-#[derive(Drop)]
+#[derive(Clone, Copy)]
 pub struct Reader<'a> {
     pub stream: &'a [u8],
     pub at: usize,

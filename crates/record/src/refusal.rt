@@ -3,7 +3,7 @@ ghost use Rattle.std.specs.Prelude.{◌≡◌};
 ghost use Rattle.record.specs.Refusals.{refusal_number, side_number};
 
 // A record is read as the one about to ship, or as the copy of the last release.
-#[derive(Drop)]
+#[derive(Clone, Copy)]
 pub enum Side {
     Current,
     Released,
@@ -20,7 +20,7 @@ impl Side {
     }
 }
 
-#[derive(Drop)]
+#[derive(Clone, Copy)]
 pub enum Refusal {
     Cut,
     Unknown,

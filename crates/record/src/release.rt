@@ -5,21 +5,21 @@ ghost use Rattle.record.specs.Release.{digit, all_digits, is_decimal, is_release
 use crate::cut::{after_byte, before_byte};
 use crate::text::same;
 
-#[derive(Drop)]
+#[derive(Clone, Copy)]
 pub struct Release {
     pub major: u32,
     pub minor: u32,
     pub patch: u32,
 }
 
-#[derive(Drop)]
+#[derive(Clone, Copy)]
 pub enum ReleaseParts {
     NotARelease,
     Parts(Release),
 }
 
 // A part's number; Vast is one of more than 32 bits.
-#[derive(Drop)]
+#[derive(Clone, Copy)]
 pub enum Parsed {
     Vast,
     Number(u32),

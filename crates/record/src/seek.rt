@@ -5,7 +5,7 @@ ghost use Rattle.record.specs.Seek.{after_at, over_of, SoughtFrom};
 use crate::command::width_of;
 
 // What may stand between the elements of a list: all commands, none, plugin keys, fields with their keys, variants and keys.
-#[derive(Drop)]
+#[derive(Clone, Copy)]
 pub enum Between {
     Anything,
     Nothing,
@@ -15,7 +15,7 @@ pub enum Between {
 }
 
 // The place of a command, and the place after it.
-#[derive(Drop)]
+#[derive(Clone, Copy)]
 pub enum Sought {
     Nowhere,
     At(usize, usize),

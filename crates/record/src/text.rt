@@ -4,7 +4,7 @@ ghost use Rattle.record.specs.Base.{eqs};
 ghost use Rattle.record.specs.Stretch.{text_of};
 
 // A text: len bytes of the pool, from start. What reaches past the pool's end is cut off.
-#[derive(Drop)]
+#[derive(Clone, Copy)]
 pub struct Text {
     pub start: u16,
     pub len: u8,

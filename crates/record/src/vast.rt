@@ -23,7 +23,7 @@ use crate::sizes::{
 use crate::{cut, le};
 
 // A type as the stream opens it: the place of its command, a family's front, and the cursor at its fields.
-#[derive(Drop)]
+#[derive(Clone, Copy)]
 pub(crate) enum TypeStep {
     NoType,
     Plain(usize, Cursor),
@@ -95,7 +95,7 @@ fn ends_past(rows: &[u8], stream: &[u8], pool: &[u8], from: Cursor, start: u64) 
     }
 }
 
-#[derive(Drop)]
+#[derive(Clone, Copy)]
 pub enum Vast {
     NoneVast,
     VastAt(usize),

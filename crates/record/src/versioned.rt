@@ -10,7 +10,7 @@ use crate::references::is_text;
 use crate::seek::{Between, Sought, seek};
 
 // What fills each slot, in the order of the Rust's SLOT_ORDER.
-#[derive(Drop)]
+#[derive(Clone, Copy)]
 pub struct Versioned {
     pub info: StructStep,
     pub metadata: StructStep,

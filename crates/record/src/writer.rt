@@ -61,7 +61,7 @@ pub fn put_worded(out: &mut [u8], at: usize, word: &[u8], pool: &[u8], t: Text) 
 }
 
 // A number's text: the bytes from start on.
-#[derive(Drop)]
+#[derive(Clone, Copy)]
 pub struct Digits {
     pub bytes: [u8; 21],
     pub start: usize,

@@ -1,5 +1,6 @@
 // Checks a record about to ship against the last one shipped. Standard input is the current stream and pool, then the released stream and pool,
 // each a length of four bytes, little-endian, and its bytes.
+#![tactic(auto)]
 use compare::check::check;
 use parts::{lent_len, print_refusal};
 

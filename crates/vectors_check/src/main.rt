@@ -1,13 +1,14 @@
 // Replays the oracle's answers of the check, data/checks: each vector is the current stream and pool and the released stream and pool (a length of
 // four bytes, little-endian, and the bytes), the room, the number, the side, the place and the length (four bytes each), and where the number is
 // above 10 the message. The lent buffer has a mark in every byte. Prints how many there are and how many differ.
+#![tactic(auto)]
 ghost use Rattle.std.specs.Prelude.{◌≤◌, length};
 
 use layout::answer::Answer;
 use menqachu::menqachu_check;
 use parts::{holds, mark, read_bytes, read_number, read_part, report};
 
-#[derive(Drop)]
+#[derive(Clone, Copy)]
 enum Turn {
     Same,
     Differs,
@@ -15,7 +16,7 @@ enum Turn {
 }
 
 // An answer as the oracle writes it, and the room it was given in.
-#[derive(Drop)]
+#[derive(Clone, Copy)]
 struct Expected {
     whole: bool,
     room: usize,

@@ -2,13 +2,14 @@
 // the number, side, place, length and count answered (four bytes each, little-endian), then six parts (a length of four bytes and the bytes): the
 // draft's buffer, the addition's stream or the name, the addition's pool, the copy's stream and pool, and what stands at the front of the buffer
 // afterwards; behind that every byte is as before. Prints how many there are and how many differ.
+#![tactic(auto)]
 ghost use Rattle.std.specs.Prelude.{◌≤◌, length};
 
 use drafts::saying::DraftAnswer;
 use menqachu::{menqachu_draft_add, menqachu_draft_count, menqachu_draft_remove};
 use parts::{read_byte, read_number, read_part, report};
 
-#[derive(Drop)]
+#[derive(Clone, Copy)]
 enum Turn {
     Same,
     Differs,
@@ -16,7 +17,7 @@ enum Turn {
 }
 
 // A call, and what it answers.
-#[derive(Drop)]
+#[derive(Clone, Copy)]
 struct Case {
     whole: bool,
     call: usize,

@@ -1,6 +1,7 @@
 // Replays the oracle's answers of the list call, data/lists: each vector is a stream and a pool (a length of four bytes, little-endian, and the
 // bytes), the side it is read as (a byte), the room, the number, the side, the place and the length (four bytes each), and where the number is 0
 // the list. The lent buffer has a mark in every byte. Prints how many there are and how many differ.
+#![tactic(auto)]
 ghost use Rattle.std.specs.Prelude.{◌≤◌, length};
 
 use layout::answer::Answer;
@@ -8,7 +9,7 @@ use layout::list::list_layouts;
 use parts::{holds, mark, read_byte, read_bytes, read_number, read_part, report};
 use record::refusal::Side;
 
-#[derive(Drop)]
+#[derive(Clone, Copy)]
 enum Turn {
     Same,
     Differs,
@@ -24,7 +25,7 @@ fn side_of(n: usize) -> Side {
 }
 
 // An answer as the oracle writes it.
-#[derive(Drop)]
+#[derive(Clone, Copy)]
 struct Expected {
     number: usize,
     side: usize,

@@ -1,6 +1,7 @@
 // Makes the pairs of the seeds 0 to 999 with each outcome and checks them. It prints what `oracle load` prints of its own pairs (stdout here):
 // for each outcome how many pairs had it, a sum over their bytes, and how many fields of each kind their released records show; how long the pairs
 // are; and how many calls that must give 61 do not. Each pair is made in a buffer too long, in one just long enough, and in one a byte short.
+#![tactic(auto)]
 use layout::answer::Answer;
 use menqachu::{menqachu_check, menqachu_load};
 use parts::{holds, mark};
@@ -14,7 +15,7 @@ use record::text::bytes_of;
 const SEEDS: u32 = 1000;
 
 // What is found over the pairs of an outcome.
-#[derive(Drop)]
+#[derive(Clone, Copy)]
 struct Found {
     met: u64,
     sum: u32,

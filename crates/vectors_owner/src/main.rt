@@ -1,10 +1,11 @@
 // Replays the oracle's answers of owners, data/owners: each vector is a stream, a pool and a name (a length of four bytes, little-endian, and the
 // bytes), the answer (a byte: 0 none, 1 an owner, 2 a refused record) and two numbers of four bytes (the start and the length of the owner's name;
 // the refusal's number and place; 0 and 0). Prints how many there are and how many differ.
+#![tactic(auto)]
 use menqachu::menqachu_owner;
 use parts::{read_byte, read_number, read_part, report};
 
-#[derive(Drop)]
+#[derive(Clone, Copy)]
 enum Turn {
     Same,
     Differs,
@@ -12,7 +13,7 @@ enum Turn {
 }
 
 // An answer as the oracle writes it.
-#[derive(Drop)]
+#[derive(Clone, Copy)]
 struct Answer {
     kind: usize,
     first: usize,

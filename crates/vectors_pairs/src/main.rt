@@ -1,6 +1,7 @@
 // Counts the pairs compared of texts of 0 to 300 bytes, with an unequal pair at every place, and prints what the oracle's count gives over the same
 // texts (stdout here): a line a length with the count of equal texts, a sum over the counts with one unequal pair, one with all pairs in front of it
 // unequal too, and the count of a text with its own back.
+#![tactic(auto)]
 use menqachu::menqachu_pairs_compared;
 
 const MOST: usize = 300;

@@ -1,10 +1,11 @@
 // Replays the oracle's answers of the check of pointers, data/pointers: each vector is a stream and a pool (a length of four bytes, little-endian,
 // and the bytes), the number (a byte) and the place (four bytes); the side and the length are 0. Prints how many there are and how many differ.
+#![tactic(auto)]
 use layout::answer::Answer;
 use parts::{read_byte, read_number, read_part, report};
 use pointers::check::check_pointers;
 
-#[derive(Drop)]
+#[derive(Clone, Copy)]
 enum Turn {
     Same,
     Differs,

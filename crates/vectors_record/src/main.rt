@@ -1,12 +1,13 @@
 // Replays the oracle's answers of the record reader, data/records: each vector is a stream and a pool (a length of four bytes, little-endian, and
 // the bytes), the side and the number (a byte each; 0 stands for a record that can be read) and the place (four bytes). Prints how many there are
 // and how many differ.
+#![tactic(auto)]
 use parts::{read_byte, read_number, read_part, report};
 use record::read::{Outcome, read_record};
 use record::refusal::Side;
 use record::scalars::built_in;
 
-#[derive(Drop)]
+#[derive(Clone, Copy)]
 enum Turn {
     Same,
     Differs,

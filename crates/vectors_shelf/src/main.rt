@@ -4,13 +4,14 @@
 // front of the buffer that the call may change (the held one on setting, the draft's on coming back); behind that every byte is as before. A shelf
 // is its 320 bytes as the struct has them: the names, then the lengths of the names, the starts and the lengths, eight bytes each, little-endian. A
 // part may be as long as its array below. Prints how many vectors there are and how many differ.
+#![tactic(auto)]
 ghost use Rattle.std.specs.Prelude.{◌≤◌, ◌<◌, length};
 
 use drafts::shelved::{Shelf, ShelfAnswer};
 use menqachu::{menqachu_shelf_back, menqachu_shelf_set};
 use parts::{read_byte, read_number, read_part, report};
 
-#[derive(Drop)]
+#[derive(Clone, Copy)]
 enum Turn {
     Same,
     Differs,
@@ -18,7 +19,7 @@ enum Turn {
 }
 
 // A call, and what it answers.
-#[derive(Drop)]
+#[derive(Clone, Copy)]
 struct Case {
     whole: bool,
     call: usize,

@@ -11,7 +11,7 @@ use record::text::Text;
 use record::writer::{put, put_signed, put_text, put_worded};
 
 // What arrives in a release, by its name.
-#[derive(Drop)]
+#[derive(Clone, Copy)]
 pub enum Item {
     Constant(Text),
     Enum(Text),
@@ -22,7 +22,7 @@ pub enum Item {
 }
 
 // What a constant holds: an integer of 64 bits in two's complement, or a text.
-#[derive(Drop)]
+#[derive(Clone, Copy)]
 pub enum ConstantValue {
     Integer(u64),
     Words(OptText),

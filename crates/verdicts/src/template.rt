@@ -16,7 +16,7 @@ use record::text::Text;
 use record::writer::{put, put_number, put_signed, put_text};
 
 // An argument of a message. What is Now has its texts in the current record's pool, what Was in the released one's.
-#[derive(Drop)]
+#[derive(Clone, Copy)]
 pub enum Arg {
     Nothing,
     Byte(u8),
@@ -109,7 +109,7 @@ fn fill(out: &mut [u8], at: usize, template: &[u8], args: [Arg; 5], new: &[u8], 
 }
 
 // What writing a message answers.
-#[derive(Drop)]
+#[derive(Clone, Copy)]
 pub enum Written {
     // The message's length; it stands at the front of the buffer.
     Whole(usize),

@@ -9,7 +9,7 @@ use record::describe::Description;
 use record::operands::OptText;
 use record::text::Text;
 
-#[derive(Drop)]
+#[derive(Clone, Copy)]
 pub enum Verdict {
     Passed,
     Described,

@@ -1,0 +1,4 @@
+use Rattle.record.proofs.command.head_at.Goals as goal
+
+pub returns : goal.returns
+returns c = cc

@@ -1,0 +1,17 @@
+use Rattle.record.specs.Base.{bytes}
+use Rattle.record.specs.Commands.{wide}
+use Rattle.record.proofs.JudgeLaws.{operand-then, operand-alone, skip-eight}
+use borrow.Author.Rules.{rules}
+use Rattle.record.proofs.judge.value_faults.Goals as goal
+
+pub operand_fault-requires : goal.operand_fault-requires
+unfolding wide
+operand_fault-requires c = search rules
+
+pub operand_fault-requires-2 : goal.operand_fault-requires-2
+unfolding wide
+operand_fault-requires-2 c = search rules
+
+pub returns : goal.returns
+unfolding bytes wide
+returns c = operand-then _ _ _ _ _ _ _ _ _ c.operand_fault.ensures (skip-eight _ _ _ _ _ _ (operand-alone _ _ _ _ _ _ c.operand_fault-2.ensures)) c.worse.ensures

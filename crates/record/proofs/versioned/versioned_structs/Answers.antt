@@ -1,0 +1,22 @@
+use Prim.Native.Nat.{◌-◌}
+use Rattle.record.proofs.SeekLaws.{sought-nearer}
+use Rattle.record.proofs.VersionedLaws.{versioned-laws}
+use Rattle.record.proofs.versioned.versioned_structs.Goals as goal
+
+pub loop-place-init : goal.loop-place-init
+loop-place-init c = search versioned-laws
+
+pub returns-in_default : goal.returns-in_default
+returns-in_default c = search versioned-laws
+
+pub loop-place-smaller-in-Given : goal.loop-place-smaller-in-Given
+loop-place-smaller-in-Given c = search sought-nearer
+
+pub loop-place-preserved-in-Given : goal.loop-place-preserved-in-Given
+loop-place-preserved-in-Given c = search versioned-laws
+
+pub loop-place-smaller : goal.loop-place-smaller
+loop-place-smaller c = search sought-nearer
+
+pub loop-place-preserved : goal.loop-place-preserved
+loop-place-preserved c = search versioned-laws
