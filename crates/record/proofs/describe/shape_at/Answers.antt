@@ -1,3 +1,4 @@
+use borrow.Enum.Refused.{opened}
 use Rattle.record.proofs.DescribeLaws.{shape-laws}
 use Rattle.record.proofs.describe.shape_at.Goals as goal
 
@@ -11,4 +12,4 @@ pub returns-in-Padding : goal.returns-in-Padding
 returns-in-Padding c = search shape-laws
 
 pub returns-in_default : goal.returns-in_default
-returns-in_default c = search shape-laws
+returns-in_default c = search (shape-laws, opened)

@@ -1,0 +1,13 @@
+use mathlib.Core.Path.{◌≡◌}
+use Prim.Native.Nat.{◌-◌}
+use lib.ListN.{length}
+use Rattle.record.specs.Stretch.{text_of}
+use Rattle.record.specs.Steps.{members_at}
+use Rattle.definition.specs.Bitfields.{check_members}
+use Rattle.compare.proofs.bitfields.check_members.Given as goal
+
+abbrev pub invariant-loop-was : goal.invariant-loop-was
+invariant-loop-was l = check_members (text_of l.old l.owner) (members_at l.stream l.pool l.is.at) (members_at l.past l.old l.initial.cursor.at) ≡ check_members (text_of l.old l.owner) (members_at l.stream l.pool l.is.at) (members_at l.past l.old l.cursor.at)
+
+abbrev pub decreases-loop-was : goal.decreases-loop-was
+decreases-loop-was l = length l.past - l.cursor.at

@@ -1,0 +1,12 @@
+use Rattle.drafts.proofs.SettleLaws.{settle-refused, settle-legible, settle-small, settle_read}
+use borrow.Author.Rules.{rules}
+use Rattle.drafts.proofs.editing.settle.Goals as goal
+
+pub returns-in-Refused : goal.returns-in-Refused
+returns-in-Refused c = search settle-refused
+
+pub store-requires : goal.store-requires
+store-requires c = (search settle-legible, search rules, search settle-small)
+
+pub returns : goal.returns
+returns c = search settle_read

@@ -1,0 +1,12 @@
+use Prim.Native.Nat.{◌-◌}
+use Rattle.drafts.proofs.MarkedLaws.{ranked-start, ranked-on, ranked-end}
+use Rattle.drafts.proofs.marking.fill_ranks.Goals as goal
+
+pub loop-i-init : goal.loop-i-init
+loop-i-init c = search ranked-start
+
+pub loop-i-preserved : goal.loop-i-preserved
+loop-i-preserved c = search ranked-on
+
+pub returns : goal.returns
+returns c = search ranked-end

@@ -1,0 +1,13 @@
+use Prim.Native.Nat.{◌-◌}
+use Rattle.drafts.proofs.MarkedLaws.{marking-start, marking-on, marking-end, texts-on, texts-end}
+use native.Mathlib.Omega.{arith}
+use Rattle.drafts.proofs.marking.mark_row.Goals as goal
+
+pub loop-k-init : goal.loop-k-init
+loop-k-init c = (search marking-start, omega arith)
+
+pub loop-k-preserved : goal.loop-k-preserved
+loop-k-preserved c = (search (marking-on, texts-on), omega arith)
+
+pub returns : goal.returns
+returns c = search (marking-end, texts-end)

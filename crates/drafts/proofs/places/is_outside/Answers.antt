@@ -1,0 +1,16 @@
+use mathlib.Core.Path.{refl}
+use Prim.Native.Nat.{◌-◌}
+use Rattle.drafts.proofs.PlaceLaws.{any-on, any_here, any-end}
+use Rattle.drafts.proofs.places.is_outside.Goals as goal
+
+pub loop-i-init : goal.loop-i-init
+loop-i-init c = refl
+
+pub returns-then-row_outside : goal.returns-then-row_outside
+returns-then-row_outside c = search any_here
+
+pub loop-i-preserved : goal.loop-i-preserved
+loop-i-preserved c = search any-on
+
+pub returns : goal.returns
+returns c = search any-end

@@ -1,0 +1,8 @@
+use Rattle.drafts.proofs.PlaceLaws.{row-free, row-outside}
+use Rattle.drafts.proofs.places.row_outside.Goals as goal
+
+pub returns-then-shelf-row-eq0 : goal.returns-then-shelf-row-eq0
+returns-then-shelf-row-eq0 c = search row-free
+
+pub returns : goal.returns
+returns c = search row-outside

@@ -1,0 +1,14 @@
+use mathlib.Core.Path.{refl}
+use Prim.Native.Nat.{◌-◌}
+use Rattle.drafts.proofs.PutLaws.{putting-start, putting-on, putting-end, row_on, row-end}
+use native.Mathlib.Omega.{arith}
+use Rattle.drafts.proofs.writing.put_row.Goals as goal
+
+pub loop-k-init : goal.loop-k-init
+loop-k-init c = (putting-start (omega arith) (omega arith) refl, omega arith)
+
+pub loop-k-preserved : goal.loop-k-preserved
+loop-k-preserved c = (search (putting-on, row_on), omega arith)
+
+pub returns : goal.returns
+returns c = search (putting-end, row-end)

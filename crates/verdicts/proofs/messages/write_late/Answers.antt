@@ -1,0 +1,12 @@
+use Rattle.record.specs.Base.{bytes}
+use Rattle.record.specs.Fill.{joined}
+use Rattle.verdicts.specs.Template.{pick_of, filled}
+use Rattle.definition.specs.Verdicts.{message_of, late}
+use Rattle.verdicts.proofs.messages.write_late.Goals as goal
+
+pub write_three-requires : goal.write_three-requires
+write_three-requires c = tt
+
+pub returns : goal.returns
+unfolding bytes joined pick_of filled message_of late
+returns c = c.write_three.ensures

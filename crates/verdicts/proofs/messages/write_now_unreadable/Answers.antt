@@ -1,0 +1,12 @@
+use Rattle.record.specs.Base.{bytes}
+use Rattle.record.specs.Fill.{joined}
+use Rattle.verdicts.specs.Template.{pick_of, filled}
+use Rattle.definition.specs.Verdicts.{message_of, now_unreadable}
+use Rattle.verdicts.proofs.messages.write_now_unreadable.Goals as goal
+
+pub write_one-requires : goal.write_one-requires
+write_one-requires c = tt
+
+pub returns : goal.returns
+unfolding bytes joined pick_of filled message_of now_unreadable
+returns c = c.write_one.ensures
