@@ -15,6 +15,7 @@ use Rattle.record.specs.Scalars.{Scalar}
 use Rattle.record.specs.Schema.{Schema}
 use Rattle.record.specs.Letters.{odd_letter}
 use Rattle.record.specs.Commands.{start, commands_at}
+use Rattle.record.specs.Judge.{advanced}
 use Rattle.record.specs.Reading.{Rec, rec, read, refuse, Parsed, ok, parse, parsed, sizes_of, stream_limit, pool_limit, concluded, reading}
 use Rattle.record.specs.declared.text.Text.{Text}
 use Rattle.record.specs.declared.command.Cursor.{Cursor}
@@ -45,7 +46,7 @@ chain-long side p k [] [] c = omega arith
 chain-long side p k [] (d ∷ ds) c = absurd c
 chain-long side p k (z ∷ zs) [] c = absurd c
 chain-long side p k (z ∷ zs) (d ∷ ds) c =
-    let a = chain-long side p _ zs ds c.1 in
+    let a = chain-long side p (advanced k (get_or z 0 0) (length z)) zs ds c.1 in
     let b = length-append z (joined zs) in
     let n = c.0.sized in
     omega arith

@@ -1,5 +1,5 @@
-// The exported calls, for programs in C and Rust: include/menqachu.h declares them. They are the calls of compare, layout, pointers, load, drafts
-// and texts; what each promises is a line of specs/Guarantees.
+// The exported calls, as menqachu_c hands them to programs in C and Rust. They are the calls of compare, layout, pointers, load, drafts and texts; what
+// each promises is a line of specs/Guarantees.
 #![tactic(auto)]
 ghost use Rattle.std.specs.Prelude.{[]};
 ghost use Rattle.record.specs.Reading.{Rec, rec};
@@ -22,8 +22,7 @@ use record::refusal::Side;
 use texts::back::pairs_compared;
 
 // A current record against a released one.
-#[unsafe(no_mangle)]
-pub extern "C" fn menqachu_check(
+pub fn menqachu_check(
     stream: &[u8],
     pool: &[u8],
     past: &[u8],
@@ -38,8 +37,7 @@ pub extern "C" fn menqachu_check(
 }
 
 // The layouts of a record, read as released or as current.
-#[unsafe(no_mangle)]
-pub extern "C" fn menqachu_list(
+pub fn menqachu_list(
     released: bool,
     stream: &[u8],
     pool: &[u8],
@@ -55,8 +53,7 @@ pub extern "C" fn menqachu_list(
 }
 
 // The owner of a name in a current record.
-#[unsafe(no_mangle)]
-pub extern "C" fn menqachu_owner(stream: &[u8], pool: &[u8], name: &[u8]) -> OwnerFields
+pub fn menqachu_owner(stream: &[u8], pool: &[u8], name: &[u8]) -> OwnerFields
     ensures { let cur : Rec = lent stream.now pool.now in
         OwnerPromise cur name.now result }
 {
@@ -64,8 +61,7 @@ pub extern "C" fn menqachu_owner(stream: &[u8], pool: &[u8], name: &[u8]) -> Own
 }
 
 // Whether the pointers of a current record name what they must.
-#[unsafe(no_mangle)]
-pub extern "C" fn menqachu_pointers(stream: &[u8], pool: &[u8]) -> Answer
+pub fn menqachu_pointers(stream: &[u8], pool: &[u8]) -> Answer
     ensures { let cur : Rec = lent stream.now pool.now in
         PointersPromise cur result }
 {
@@ -73,16 +69,14 @@ pub extern "C" fn menqachu_pointers(stream: &[u8], pool: &[u8]) -> Answer
 }
 
 // A pair of records for a burn-in, whose check gives the wanted outcome.
-#[unsafe(no_mangle)]
-pub extern "C" fn menqachu_load(outcome: u32, seed: u32, out: &mut [u8]) -> Answer
+pub fn menqachu_load(outcome: u32, seed: u32, out: &mut [u8]) -> Answer
     ensures { LoadPromise outcome seed out.old out.new result }
 {
     load(outcome, seed, out)
 }
 
 // The number of layouts in which a draft and a released record differ.
-#[unsafe(no_mangle)]
-pub extern "C" fn menqachu_draft_count(draft: &[u8], past: &[u8], old: &[u8]) -> DraftAnswer
+pub fn menqachu_draft_count(draft: &[u8], past: &[u8], old: &[u8]) -> DraftAnswer
     ensures { let copy : Rec = lent past.now old.now in
         DraftCountPromise copy draft.now result }
 {
@@ -90,8 +84,7 @@ pub extern "C" fn menqachu_draft_count(draft: &[u8], past: &[u8], old: &[u8]) ->
 }
 
 // A structure or a family added to a draft.
-#[unsafe(no_mangle)]
-pub extern "C" fn menqachu_draft_add(
+pub fn menqachu_draft_add(
     changed: usize,
     draft: &mut [u8],
     more: &[u8],
@@ -107,8 +100,7 @@ pub extern "C" fn menqachu_draft_add(
 }
 
 // The first structure or family of a name taken out of a draft.
-#[unsafe(no_mangle)]
-pub extern "C" fn menqachu_draft_remove(
+pub fn menqachu_draft_remove(
     changed: usize,
     draft: &mut [u8],
     name: &[u8],
@@ -122,24 +114,21 @@ pub extern "C" fn menqachu_draft_remove(
 }
 
 // How many pairs of bytes the comparison of two names looks at, for tests.
-#[unsafe(no_mangle)]
-pub extern "C" fn menqachu_pairs_compared(a: &[u8], b: &[u8]) -> usize
+pub fn menqachu_pairs_compared(a: &[u8], b: &[u8]) -> usize
     ensures { PairsComparedPromise a.now b.now result }
 {
     pairs_compared(a, b)
 }
 
 // A shelf on which no name is held.
-#[unsafe(no_mangle)]
-pub extern "C" fn menqachu_shelf_new() -> Shelf
+pub fn menqachu_shelf_new() -> Shelf
     ensures { ShelfNewPromise result }
 {
     shelf_new()
 }
 
 // A draft held under a name.
-#[unsafe(no_mangle)]
-pub extern "C" fn menqachu_shelf_set(
+pub fn menqachu_shelf_set(
     shelf: Shelf,
     name: &[u8],
     draft: &[u8],
@@ -151,8 +140,7 @@ pub extern "C" fn menqachu_shelf_set(
 }
 
 // The draft of a name brought back.
-#[unsafe(no_mangle)]
-pub extern "C" fn menqachu_shelf_back(
+pub fn menqachu_shelf_back(
     shelf: Shelf,
     name: &[u8],
     draft: &mut [u8],
