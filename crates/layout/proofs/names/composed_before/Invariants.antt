@@ -6,7 +6,7 @@ use Rattle.layout.specs.Names.{composed}
 use Rattle.layout.proofs.names.composed_before.Given as goal
 
 abbrev pub invariant-loop-i : goal.invariant-loop-i
-invariant-loop-i l = before (composed l.l.f l.l.k l.l.b) (composed l.l.g l.l l.d) ≡ before (drop l.i (composed l.l.f l.l.k l.l.b)) (drop l.i (composed l.l.g l.l l.d))
+invariant-loop-i l = before (composed l.f l.k l.b) (composed l.g l.l l.d) ≡ before (drop l.i (composed l.f l.k l.b)) (drop l.i (composed l.g l.l l.d))
 
 abbrev pub decreases-loop-i : goal.decreases-loop-i
 decreases-loop-i l = l.n - l.i

@@ -1,3 +1,4 @@
+use borrow.Enum.Refused.{opened}
 use Rattle.layout.proofs.SpotLaws.{first-laws}
 use Rattle.layout.proofs.spots.first_spot.Goals as goal
 
@@ -8,7 +9,7 @@ pub returns-in_default : goal.returns-in_default
 returns-in_default c = search first-laws
 
 pub returns-in_default-command : goal.returns-in_default-command
-returns-in_default-command c = search first-laws
+returns-in_default-command c = search (first-laws, opened)
 
 pub returns : goal.returns
 returns c = search first-laws

@@ -10,12 +10,12 @@ slice_bounds-arrange_types-end-4 c = cut-long _ _ (search rules)
 
 pub arrange_types-requires : goal.arrange_types-requires
 arrange_types-requires c = (
-  cuts-agree c.args.scratch.now c.fill_handles-n.new.1.0 c.fill_handles-n.result (search rules) (search rules),
-  cut_small c.fill_handles-n.new.1.0 c.fill_handles-n.result (search rules) (search rules),
+  cuts-agree c.args.scratch.now c.fill_handles-n.new.out c.fill_handles-n.result (search rules) (search rules),
+  cut_small c.fill_handles-n.new.out c.fill_handles-n.result (search rules) (search rules),
 )
 
 pub returns : goal.returns
 returns c = (
-  table_is _ _ (search rules) _ _ c.arrange_types.new.1.1.0 _ c.arrange_types.result c.fill_handles-n.ensures.0 c.fill_handles-n.ensures.1 c.arrange_types.ensures.0 (search rules),
-  cut-few c.fill_handles-n.new.1.0 c.fill_handles-n.result _ _ c.arrange_types.ensures.1 (search rules),
+  table_is _ _ (search rules) _ _ c.arrange_types.new.types _ c.arrange_types.result c.fill_handles-n.ensures.0 c.fill_handles-n.ensures.1 c.arrange_types.ensures.0 (search rules),
+  cut-few c.fill_handles-n.new.out c.fill_handles-n.result _ _ c.arrange_types.ensures.1 (search rules),
 )
