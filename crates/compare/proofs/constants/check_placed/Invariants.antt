@@ -8,7 +8,7 @@ use Rattle.definition.specs.Constants.{check_constants_in}
 use Rattle.compare.proofs.constants.check_placed.Given as goal
 
 abbrev pub invariant-loop-i : goal.invariant-loop-i
-invariant-loop-i l = (l.i ≤ length l.table) × (check_constants_in (structs_at l.stream l.pool 0) (constants_at l.stream l.pool 0) (map (placed_constant l.past l.old) l.table) ≡ check_constants_in (structs_at l.stream l.pool 0) (constants_at l.stream l.pool 0) (map (placed_constant l.past l.old) (drop l.i l.table)))
+invariant-loop-i l = (l.i ≤ length l.table) × (check_constants_in (structs_at l.stream l.pool 0) (constants_at l.stream l.pool 0) (map (placed_constant l.old_stream l.old_pool) l.table) ≡ check_constants_in (structs_at l.stream l.pool 0) (constants_at l.stream l.pool 0) (map (placed_constant l.old_stream l.old_pool) (drop l.i l.table)))
 
 abbrev pub decreases-loop-i : goal.decreases-loop-i
 decreases-loop-i l = length l.table - l.i

@@ -8,7 +8,7 @@ use Rattle.compare.proofs.FieldLaws.{Visited, TypesOn}
 use Rattle.compare.proofs.fields.check_fields.Given as goal
 
 abbrev pub invariant-loop-i : goal.invariant-loop-i
-invariant-loop-i l = TypesOn (rec l.past l.old (scalars_of l.rows)) l.shipped (types_of (rec l.stream l.pool (scalars_of l.rows))) (types_of (rec l.past l.old (scalars_of l.rows))) l.i × Visited (rec l.stream l.pool (scalars_of l.rows)) (rec l.past l.old (scalars_of l.rows)) l.types l.shipped l.cover l.i × (length l.types ≤ length l.cover) × (length l.cover ≡ length l.initial.cover)
+invariant-loop-i l = TypesOn (rec l.old_stream l.old_pool (scalars_of l.rows)) l.old_types (types_of (rec l.stream l.pool (scalars_of l.rows))) (types_of (rec l.old_stream l.old_pool (scalars_of l.rows))) l.i × Visited (rec l.stream l.pool (scalars_of l.rows)) (rec l.old_stream l.old_pool (scalars_of l.rows)) l.types l.old_types l.cover l.i × (length l.types ≤ length l.cover) × (length l.cover ≡ length l.initial.cover)
 
 abbrev pub decreases-loop-i : goal.decreases-loop-i
-decreases-loop-i l = length l.shipped - l.i
+decreases-loop-i l = length l.old_types - l.i

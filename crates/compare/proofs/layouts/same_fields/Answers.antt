@@ -10,6 +10,5 @@ same_ahead-requires c = (search cursor-sound, search cursor-sound)
 
 pub returns : goal.returns
 returns c =
-    let d = c in
-    let pre = d.before.before.before.before.before.before.before.before.before.requires in
-    fields-same _ _ _ _ _ _ _ _ _ _ pre.0.0 pre.1.0 d.before.first-spot.ensures d.first-spot2.ensures c.same_ahead.ensures
+    let pre = c.requires in
+    fields-same _ _ _ _ _ _ _ _ _ _ pre.0.0 pre.1.0 c.first_spot-is.ensures c.first_spot-was.ensures c.same_ahead.ensures

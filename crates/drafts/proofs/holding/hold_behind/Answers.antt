@@ -2,7 +2,7 @@ use Rattle.drafts.proofs.HoldLaws.{hold-spaced, hold-need, hold-room, hold-name,
 use Rattle.drafts.proofs.holding.hold_behind.Goals as goal
 
 pub overflow_add-need : goal.overflow_add-need
-overflow_add-need c = let p = c.requires in record { fits = hold-need _ _ _ _ p.0.settable p.0.eight _ p.0.sizes-are _ p.0.end_is _ _ p.1 c.well-formed.1.1.1.1.1.1.1.0.1 }
+overflow_add-need c = let p = c.requires in record { fits = hold-need _ _ _ _ p.0.settable p.0.eight _ p.0.sizes-are _ p.0.end_is _ _ p.1 (search rules) }
 
 pub returns-then-held-need : goal.returns-then-held-need
 returns-then-held-need c = let p = c.requires in hold-over _ _ _ _ p.0.settable p.0.eight _ p.0.sizes-are _ p.0.end_is _ _ p.1 _ _ c.if-held-need.true c.no_room.ensures c.with_shelf.ensures

@@ -66,7 +66,7 @@ returns-in-15 c = rw c.in-15.is
 
 pub returns-in-0 : goal.returns-in-0
 unfolding operands or_none bytes
-returns-in-0 c = rw c.in-0.keys16
+returns-in-0 c = rw c.in-0.in-0-own.keys16
 
 pub returns-in-0-2 : goal.returns-in-0-2
 returns-in-0-2 c = search no-letters

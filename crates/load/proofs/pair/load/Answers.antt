@@ -24,4 +24,4 @@ pub returns-in-43 : goal.returns-in-43
 returns-in-43 c = search load-43
 
 pub returns-in_default : goal.returns-in_default
-returns-in_default c = let m = c.in_default.rest in load-unknown _ _ _ (omega arith) m.0.0.0.0.0.1 m.0.0.0.0.1 m.0.0.0.1 m.0.0.1 m.0.1 m.1
+returns-in_default c = let m = c.in_default.in_default-own.rest in load-unknown _ _ _ (omega arith) m.0.0.0.0.0.1 m.0.0.0.0.1 m.0.0.0.1 m.0.0.1 m.0.1 m.1
