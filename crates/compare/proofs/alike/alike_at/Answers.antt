@@ -5,7 +5,7 @@ use Rattle.compare.proofs.alike.alike_at.Goals as goal
 pub returns-then-alike_numbers : goal.returns-then-alike_numbers
 returns-then-alike_numbers c = λ t.
     let a = c.args in
-    alike-there a.stream.now a.pool.now a.old-stream.now a.old-pool.now a.a a.b _ _ c.alike_numbers.ensures c.if-alike_numbers.true c.alike_texts.ensures t
+    alike-there a.stream.now a.pool.now a.old_stream.now a.old_pool.now a.a a.b _ _ c.alike_numbers.ensures c.if-alike_numbers.true c.alike_texts.ensures t
 
 pub returns : goal.returns
 returns c = λ t. absurd (false≢true t)

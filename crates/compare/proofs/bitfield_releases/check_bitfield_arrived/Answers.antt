@@ -1,3 +1,4 @@
+use borrow.Enum.Refused.{opened}
 use Rattle.compare.proofs.BitfieldReleaseLaws.{bitfield-laws}
 use Rattle.compare.proofs.bitfield_releases.check_bitfield_arrived.Goals as goal
 
@@ -5,4 +6,4 @@ pub returns-in-Passed : goal.returns-in-Passed
 returns-in-Passed c = search bitfield-laws
 
 pub returns : goal.returns
-returns c = search bitfield-laws
+returns c = search (bitfield-laws, opened)

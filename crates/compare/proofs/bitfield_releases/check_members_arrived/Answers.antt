@@ -1,3 +1,4 @@
+use borrow.Enum.Refused.{opened}
 use Prim.Native.Nat.{◌-◌}
 use Rattle.record.proofs.TextLaws.{kept, ended}
 use Rattle.record.proofs.StepLaws.{members-nearer}
@@ -14,4 +15,4 @@ pub loop-m-preserved : goal.loop-m-preserved
 loop-m-preserved c = search (kept, members-laws)
 
 pub returns-in_default-verdict : goal.returns-in_default-verdict
-returns-in_default-verdict c = search (ended, members-laws)
+returns-in_default-verdict c = search (ended, members-laws, opened)

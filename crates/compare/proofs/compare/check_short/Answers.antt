@@ -2,8 +2,8 @@ use borrow.Author.Rules.{rules}
 use Rattle.compare.proofs.compare.check_short.Goals as goal
 
 pub check_lent-requires : goal.check_lent-requires
-check_lent-requires c = (
-  (
+check_lent-requires c = record {
+  index_room = (
     search rules,
     search rules,
     record {
@@ -16,6 +16,6 @@ check_lent-requires c = (
       scratch-room = search rules;
       old-scratch-room = search rules;
     },
-  ),
-  search rules,
-)
+  );
+  fact = search rules;
+}

@@ -1,3 +1,4 @@
+use borrow.Enum.Refused.{opened}
 use Prim.Native.Nat.{◌-◌}
 use Rattle.record.proofs.TextLaws.{kept, ended}
 use Rattle.compare.proofs.ConstantLaws.{placed-laws}
@@ -8,7 +9,7 @@ pub loop-i-preserved : goal.loop-i-preserved
 loop-i-preserved c = (search rules, search (kept, placed-laws))
 
 pub returns-in_default : goal.returns-in_default
-returns-in_default c = search (ended, placed-laws)
+returns-in_default c = search (ended, placed-laws, opened)
 
 pub returns : goal.returns
 returns c = search (ended, placed-laws)

@@ -1,3 +1,4 @@
+use borrow.Enum.Refused.{opened}
 use Prim.Native.Nat.{◌-◌}
 use Rattle.compare.proofs.FieldLaws.{table-typed, visited-start, visited-on, visited-end, violated-passed, types-here, types-end, types-on, types-stop}
 use borrow.Author.Rules.{rules}
@@ -13,7 +14,7 @@ pub loop-i-preserved : goal.loop-i-preserved
 loop-i-preserved c = (search types-on, search visited-on, search rules, search rules)
 
 pub returns-in_default : goal.returns-in_default
-returns-in_default c = (search types-stop, λ e. absurd (violated-passed _ (search rules) e))
+returns-in_default c = (search (types-stop, opened), λ e. absurd (violated-passed _ (search rules) e))
 
 pub returns : goal.returns
 returns c = (search types-end, λ e. search visited-end)

@@ -1,3 +1,4 @@
+use borrow.Enum.Refused.{opened}
 use Rattle.layout.proofs.SpotLaws.{spots-nearer}
 use Rattle.compare.proofs.FieldLaws.{places-here, places-end, places-on, places-stop}
 use Rattle.compare.proofs.fields.check_places.Goals as goal
@@ -15,4 +16,4 @@ pub loop-was-preserved : goal.loop-was-preserved
 loop-was-preserved c = search places-on
 
 pub returns-in_default-verdict : goal.returns-in_default-verdict
-returns-in_default-verdict c = search places-stop
+returns-in_default-verdict c = search (places-stop, opened)

@@ -1,3 +1,4 @@
+use borrow.Enum.Refused.{opened}
 use Rattle.compare.proofs.FirstReleaseLaws.{enum-arrival-laws}
 use Rattle.compare.proofs.first_releases.check_enum_arrival.Goals as goal
 
@@ -11,4 +12,4 @@ pub returns-in-Passed : goal.returns-in-Passed
 returns-in-Passed c = search enum-arrival-laws
 
 pub returns : goal.returns
-returns c = search enum-arrival-laws
+returns c = search (enum-arrival-laws, opened)

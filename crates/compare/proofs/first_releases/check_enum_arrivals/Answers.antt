@@ -1,3 +1,4 @@
+use borrow.Enum.Refused.{opened}
 use Prim.Native.Nat.{◌-◌}
 use Rattle.record.proofs.TextLaws.{kept, ended}
 use Rattle.record.proofs.StepLaws.{enums-nearer}
@@ -17,4 +18,4 @@ pub loop-is-preserved : goal.loop-is-preserved
 loop-is-preserved c = search (kept, enum-arrivals-laws)
 
 pub returns-in_default-verdict : goal.returns-in_default-verdict
-returns-in_default-verdict c = search (ended, enum-arrivals-laws)
+returns-in_default-verdict c = search (ended, enum-arrivals-laws, opened)

@@ -1,3 +1,4 @@
+use borrow.Enum.Refused.{opened}
 use Rattle.record.proofs.TextLaws.{kept, ended}
 use Rattle.compare.proofs.FirstReleaseLaws.{plugin-keys-nearer, keys-begin, key-arrivals-laws}
 use Rattle.compare.proofs.first_releases.check_key_arrivals.Goals as goal
@@ -15,4 +16,4 @@ pub loop-is-preserved : goal.loop-is-preserved
 loop-is-preserved c = search (kept, key-arrivals-laws)
 
 pub returns-in_default-verdict : goal.returns-in_default-verdict
-returns-in_default-verdict c = search (ended, key-arrivals-laws)
+returns-in_default-verdict c = search (ended, key-arrivals-laws, opened)

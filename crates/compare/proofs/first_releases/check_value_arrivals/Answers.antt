@@ -1,3 +1,4 @@
+use borrow.Enum.Refused.{opened}
 use Prim.Native.Nat.{◌-◌}
 use Rattle.record.proofs.TextLaws.{kept, ended}
 use Rattle.record.proofs.StepLaws.{values-nearer}
@@ -14,4 +15,4 @@ pub loop-is-preserved : goal.loop-is-preserved
 loop-is-preserved c = search (kept, value-arrivals-laws)
 
 pub returns-in_default-verdict : goal.returns-in_default-verdict
-returns-in_default-verdict c = search (ended, value-arrivals-laws)
+returns-in_default-verdict c = search (ended, value-arrivals-laws, opened)

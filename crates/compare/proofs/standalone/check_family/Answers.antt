@@ -1,3 +1,4 @@
+use borrow.Enum.Refused.{opened}
 use Rattle.compare.proofs.StandaloneLaws.{family-standing, family-owned, family-shipped}
 use Rattle.compare.proofs.standalone.check_family.Goals as goal
 
@@ -8,4 +9,4 @@ pub returns-in-Passed : goal.returns-in-Passed
 returns-in-Passed c = search family-owned
 
 pub returns : goal.returns
-returns c = search family-standing
+returns c = search (family-standing, opened)

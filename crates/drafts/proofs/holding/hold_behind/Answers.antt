@@ -1,3 +1,4 @@
+use borrow.Author.Rules.{rules}
 use Rattle.drafts.proofs.HoldLaws.{hold-spaced, hold-need, hold-room, hold-name, hold-over, hold-done}
 use Rattle.drafts.proofs.holding.hold_behind.Goals as goal
 
