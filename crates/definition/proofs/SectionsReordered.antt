@@ -25,7 +25,6 @@ use Rattle.record.specs.declared.refusal.Side.{Side}
 use Rattle.record.specs.declared.refusal.Side.TheVariants.{Current, Released}
 use Rattle.record.specs.declared.letters.Letters.{Letters}
 use Rattle.record.specs.declared.letters.Letters.TheVariants.{Good, Odd}
-use Rattle.record.proofs.Basics.{both}
 use Rattle.record.proofs.Accepted.{Accepted, accepting}
 use Rattle.record.proofs.Accepted as A
 use Rattle.definition.specs.Verdicts.{pass}

@@ -11,7 +11,6 @@ use lib.ListN.{get_or}
 use Rattle.record.specs.Base.{Str}
 use Rattle.record.specs.Schema.{Field}
 use Rattle.record.specs.Commands.{step_at, commands_at}
-use Rattle.record.specs.Lists.{fields}
 use Rattle.record.specs.Steps.{fields_at}
 use Rattle.record.specs.Reading.{Opened, opened_at, opened}
 use Rattle.record.specs.declared.command.Cursor.{Cursor}

@@ -10,10 +10,10 @@ use lib.Dec.{eqb}
 use borrow.Author.Tests.{eqb-true}
 use Rattle.record.specs.Base.{Str, bytes, first}
 use Rattle.record.specs.Stretch.{text_of}
-use Rattle.record.specs.Schema.{Field, Struct, Family}
+use Rattle.record.specs.Schema.{Field, Struct}
 use Rattle.record.specs.Commands.{operands, wide, widths, width_with, width_of, place, commands_at, field_at, variant_at}
 use Rattle.record.specs.Lists.{a_variant, opt_of, field_of, variant_of, listed, keys, fields, variants}
-use Rattle.record.specs.Steps.{keys_at, field_key_at, fields_at, variants_at, structs_at, families_at, struct_in, family_in}
+use Rattle.record.specs.Steps.{keys_at, field_key_at, fields_at, variants_at, families_at, family_in}
 use Rattle.record.specs.Seek.{after_at, SoughtFrom}
 use Rattle.record.specs.Owner.{Types, referenced, has_slot, variant_fields, fields_in, type_fields}
 use Rattle.record.specs.Index.{first_place, sought_at, struct_placed, family_placed, Indexed, Declared}

@@ -3,7 +3,7 @@
 use mathlib.Core.Path.{◌≡◌, refl, sym, ap, subst, ◌∙◌}
 use mathlib.Core.List.Memᴰ
 use mathlib.Core.List.{List, Memᴰ}
-use mathlib.Core.Option.{none, some}
+use mathlib.Core.Option.{some}
 use mathlib.Core.Bool.{Bool, true, false}
 use mathlib.Core.Logic.{◌⊎◌, inl, inr}
 use Prim.Native.Nat.{ℕ, suc, ◌≤◌, ◌<◌}
@@ -21,7 +21,7 @@ use Rattle.record.specs.Index.{Indexed}
 use Rattle.record.specs.References.{types_at}
 use Rattle.record.specs.Marks.{target_at, type_place, IsBody, Clear, Visited, Full, Change, as_it_was, a-field, a-type, Led, Walked, TypeWalked, BodyWalked}
 use Rattle.record.specs.Ownership.{Through, Claimed, RootWalked, Within, Resolved, OwnerMarks, RootsMarked, OwnersMarked}
-use Rattle.record.specs.Versioned.{InSlot, InSlots}
+use Rattle.record.specs.Versioned.{InSlot}
 use Rattle.record.specs.declared.versioned.Versioned.{Versioned}
 use Rattle.record.specs.declared.command as D
 use Rattle.record.specs.declared.command.Cursor.{Cursor}

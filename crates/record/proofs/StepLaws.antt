@@ -1,18 +1,17 @@
 -- The laws of each list, as the branches of its iterator and of its look-up need them. Written by tools/lists.py. Assumes nothing.
 use mathlib.Core.Path.{◌≡◌, sym, ap, ap₂, subst, ◌∙◌}
-use mathlib.Core.List.{List, [], ◌∷◌}
-use mathlib.Core.Option.{Option, none, some}
+use mathlib.Core.List.{[], ◌∷◌}
 use mathlib.Core.Bool.{Bool, true, false}
 use Prim.Native.Nat.{ℕ, suc, ◌+◌, ◌-◌, ◌≤◌, ◌<◌}
 use native.Mathlib.Omega.{arith}
 use lib.ListN.{length, drop}
-use Rattle.record.specs.Base.{Str, bytes, eqs, find, first}
+use Rattle.record.specs.Base.{Str, bytes, eqs}
 use Rattle.record.specs.Stretch.{text_of}
-use Rattle.record.specs.Schema.{Alias, BitField, Const, Enum, EnumValue, Family, Field, Heading, Key, Member, Struct, Variant, Version}
-use Rattle.record.specs.Commands.{operands, wide, widths, width_with, width_of, place, commands_at, alias_at, bitfield_at, constant_at, enum_at, family_at, field_at, head_at, key_at, member_at, struct_at, value_at, variant_at, version_at}
+use Rattle.record.specs.Schema.{BitField, EnumValue, Family, Member}
+use Rattle.record.specs.Commands.{operands, wide, widths, width_with, width_of, place, alias_at, bitfield_at, constant_at, enum_at, family_at, field_at, head_at, key_at, member_at, struct_at, value_at, variant_at, version_at}
 use Rattle.record.specs.Lists.{alias_of, aliases, bitfield_of, bitfields, constant_of, constants, enum_of, enums, families, family_of, field_of, fields, head_of, heads, key_of, keys, member_of, members, struct_of, structs, unstored, value_of, values, variant_of, variants, version_of, versions}
 use Rattle.record.specs.Seek.{SoughtFrom}
-use Rattle.record.specs.Steps.{field_key_at, FieldPlace, FieldPlaced, heads_at, heads_of, heads_left, HeadsFrom, constants_at, constants_of, constants_left, ConstantsFrom, aliases_at, aliases_of, aliases_left, AliasesFrom, values_at, values_of, values_left, ValuesFrom, value_found, value_in, enums_at, enums_of, enums_left, EnumsFrom, members_at, members_of, members_left, MembersFrom, member_found, member_in, bitfields_at, bitfields_of, bitfields_left, BitfieldsFrom, bitfield_found, bitfield_in, keys_at, keys_of, keys_left, KeysFrom, fields_at, fields_of, fields_left, FieldsFrom, structs_at, structs_of, structs_left, StructsFrom, variants_at, variants_of, variants_left, VariantsFrom, families_at, families_of, families_left, FamiliesFrom, family_found, family_in, unstored_at, unstored_of, unstored_left, UnstoredFrom, versions_at, versions_of, versions_left, VersionsFrom}
+use Rattle.record.specs.Steps.{field_key_at, FieldPlace, FieldPlaced, heads_at, heads_of, HeadsFrom, constants_at, constants_of, constants_left, ConstantsFrom, aliases_at, aliases_of, aliases_left, AliasesFrom, values_at, values_of, values_left, ValuesFrom, value_found, value_in, enums_at, enums_of, enums_left, EnumsFrom, members_at, members_of, members_left, MembersFrom, member_found, member_in, bitfields_at, bitfields_of, bitfields_left, BitfieldsFrom, bitfield_found, bitfield_in, keys_at, keys_of, KeysFrom, fields_at, fields_of, fields_left, FieldsFrom, structs_at, structs_of, structs_left, StructsFrom, variants_at, variants_of, variants_left, VariantsFrom, families_at, families_of, families_left, FamiliesFrom, family_found, family_in, unstored_at, unstored_of, UnstoredFrom, versions_at, versions_of, versions_left, VersionsFrom}
 use Rattle.record.specs.declared.command as D
 use Rattle.record.specs.declared.command.Cursor.{Cursor}
 use Rattle.record.specs.declared.seek.Between.TheVariants.{Anything, Nothing, Keys, Fields}
@@ -20,7 +19,6 @@ use Rattle.record.specs.declared.seek.Sought.{Sought}
 use Rattle.record.specs.declared.seek.Sought.TheVariants.{Nowhere, At}
 use Rattle.record.proofs.SeekLaws.{sought-stands, sought-nearer, listed-none, listed-some}
 use Rattle.record.proofs.ListLaws.{find_none, find-hit, find-miss}
-use Rattle.record.specs.declared.lists.HeadStep.{HeadStep}
 use Rattle.record.specs.declared.lists.HeadStep.TheVariants.{NoHead, AHead}
 use Rattle.record.specs.declared.lists.ConstantStep.{ConstantStep}
 use Rattle.record.specs.declared.lists.ConstantStep.TheVariants.{NoConstant, AConstant}

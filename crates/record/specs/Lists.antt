@@ -3,7 +3,7 @@ use Rattle.std.specs.Prelude.{List, [], ◌∷◌, Bool, true, false, ◌||◌, 
 use Rattle.std.proofs.Math.Option.{Option, none, some}
 use Rattle.record.specs.Base.{Str, first, or_else}
 use Rattle.record.specs.Stretch.{text_of}
-use Rattle.record.specs.Schema.{Heading, Value, integer, words, Const, Alias, Enum, EnumValue, BitField, Member}
+use Rattle.record.specs.Schema.{Heading, integer, words, Const, Alias, Enum, EnumValue, BitField, Member}
 use Rattle.record.specs.Schema.{Key, Field, Struct, Variant, Family, Version}
 use Rattle.record.specs.Commands.{head_at, constant_at, alias_at, enum_at, value_at, bitfield_at, member_at}
 use Rattle.record.specs.Commands.{struct_at, family_at, variant_at, field_at, key_at, version_at}

@@ -1,5 +1,5 @@
-// A reader of a record's commands: the stream and a place in it, thin over the cursor. Each function here is proved by hand, which a struct that
-// carries a slice asks for; `command_at` takes a plain slice and a place, so whoever calls it is proved as usual.
+// A reader of a record's commands: the stream and a place in it, thin over the cursor. `command_at` takes a plain slice and a place, for a caller
+// that holds no reader.
 ghost use Rattle.std.specs.Prelude.{◌≡◌};
 ghost use Rattle.record.specs.Commands.{start, step_at};
 

@@ -1,4 +1,3 @@
-use Prim.Native.Nat.{◌-◌}
 use Rattle.record.proofs.SeekLaws.{sought-nearer}
 use Rattle.layout.proofs.FieldSizeLaws.{sizing-start, sizing-end, sizing-field}
 use Rattle.layout.proofs.field_sizes.fill_sizes.Goals as goal

@@ -1,4 +1,3 @@
-use Prim.Native.Nat.{◌-◌}
 use Rattle.layout.proofs.FrontLaws.{fronts-clear, fronts-more}
 use borrow.Author.Rules.{rules}
 use Rattle.layout.proofs.fronts.fill_fronts.Goals as goal

@@ -1,4 +1,3 @@
-use Prim.Native.Nat.{◌-◌}
 use Rattle.record.proofs.SeekLaws.{after-nearer}
 use Rattle.layout.proofs.HandleLaws.{fill_start, fill-count, fill_end, fill-laws, room-laws, place-small, open-stop, open-laws}
 use borrow.Author.Rules.{rules}

@@ -1,4 +1,3 @@
-use Prim.Native.Nat.{◌-◌}
 use Rattle.record.proofs.SeekLaws.{sought-nearer}
 use Rattle.layout.proofs.HandleLaws.{fill_start, fill-count, fill_end, fill-laws, place-room, sought-small, places-end, places-here, places-fit, places-few}
 use Rattle.layout.proofs.handles.fill_places.Goals as goal

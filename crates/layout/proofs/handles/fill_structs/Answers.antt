@@ -1,4 +1,3 @@
-use Prim.Native.Nat.{◌-◌}
 use Rattle.record.proofs.SeekLaws.{after-nearer}
 use Rattle.layout.proofs.HandleLaws.{fill_start, fill-count, fill_end, fill-laws, taken-room, place-small, places-stop, place-laws, places-fit, families-fit, begun-start, begun-end, begun-laws}
 use Rattle.layout.proofs.handles.fill_structs.Goals as goal

@@ -1,5 +1,4 @@
 use native.Mathlib.Omega.{arith}
-use Prim.Native.Nat.{◌-◌}
 use Rattle.record.proofs.SeekLaws.{sought-nearer}
 use Rattle.layout.proofs.LineLaws.{field-lines-start, field-lines-next, field-lines-end}
 use borrow.Author.Rules.{rules}

@@ -1,4 +1,3 @@
-use Prim.Native.Nat.{◌-◌}
 use native.Mathlib.Omega.{arith}
 use Rattle.layout.proofs.LineLaws.{listing_start, listing-next, listing-end, type-premise}
 use borrow.Author.Rules.{rules}

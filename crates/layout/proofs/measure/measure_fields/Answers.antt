@@ -1,5 +1,4 @@
 use native.Mathlib.Omega.{arith}
-use Prim.Native.Nat.{◌-◌}
 use Rattle.record.proofs.SeekLaws.{sought-nearer}
 use Rattle.layout.proofs.LineLaws.{measuring-start, measuring-next, measuring-end}
 use Rattle.layout.proofs.measure.measure_fields.Goals as goal

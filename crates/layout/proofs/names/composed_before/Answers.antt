@@ -1,4 +1,3 @@
-use Prim.Native.Nat.{◌-◌}
 use Rattle.record.proofs.TextLaws.{kept, ended}
 use Rattle.layout.proofs.NameLaws.{composed-skip, turn-laws, turn_below, turn-above, turn-next}
 use borrow.Author.Rules.{rules}

@@ -1,4 +1,3 @@
-use Prim.Native.Nat.{◌-◌}
 use Rattle.record.proofs.TextLaws.{kept, ended}
 use Rattle.layout.proofs.SortLaws.{ascends-laws}
 use borrow.Author.Rules.{rules}

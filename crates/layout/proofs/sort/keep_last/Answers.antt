@@ -1,4 +1,3 @@
-use Prim.Native.Nat.{◌-◌}
 use Rattle.layout.proofs.SortLaws.{keep-start, keep-laws, keep-end}
 use borrow.Author.Rules.{rules}
 use Rattle.layout.proofs.sort.keep_last.Goals as goal

@@ -1,4 +1,3 @@
-use Prim.Native.Nat.{◌-◌}
 use Rattle.layout.proofs.SortLaws.{merged-start, right-inside, left-inside, merged-right, merged-left, merged-end}
 use Rattle.layout.proofs.sort.merge_runs.Goals as goal
 

@@ -1,5 +1,4 @@
 use Rattle.layout.proofs.SortLaws.{pass-nearer, passed-step, passed-end}
-use Prim.Native.Nat.{◌-◌}
 use mathlib.Core.Path.{refl}
 use borrow.Author.Rules.{rules}
 use Rattle.layout.proofs.sort.pass.Goals as goal

@@ -1,4 +1,3 @@
-use Prim.Native.Nat.{◌-◌}
 use Rattle.layout.proofs.SortLaws.{sort-start, sort-turn, sort-end}
 use borrow.Author.Rules.{rules}
 use Rattle.layout.proofs.sort.sort_handles.Goals as goal

@@ -1,4 +1,3 @@
-use Prim.Native.Nat.{◌-◌}
 use Rattle.record.proofs.SeekLaws.{sought-nearer}
 use Rattle.layout.proofs.SpotLaws.{others-here, others-laws}
 use Rattle.layout.proofs.spots.pass_fields.Goals as goal

@@ -1,4 +1,3 @@
-use Prim.Native.Nat.{◌-◌}
 use Rattle.layout.proofs.TableLaws.{seek-start, seek-up, seek-down, seek-laws}
 use Rattle.layout.proofs.table.find_parts.Goals as goal
 

@@ -1,4 +1,3 @@
-use Prim.Native.Nat.{◌-◌}
 use Rattle.record.proofs.SeekLaws.{after-nearer}
 use Rattle.record.proofs.EndLaws.{noting-on, noting-place, noting-entry, noting-laws}
 use borrow.Author.Rules.{rules}

@@ -1,4 +1,3 @@
-use Prim.Native.Nat.{◌-◌}
 use Rattle.record.proofs.IndexLaws.{headless-length, headless-laws}
 use borrow.Author.Rules.{rules}
 use Rattle.record.proofs.index.clear.Goals as goal

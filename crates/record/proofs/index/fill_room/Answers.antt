@@ -1,4 +1,3 @@
-use Prim.Native.Nat.{◌-◌}
 use Rattle.record.proofs.SeekLaws.{after-nearer}
 use Rattle.record.proofs.IndexLaws.{fill_start, fill_end, fill_on, fill-place, fill-entry}
 use Rattle.record.proofs.index.fill_room.Goals as goal

@@ -1,4 +1,3 @@
-use Prim.Native.Nat.{◌-◌}
 use Rattle.record.proofs.SeekLaws.{sought-nearer}
 use Rattle.record.proofs.IndexLaws.{scanned-start, scanned-laws}
 use Rattle.record.proofs.index.scan_declared.Goals as goal

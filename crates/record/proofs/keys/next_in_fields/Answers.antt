@@ -1,6 +1,5 @@
 use Rattle.record.proofs.KeyLaws.{keyless-here, field-key-laws}
 use Rattle.record.proofs.SeekLaws.{sought-nearer}
-use Prim.Native.Nat.{◌-◌}
 use Rattle.record.proofs.keys.next_in_fields.Goals as goal
 
 pub loop-after-init : goal.loop-after-init

@@ -1,5 +1,4 @@
 use Rattle.record.proofs.KeyLaws.{idle-at, walk-laws, struct-nearer}
-use Prim.Native.Nat.{◌-◌}
 use Rattle.record.proofs.keys.next_in_structs.Goals as goal
 
 pub loop-after-init : goal.loop-after-init

@@ -1,4 +1,3 @@
-use Prim.Native.Nat.{◌-◌}
 use Rattle.record.proofs.LeadLaws.{leads-long, leading-start, leading-eight, leading-on, leading_end, leading_length}
 use Rattle.record.proofs.leads.fill_leads.Goals as goal
 

@@ -1,4 +1,3 @@
-use Prim.Native.Nat.{◌-◌}
 use Rattle.record.proofs.TextLaws.{kept}
 use Rattle.record.proofs.StepLaws.{bitfields-nearer, find-bitfield-laws}
 use Rattle.record.proofs.lists.find_bitfield.Goals as goal

@@ -1,4 +1,3 @@
-use Prim.Native.Nat.{◌-◌}
 use Rattle.record.proofs.TextLaws.{kept}
 use Rattle.record.proofs.StepLaws.{families-nearer, find-family-laws}
 use Rattle.record.proofs.lists.find_family.Goals as goal

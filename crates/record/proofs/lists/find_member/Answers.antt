@@ -1,4 +1,3 @@
-use Prim.Native.Nat.{◌-◌}
 use Rattle.record.proofs.TextLaws.{kept}
 use Rattle.record.proofs.StepLaws.{members-nearer, find-member-laws}
 use Rattle.record.proofs.lists.find_member.Goals as goal

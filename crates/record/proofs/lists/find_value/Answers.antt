@@ -1,4 +1,3 @@
-use Prim.Native.Nat.{◌-◌}
 use Rattle.record.proofs.TextLaws.{kept}
 use Rattle.record.proofs.StepLaws.{values-nearer, find-value-laws}
 use Rattle.record.proofs.lists.find_value.Goals as goal

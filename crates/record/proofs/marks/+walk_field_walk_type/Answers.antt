@@ -1,5 +1,4 @@
 use lib.ListN.{length-set}
-use borrow.Enum.Refused.{opened}
 use Rattle.record.proofs.PlaceLaws.{places-nearer}
 use Rattle.record.proofs.MarkLaws.{field_laws, field-less, field-ready, field-length, going-length, going_less, going-ready, place_inside, place-number, visit-inside, type-seen, type-starts, type-ends, type-goes}
 use Rattle.record.proofs.marks.+walk_field_walk_type.Goals as goal

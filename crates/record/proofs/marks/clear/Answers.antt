@@ -1,5 +1,4 @@
 use native.Mathlib.Omega.{arith}
-use Prim.Native.Nat.{◌-◌}
 use lib.ListN.{length-set}
 use Rattle.record.proofs.MarkLaws.{clear-laws}
 use Rattle.record.proofs.marks.clear.Goals as goal

@@ -1,4 +1,3 @@
-use Prim.Native.Nat.{◌-◌}
 use Rattle.record.proofs.OwnerLaws.{none_yet, none-eight, none-marked, none-ends, none_other, one_found}
 use Rattle.record.proofs.ownership.marked_name.Goals as goal
 

@@ -1,4 +1,3 @@
-use Prim.Native.Nat.{◌-◌}
 use Rattle.record.proofs.TextLaws.{kept, ended}
 use Rattle.record.proofs.ReadLaws.{commands-laws, commands-nearer}
 use Rattle.record.proofs.read.read_commands.Goals as goal

@@ -1,4 +1,3 @@
-use Prim.Native.Nat.{◌-◌}
 use Rattle.record.proofs.SeekLaws.{passing-here, after-nearer, seek-laws}
 use Rattle.record.proofs.seek.seek.Goals as goal
 

@@ -1,4 +1,3 @@
-use Prim.Native.Nat.{◌-◌}
 use Rattle.record.proofs.SeekLaws.{sought-nearer}
 use Rattle.record.proofs.VastLaws.{ending-begin, ending-laws}
 use Rattle.record.proofs.vast.ends_past.Goals as goal

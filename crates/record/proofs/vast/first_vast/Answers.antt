@@ -1,4 +1,3 @@
-use Prim.Native.Nat.{◌-◌}
 use Rattle.record.proofs.TextLaws.{kept, ended}
 use Rattle.record.proofs.VastLaws.{vast-laws, plain-nearer, front-nearer}
 use Rattle.record.proofs.vast.first_vast.Goals as goal

@@ -1,4 +1,3 @@
-use Prim.Native.Nat.{◌-◌}
 use Rattle.record.proofs.SeekLaws.{after-nearer}
 use Rattle.record.proofs.VastLaws.{onward-here, type-laws}
 use Rattle.record.proofs.vast.next_type.Goals as goal

@@ -1,4 +1,3 @@
-use Prim.Native.Nat.{◌-◌}
 use Rattle.record.proofs.BoundLaws.{summing, words-done, words_more, words-over}
 use borrow.Author.Rules.{rules}
 use Rattle.record.proofs.vast.scalar_bound.Goals as goal

@@ -1,4 +1,3 @@
-use Prim.Native.Nat.{◌-◌}
 use Rattle.record.proofs.SeekLaws.{after-nearer, after-whole}
 use Rattle.record.proofs.BoundLaws.{totalling, total-more, within-is}
 use Rattle.record.proofs.vast.within.Goals as goal

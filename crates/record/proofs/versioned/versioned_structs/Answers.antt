@@ -1,4 +1,3 @@
-use Prim.Native.Nat.{◌-◌}
 use Rattle.record.proofs.SeekLaws.{sought-nearer}
 use Rattle.record.proofs.VersionedLaws.{versioned-laws}
 use Rattle.record.proofs.versioned.versioned_structs.Goals as goal

@@ -1,4 +1,3 @@
-use Prim.Native.Nat.{◌-◌}
 use Rattle.record.proofs.WordLaws.{skip-none, skip-more}
 use borrow.Author.Rules.{rules}
 use Rattle.record.proofs.words.skip.Goals as goal

@@ -1,4 +1,3 @@
-use Prim.Native.Nat.{◌-◌}
 use Rattle.record.proofs.TextLaws.{kept, ended}
 use Rattle.record.proofs.WordLaws.{before-laws, before-skip}
 use Rattle.record.proofs.words.text_before_by_bytes.Goals as goal

@@ -1,4 +1,3 @@
-use Prim.Native.Nat.{◌-◌}
 use mathlib.Core.Path.{◌∙◌}
 use Rattle.texts.proofs.LetterLaws.{all-on, all_end}
 use Rattle.texts.proofs.TextLaws.{ended}

@@ -1,4 +1,3 @@
-use Prim.Native.Nat.{◌-◌}
 use Rattle.texts.proofs.LetterLaws.{stepped-none, plain-all, plain-on, passed_on, passed-odd, passed-last}
 use borrow.Author.Rules.{rules}
 use Rattle.texts.proofs.utf8.odd_letter.Goals as goal

@@ -1,4 +1,3 @@
-use Prim.Native.Nat.{◌-◌}
 use native.Mathlib.Omega.{arith}
 use Rattle.texts.proofs.LetterLaws.{stepped-none, pass_on, pass-room, pass-stop, pass-done}
 use borrow.Author.Rules.{rules}
