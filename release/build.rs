@@ -1,4 +1,4 @@
-//! Links the static library that `rt staticlib menqachu` writes, or the one in the folder that MENQACHU_ARCHIVE names, and
+//! Links the static library that tools/archive.sh makes, or the one in the folder that MENQACHU_ARCHIVE names, and
 //! tells the command which one it is.
 use std::env;
 use std::path::{Path, PathBuf};
@@ -11,7 +11,7 @@ fn main() {
     let archive = folder.join("libmenqachu.a");
     if !archive.exists() {
         println!(
-            "cargo:warning=there is no {}: run `rt staticlib menqachu` in the repository's top, or name the folder \
+            "cargo:warning=there is no {}: run `tools/archive.sh` in the repository's top, or name the folder \
              of the archive in MENQACHU_ARCHIVE",
             archive.display()
         );

@@ -18,22 +18,25 @@ stdout = open(f'crates/{crate}/stdout').read()
 def tried(work):
     """How many vectors the program says differ (1 for a program that prints something else than its stdout), none if it does not say,
     and what `rt try` prints."""
-    run = subprocess.run(['rt', 'try', crate], cwd=work, capture_output=True, text=True)
+    folder = os.path.join(work, 'crates', crate)
+    data = os.listdir(os.path.join(folder, 'data')) if os.path.isdir(os.path.join(folder, 'data')) else []
+    words = [word for name in sorted(data) for word in ('--data', f'{name}=data/{name}')]
+    run = subprocess.run(['rt', 'try', *words], cwd=folder, stdin=subprocess.DEVNULL, capture_output=True, text=True)
     said = run.stdout + run.stderr
-    if 'ok: the native program at -O0' in said:
+    if 'run=ended status=0' not in said:
+        return None, said
+    if run.stdout == stdout:
         return 0, said
-    # rt shows what the program printed from the first byte that is not its stdout's
-    shown = re.search(r'at byte (\d+), expected ".*", found "(.*)\\n"', said)
     if not re.fullmatch(r'\d+ vectors, 0 differ\n', stdout):
-        return 1 if 'the native program at -O0 ended, but did not write what is expected' in said else None, said
-    line = shown and re.fullmatch(r'\d+ vectors, (\d+) differ', stdout[:int(shown[1])] + shown[2])
+        return 1, said
+    line = re.fullmatch(r'\d+ vectors, (\d+) differ\n', run.stdout)
     return int(line[1]) if line else None, said
 
 
 caught = 0
 with tempfile.TemporaryDirectory() as top:
     work = os.path.join(top, 'copy')
-    shutil.copytree('.', work, ignore=shutil.ignore_patterns('target', '.git', 'oracle'))
+    shutil.copytree('.', work, ignore=shutil.ignore_patterns('target', 'out', '.git', 'oracle'))
     subprocess.run(['git', 'init', '-q', work], check=True)
     count, said = tried(work)
     if count != 0:
@@ -52,7 +55,7 @@ with tempfile.TemporaryDirectory() as top:
             print(f'{number}: caught, {count} differ', flush=True)
         elif count == 0:
             print(f'{number}: NOT CAUGHT  {old} -> {new}', flush=True)
-        elif 'the native program' in said:
+        elif 'run=ended' in said:
             print(f'{number}: PRINTS NO COUNT  {old} -> {new}\n{said}', flush=True)
         else:
             print(f'{number}: DOES NOT COMPILE  {old} -> {new}\n{said}', flush=True)

@@ -2,13 +2,13 @@
 # Makes the command `release` as one file to hand over: linked statically, so that it runs on any x86-64 Linux without a
 # prover, Rust or a library. tools/standalone.sh [FOLDER]: FOLDER/release and FOLDER/release.sha256, by default in
 # target/standalone. `release --version` has the revision of the proved library, as it is in this repository, and the
-# SHA-256 of its archive, which is that of `rt staticlib menqachu` or the one in the folder that MENQACHU_ARCHIVE names.
+# SHA-256 of its archive, which is that of tools/archive.sh or the one in the folder that MENQACHU_ARCHIVE names.
 set -eu
 cd "$(dirname "$0")/.."
 archive=${MENQACHU_ARCHIVE:-target/staticlib}/libmenqachu.a
 folder=${1:-target/standalone}
 if [ ! -f "$archive" ]; then
-    echo "there is no $archive: run \`rt staticlib menqachu\` first" >&2
+    echo "there is no $archive: run \`tools/archive.sh\` first" >&2
     exit 1
 fi
 mkdir -p "$folder"

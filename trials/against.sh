@@ -1,6 +1,6 @@
 #!/bin/sh
 # Two archives of the exported calls in one run: against.sh SOURCES FOLDER, with SOURCES as scale.sh has it. FOLDER is the root
-# of another clone with target/staticlib/libmenqachu.a as `rt staticlib menqachu` leaves it, or a folder with libmenqachu.a.
+# of another clone with target/staticlib/libmenqachu.a as tools/archive.sh leaves it, or a folder with libmenqachu.a.
 # Prints the time of each call of this clone's archive beside the other's, and the instructions of the check, as Markdown.
 # Needs cargo, objcopy and valgrind. Times are worth something on a machine that does nothing else; instructions always are.
 set -eu

@@ -17,7 +17,7 @@ archive=$(sha256sum <../target/staticlib/libmenqachu.a | cut -c1-16)
 cpu=$(sed -n 's/^model name[^:]*: //p' /proc/cpuinfo | head -n 1)
 sed '/^Measured on /,$d' "$page" >"$measured"
 {
-    echo "Measured on $(date -u +%F) at commit $(git rev-parse --short=12 HEAD), archive $archive (the front of its SHA-256), on $(nproc) cores of"
+    echo "Measured on $(date -u +%F) at commit $(git rev-parse --short=12 HEAD), archive $archive (the front of its SHA-256), made by $(rt version), on $(nproc) cores of"
     echo "$cpu; the machine's load was $(cut -d' ' -f1 /proc/loadavg) before the run began."
     echo
     target/release/trials bench

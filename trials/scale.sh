@@ -1,8 +1,8 @@
 #!/bin/sh
 # The whole run against the Rust, with its recorded seeds: scale.sh SOURCES [REPORT]. SOURCES is the folder of layout.rs,
 # schema.rs and released.rs of metadata-gen; REPORT is the Markdown file that is written, RESULTS.md here if none is named.
-# Needs target/staticlib/libmenqachu.a and target/rlib as `rt staticlib menqachu` leaves them, cargo and valgrind. Every step
-# must find nothing amiss, or the script ends there with a status other than 0. SHARE is the part of the counts to run, in
+# Needs target/staticlib/libmenqachu.a and crates/*/out as tools/archive.sh leaves them, cargo and valgrind. Every step must
+# find nothing amiss, or the script ends there with a status other than 0. SHARE is the part of the counts to run, in
 # per cent: with 1 it takes some minutes and shows that all steps work.
 set -eu
 [ $# -ge 1 ] || {
@@ -40,7 +40,7 @@ MENQACHU_ARCHIVE=$searching CARGO_TARGET_DIR=$searching/cargo nice -n 15 cargo b
 {
     printf '# Results of the run of %s\n\n' "$(date -u +%F)"
     printf 'Written by scale.sh. The archive begins its SHA-256 with %s; ' "$(sha256sum <"$archive" | cut -c1-16)"
-    printf 'the commit was %s.\n\n' "$(git rev-parse --short=12 HEAD)"
+    printf 'the commit was %s, the kit %s.\n\n' "$(git rev-parse --short=12 HEAD)" "$(rt version)"
 } >"$report"
 step "checks, seed 101, $(of 500000) pairs" "$trials" checks 101 "$(of 500000)" "$(of 500)"
 step "lists, seed 102, $(of 100000) records" "$trials" lists 102 "$(of 100000)"

@@ -74,7 +74,7 @@ fn without_the_archive() {
     let output = cargo.output().expect("cargo runs");
     let said = String::from_utf8_lossy(&output.stderr).into_owned();
     assert!(output.status.success(), "{said}");
-    assert!(said.contains("there is no ") && said.contains("run `rt staticlib menqachu`"), "{said}");
+    assert!(said.contains("there is no ") && said.contains("run `tools/archive.sh`"), "{said}");
 }
 
 /// Cargo of an older Rust says which one is asked for.

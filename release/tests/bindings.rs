@@ -85,5 +85,5 @@ fn without_the_archive() {
         script.env("MENQACHU_ARCHIVE", folder.path()).arg(folder.path()).output().expect("the script");
     let errors = String::from_utf8_lossy(&output.stderr).into_owned();
     assert_eq!(output.status.code(), Some(1));
-    assert!(errors.contains("run `rt staticlib menqachu` first"), "{errors}");
+    assert!(errors.contains("run `tools/archive.sh` first"), "{errors}");
 }

@@ -225,7 +225,7 @@ fn shelf_of(bytes: &[u8]) -> Shelf {
 
 /// What the check program prints.
 fn printed(given: &[u8]) -> Vec<u8> {
-    let mut child = Command::new(top().join("target/bin/release_check"))
+    let mut child = Command::new(top().join("crates/release_check/out/release_check"))
         .stdin(Stdio::piped())
         .stdout(Stdio::piped())
         .spawn()

@@ -216,7 +216,7 @@ fn a_pair_is_the_program_s_input() {
     let pair = folder.path().join("pair");
     for outcome in OUTCOMES {
         std::fs::write(&pair, load_whole(outcome, 322).1).expect("a file");
-        let program = top().join("target/bin/release_check");
+        let program = top().join("crates/release_check/out/release_check");
         let input = std::fs::File::open(&pair).expect("the pair");
         let ran = std::process::Command::new(program).stdin(input).output().expect("the check program");
         let printed = String::from_utf8_lossy(&ran.stdout).into_owned();
