@@ -1,5 +1,6 @@
 // Drafts: types that come and go, with the number of layouts changed beside them (02, W-210), and drafts under names (02, W-211).
 #![tactic(auto)]
+
 pub mod adding;
 pub mod changes;
 pub mod closing;

@@ -1,5 +1,6 @@
 // The load: specs/ has the definition of the pairs, proofs/ that each has its outcome.
 #![tactic(auto)]
+
 pub mod commands;
 pub mod drawn;
 pub mod draws;

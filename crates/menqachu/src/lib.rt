@@ -1,6 +1,7 @@
 // The exported calls, as menqachu_c hands them to programs in C and Rust. They are the calls of compare, layout, pointers, load, drafts and texts; what
 // each promises is a line of specs/Guarantees.
 #![tactic(auto)]
+
 ghost use Rattle.std.specs.Prelude.{[]};
 ghost use Rattle.record.specs.Reading.{Rec, rec};
 ghost use Rattle.menqachu.specs.Guarantees.{lent};
@@ -22,13 +23,7 @@ use record::refusal::Side;
 use texts::back::pairs_compared;
 
 // A current record against a released one.
-pub fn menqachu_check(
-    stream: &[u8],
-    pool: &[u8],
-    past: &[u8],
-    old: &[u8],
-    out: &mut [u8],
-) -> Answer
+pub fn menqachu_check(stream: &[u8], pool: &[u8], past: &[u8], old: &[u8], out: &mut [u8]) -> Answer
     ensures { let cur : Rec = lent stream.now pool.now in
         let rel : Rec = lent past.now old.now in
         CheckPromise cur rel out.old out.new result }
@@ -37,12 +32,7 @@ pub fn menqachu_check(
 }
 
 // The layouts of a record, read as released or as current.
-pub fn menqachu_list(
-    released: bool,
-    stream: &[u8],
-    pool: &[u8],
-    out: &mut [u8],
-) -> Answer
+pub fn menqachu_list(released: bool, stream: &[u8], pool: &[u8], out: &mut [u8]) -> Answer
     ensures { let cur : Rec = lent stream.now pool.now in
         ListPromise released cur out.old out.new result }
 {
@@ -128,12 +118,7 @@ pub fn menqachu_shelf_new() -> Shelf
 }
 
 // A draft held under a name.
-pub fn menqachu_shelf_set(
-    shelf: Shelf,
-    name: &[u8],
-    draft: &[u8],
-    held: &mut [u8],
-) -> ShelfAnswer
+pub fn menqachu_shelf_set(shelf: Shelf, name: &[u8], draft: &[u8], held: &mut [u8]) -> ShelfAnswer
     ensures { ShelfSetPromise shelf name.now draft.now held.old held.new result }
 {
     shelf_set(shelf, name, draft, held)

@@ -1,5 +1,6 @@
 // The exported calls, for programs in C and Rust: include/menqachu.h declares them, and menqachu has what each does.
 #![tactic(auto)]
+
 ghost use Rattle.std.specs.Prelude.{[]};
 ghost use Rattle.record.specs.Reading.{Rec, rec};
 ghost use Rattle.menqachu.specs.Guarantees.{lent};

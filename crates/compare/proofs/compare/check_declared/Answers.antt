@@ -8,7 +8,7 @@ pub loop-pass-init : goal.loop-pass-init
 loop-pass-init c = (search rules, search rules, search rules, search rules, search rules)
 
 pub run_declared-verdict-requires : goal.run_declared-verdict-requires
-run_declared-verdict-requires c = record { le_pass = (search rules, search rules, search rules, search rules, search rules); fact = search rules; }
+run_declared-verdict-requires c = record { le_pass = (search rules, search rules, search rules, search rules, search rules); fact = search rules }
 
 pub loop-pass-preserved : goal.loop-pass-preserved
 loop-pass-preserved c = (search passes_on, search rules, search rules, search rules, search rules)

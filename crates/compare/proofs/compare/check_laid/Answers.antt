@@ -8,7 +8,7 @@ pub loop-pass-init : goal.loop-pass-init
 loop-pass-init c = (search rules, search noted-start, search rules, search rules, search rules, search rules)
 
 pub run_laid-verdict-requires : goal.run_laid-verdict-requires
-run_laid-verdict-requires c = record { le_pass = (search rules, search rules, search rules, search rules); fact = (search rules, search rules, λ e. search noted-ready); }
+run_laid-verdict-requires c = record { le_pass = (search rules, search rules, search rules, search rules); fact = (search rules, search rules, λ e. search noted-ready) }
 
 pub loop-pass-preserved : goal.loop-pass-preserved
 loop-pass-preserved c = (search passes_on, search noted-on, search rules, search rules, search rules, search rules)

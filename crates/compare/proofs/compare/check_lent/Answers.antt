@@ -3,7 +3,8 @@ use Rattle.compare.proofs.compare.check_lent.Goals as goal
 
 pub check_prepared-requires : goal.check_prepared-requires
 check_prepared-requires c =
-    let pre = c.requires in record { table_rooms = record {
+    let pre = c.requires in record {
+      table_rooms = record {
         types-room = omega (arith, pre.index_room.2.types-room);
         constants-room = omega (arith, pre.index_room.2.constants-room);
         shipped-room = omega (arith, pre.index_room.2.shipped-room);
@@ -12,4 +13,6 @@ check_prepared-requires c =
         marks-room = omega (arith, pre.index_room.2.marks-room);
         scratch-room = omega (arith, pre.index_room.2.scratch-room);
         old-scratch-room = omega (arith, pre.index_room.2.old-scratch-room);
-      }; fact = (pre.fact.0, pre.fact.1, c.prepare-facts.ensures); }
+      };
+      fact = (pre.fact.0, pre.fact.1, c.prepare-facts.ensures);
+    }

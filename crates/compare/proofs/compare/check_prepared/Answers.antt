@@ -4,7 +4,7 @@ use borrow.Author.Rules.{rules}
 use Rattle.compare.proofs.compare.check_prepared.Goals as goal
 
 pub check_declared-declared-requires : goal.check_declared-declared-requires
-check_declared-declared-requires c = record { old_stream_len_bound = (search rules, search rules, search rules); fact = search rules; }
+check_declared-declared-requires c = record { old_stream_len_bound = (search rules, search rules, search rules); fact = search rules }
 
 pub returns-in_default : goal.returns-in_default
 returns-in_default c = search (declared-stop, opened)
