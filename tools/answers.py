@@ -1,23 +1,20 @@
-"""Fills answers into printed proof files: each need whose name matches gets the answer, each `use` line is added once."""
-import re
+"""Writes what a function's proof answers: proofs/FUNCTION/Answers.antt and Invariants.antt of a crate."""
+import os
 
 
-def fill(path, uses, *pairs, unfolding=()):
-    text = open(path).read()
-    for pattern, answer in pairs:
-        text = re.sub(r'^(%s)( c(?: κs)?) = .*(?:\n    .*)*' % pattern,
-                      lambda m: m.group(1) + m.group(2) + ' = ' + answer, text, flags=re.M)
-    for pattern, names in unfolding:
-        text = re.sub(r'^((?:%s) : tie\.Need-.*\n)(?!unfolding)' % pattern,
-                      lambda m: m.group(1) + 'unfolding ' + names + '\n', text, flags=re.M)
-    for use in reversed(uses):
-        if use not in text:
-            text = use + '\n' + text
-    open(path, 'w').write(text)
+def write(crate, function, uses, goals):
+    """Each goal is a name, its answer and what is unfolded for it, if anything is."""
+    put(crate, function, 'Answers', uses, 'Goals', ''.join(
+        '\npub %s : goal.%s\n%s%s c = %s\n' % (name, name, 'unfolding %s\n' % opened[0] if opened else '', name, answer)
+        for name, answer, *opened in goals))
 
 
-def loop(path, invariant, measure):
-    text = open(path).read()
-    text = re.sub(r'^(Inv-loop) (.*?) = .*', lambda m: '%s %s = %s' % (m.group(1), m.group(2), invariant), text, flags=re.M)
-    text = re.sub(r'^(μ-loop) (.*?) = .*', lambda m: '%s %s = %s' % (m.group(1), m.group(2), measure), text, flags=re.M)
-    open(path, 'w').write(text)
+def write_invariants(crate, function, uses, values):
+    put(crate, function, 'Invariants', uses, 'Given', ''.join('\nabbrev pub %s : goal.%s\n%s l = %s\n' % (n, n, n, v) for n, v in values))
+
+
+def put(crate, function, name, uses, goals, text):
+    folder = 'crates/%s/proofs/%s/' % (crate, function)
+    os.makedirs(folder, exist_ok=True)
+    uses = uses + ['use Rattle.%s.proofs.%s.%s as goal' % (crate, function.replace('/', '.'), goals)]
+    open(folder + name + '.antt', 'w').write(''.join(use + '\n' for use in uses) + text)

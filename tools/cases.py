@@ -139,7 +139,8 @@ def release_check():
     yield 'field_moved', scan('1.1.0', 4, 'moved', 4).parts() + was.parts(), MOVED
     yield 'generation_unraised', scan('1.1.0', 3, 'mode').parts() + was.parts(), UNRAISED
     yield 'release_repeated', was.parts() + was.parts(), REPEATED
-    # the root's name is three bytes at the front of the pool, and the first structure stands at 5: an entry left over in a table would read as the root
+    # the root's name is three bytes at the front of the pool, and the first structure stands at 5: an entry left over in a table would read as
+    # the root
     yield 'two_unchanged', unchanged('1.1.0').parts() + unchanged('1.0.0').parts(), '0\n'
     yield 'bytes_after', scan('1.1.0').parts() + was.parts() + b'more', '0\n'
     yield 'no_input', b'', '1 0 0\n'

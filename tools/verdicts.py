@@ -1,15 +1,16 @@
 #!/usr/bin/env python3
 """verdicts.py: writes what is said of each verdict, from the table below: specs/Verdicts.antt and proofs/Words.antt of crate definition, and of crate
-verdicts src/verdict.rt, src/messages.rt, specs/Meaning.antt, proofs/VerdictLaws.antt and the proof files of the functions in verdict.rt and
-messages.rt. Run from the repository's top; then `rt fmt`.
+verdicts src/verdict.rt, src/messages.rt, specs/Meaning.antt, proofs/VerdictLaws.antt and the answers of the functions in verdict.rt and messages.rt.
+Run from the repository's top; then `rt fmt` in crates/verdicts.
 
 A row: 01's number, 01's word, the arguments with their kinds, the message as layout.rs formats it.
 Kinds: `now` and `was` are texts of the current and of the released pool; u32, u64 and i64 are numbers; the others, each of a side where it has
 texts, are put together: `item` is what arrives in a release, `copy` the copy's release if it names one, `value` a constant's value, `layout` a
 layout's name, `described` a field's description, `standing` whether a family is standalone, `change` what a shipped layout gained."""
 import collections
-import os
 import re
+
+import answers
 
 ROWS = [
     (11, 'described', '',
@@ -106,38 +107,37 @@ ROWS = [
 # of a kind: the definition's type and how a message shows it; the code's type, the template's argument, and what it means over the pools
 Kind = collections.namedtuple('Kind', 'type shown field argument meant')
 KINDS = {
-    'now': Kind('Str', '%s', 'Text', 'Arg::Now(%s)', '(textOf {pool} %s)'),
-    'was': Kind('Str', '%s', 'Text', 'Arg::Was(%s)', '(textOf {old} %s)'),
+    'now': Kind('Str', '%s', 'Text', 'Arg::Now(%s)', '(text_of {pool} %s)'),
+    'was': Kind('Str', '%s', 'Text', 'Arg::Was(%s)', '(text_of {old} %s)'),
     'u32': Kind('ℕ', 'decimal %s', 'u32', 'Arg::Number(%s as u64)', '%s'),
     'u64': Kind('ℕ', 'decimal %s', 'u64', 'Arg::Number(%s)', '%s'),
     'i64': Kind('ℕ', 'signed %s', 'u64', 'Arg::Signed(%s)', '%s'),
-    'item/now': Kind('Item', 'itemText %s', 'Item', 'Arg::NowItem(%s)', '(itemOf {pool} %s)'),
-    'copy/was': Kind('Option Str', 'copyOf %s', 'OptText', 'Arg::WasCopy(%s)', '(optOf {old} %s)'),
-    'value/now': Kind('Str', '%s', 'ConstantValue', 'Arg::NowValue(%s)', '(constantText (valueMeant {pool} %s))'),
-    'value/was': Kind('Str', '%s', 'ConstantValue', 'Arg::WasValue(%s)', '(constantText (valueMeant {old} %s))'),
-    'layout/now': Kind('Str', '%s', 'TypeName', 'Arg::NowType(%s)', '(nameOf {pool} %s)'),
-    'layout/was': Kind('Str', '%s', 'TypeName', 'Arg::WasType(%s)', '(nameOf {old} %s)'),
-    'described/now': Kind('Str', '%s', 'Description', 'Arg::NowShape(%s)', '(describedAs {pool} %s)'),
-    'described/was': Kind('Str', '%s', 'Description', 'Arg::WasShape(%s)', '(describedAs {old} %s)'),
-    'standing': Kind('Bool', 'standingOf %s', 'bool', 'Arg::Standing(%s)', '%s'),
-    'change/now': Kind('Option Str', 'changeText %s', 'OptText', 'Arg::NowChange(%s)', '(optOf {pool} %s)'),
+    'item/now': Kind('Item', 'item_text %s', 'Item', 'Arg::NowItem(%s)', '(item_of {pool} %s)'),
+    'copy/was': Kind('Option Str', 'copy_of %s', 'OptText', 'Arg::WasCopy(%s)', '(opt_of {old} %s)'),
+    'value/now': Kind('Str', '%s', 'ConstantValue', 'Arg::NowValue(%s)', '(constant_text (value_meant {pool} %s))'),
+    'value/was': Kind('Str', '%s', 'ConstantValue', 'Arg::WasValue(%s)', '(constant_text (value_meant {old} %s))'),
+    'layout/now': Kind('Str', '%s', 'TypeName', 'Arg::NowType(%s)', '(name_of {pool} %s)'),
+    'layout/was': Kind('Str', '%s', 'TypeName', 'Arg::WasType(%s)', '(name_of {old} %s)'),
+    'described/now': Kind('Str', '%s', 'Description', 'Arg::NowShape(%s)', '(described_as {pool} %s)'),
+    'described/was': Kind('Str', '%s', 'Description', 'Arg::WasShape(%s)', '(described_as {old} %s)'),
+    'standing': Kind('Bool', 'standing_of %s', 'bool', 'Arg::Standing(%s)', '%s'),
+    'change/now': Kind('Option Str', 'change_text %s', 'OptText', 'Arg::NowChange(%s)', '(opt_of {pool} %s)'),
 }
 
 # where the code's types and the meanings stand
 TYPES = {'Text': 'record::text', 'OptText': 'record::operands', 'Description': 'record::describe', 'TypeName': 'layout::names',
          'Item': 'crate::arguments', 'ConstantValue': 'crate::arguments'}
-MEANINGS = {'textOf': 'Rattle·record.specs.Stretch', 'optOf': 'Rattle·record.specs.Lists', 'describedAs': 'Rattle·record.specs.Describe',
-            'nameOf': 'Rattle·layout.specs.Names', 'constantText': 'Rattle·definition.specs.Constants',
-            'itemOf': 'Rattle·verdicts·specs.specs.Arguments', 'valueMeant': 'Rattle·verdicts·specs.specs.Arguments'}
+MEANINGS = {'text_of': 'Rattle.record.specs.Stretch', 'opt_of': 'Rattle.record.specs.Lists', 'described_as': 'Rattle.record.specs.Describe',
+            'name_of': 'Rattle.layout.specs.Names', 'constant_text': 'Rattle.definition.specs.Constants',
+            'item_of': 'Rattle.verdicts.specs.Arguments', 'value_meant': 'Rattle.verdicts.specs.Arguments'}
 
 
 class Row:
     def __init__(self, number, word, arguments, message):
-        self.number, self.words, self.message = number, word, message
+        self.number, self.message = number, message
         self.word = 'w·' + word.replace(' ', '-')
-        parts = word.split()
-        self.name = parts[0] + ''.join(p.capitalize() for p in parts[1:])
-        self.variant = ''.join(p.capitalize() for p in parts)
+        self.name = word.replace(' ', '_')
+        self.variant = ''.join(p.capitalize() for p in word.split())
         self.arguments = [tuple(a.split(':')) for a in arguments.split()]
         self.kinds = {n: KINDS[k] for n, k in self.arguments}
 
@@ -174,61 +174,60 @@ def indented(text, after):
 
 def definition():
     """specs/Verdicts.antt"""
-    o = '''-- The verdicts: the words and numbers of 01, What a check returns, and the messages of layout.rs byte for byte. Written by tools/verdicts.py.
+    o = '''\
+-- The verdicts: the words and numbers of 01, What a check returns, and the messages of layout.rs byte for byte. Written by tools/verdicts.py.
 -- Assumes nothing.
-use mathlib.Core.List.{List, [], _∷_, _++_}
-use mathlib.Core.Option.{Option, none, some}
-use mathlib.Core.Bool.{Bool, true, false}
-use Prim.Native.Nat.{ℕ}
-use Rattle·record.specs.Base.{Str, bytes, decimal, signed}
-use Rattle·record.specs.Fill.{joined}
+use Rattle.std.specs.Prelude.{List, [], ◌∷◌, ◌++◌, Bool, true, false, ℕ}
+use Rattle.std.proofs.Math.Option.{Option, none, some}
+use Rattle.record.specs.Base.{Str, bytes, decimal, signed}
+use Rattle.record.specs.Fill.{joined}
 
 -- 01's word for each verdict
 pub data Word : Type 0 where
 %s
 
 -- and its number
-unfoldable pub wordNumber : Word → ℕ
+unfoldable pub word_number : Word → ℕ
 %s
 -- what a pass answers: nothing found, or a verdict's word and its message
 pub data Verdict : Type 0 where
   pass : Verdict
   stop : Word → Str → Verdict
 
-unfoldable pub verdictNumber : Verdict → ℕ
-verdictNumber pass = 0
-verdictNumber (stop w m) = wordNumber w
+unfoldable pub verdict_number : Verdict → ℕ
+verdict_number pass = 0
+verdict_number (stop w m) = word_number w
 
-unfoldable pub messageOf : Verdict → Str
-messageOf pass = []
-messageOf (stop w m) = m
+unfoldable pub message_of : Verdict → Str
+message_of pass = []
+message_of (stop w m) = m
 
 -- what arrives in a release; within is a value of an enum or a member of a bit field
 pub data Item : Type 0 where
-  aConstant anEnum aKey aBitfield : Str → Item
+  a_constant an_enum a_key a_bitfield : Str → Item
   within : Str → Str → Item
 
-unfoldable pub itemText : Item → Str
-itemText (aConstant n) = bytes "constant " ++ n
-itemText (anEnum n) = bytes "enum " ++ n
-itemText (aKey n) = bytes "plugin key " ++ n
-itemText (aBitfield n) = bytes "bit field " ++ n
-itemText (within o n) = o ++ (bytes "::" ++ n)
+unfoldable pub item_text : Item → Str
+item_text (a_constant n) = bytes "constant " ++ n
+item_text (an_enum n) = bytes "enum " ++ n
+item_text (a_key n) = bytes "plugin key " ++ n
+item_text (a_bitfield n) = bytes "bit field " ++ n
+item_text (within o n) = o ++ (bytes "::" ++ n)
 
 -- the release that the copy is of
-unfoldable pub copyOf : Option Str → Str
-copyOf none = bytes "a release before 0.8.0"
-copyOf (some r) = r
+unfoldable pub copy_of : Option Str → Str
+copy_of none = bytes "a release before 0.8.0"
+copy_of (some r) = r
 
-unfoldable pub standingOf : Bool → Str
-standingOf true = bytes "standalone"
-standingOf false = bytes "not standalone"
+unfoldable pub standing_of : Bool → Str
+standing_of true = bytes "standalone"
+standing_of false = bytes "not standalone"
 
 -- the field that a layout gained, or none of a new name
-unfoldable pub changeText : Option Str → Str
-changeText none = bytes "changed"
-changeText (some f) = bytes "gained " ++ f
-''' % (wrapped('  ', [r.word for r in TABLE], ' ', ' : Word'), ''.join('wordNumber %s = %d\n' % (r.word, r.number) for r in TABLE))
+unfoldable pub change_text : Option Str → Str
+change_text none = bytes "changed"
+change_text (some f) = bytes "gained " ++ f
+''' % (wrapped('  ', [r.word for r in TABLE], ' ', ' : Word'), ''.join('word_number %s = %d\n' % (r.word, r.number) for r in TABLE))
     for r in TABLE:
         shown = [r.kinds[p[1:-1]].shown % p[1:-1] if p[0] == '{' else 'bytes "%s"' % p for p in r.pieces()]
         named, stopped = ' '.join([r.name] + list(r.kinds)) + ' =', 'stop %s (joined (' % r.word
@@ -245,18 +244,14 @@ unfoldable pub %s : %s
 def numbers():
     """proofs/Words.antt"""
     o = '''-- No verdict has the number of an acceptance or of a refusal. Written by tools/verdicts.py. Assumes nothing.
-use Prim.Native.Nat.{_≤_}
+use Prim.Native.Nat.{◌≤◌}
 use lib.Dec.{lit≤}
-use Rattle·definition·specs.specs.Verdicts.{Word, wordNumber, %s}
+use Rattle.definition.specs.Verdicts.{Word, word_number, %s}
 
-pub word-large : (w : Word) → 11 ≤ wordNumber w
-unfolding wordNumber
+pub word-large : (w : Word) → 11 ≤ word_number w
+unfolding word_number
 %s''' % (', '.join(r.word for r in TABLE), ''.join('word-large %s = lit≤ tt\n' % r.word for r in TABLE))
     open(D + 'proofs/Words.antt', 'w').write(o)
-
-
-def snake(r):
-    return 'write_' + r.words.replace(' ', '_')
 
 
 def pattern(r, inside):
@@ -275,7 +270,7 @@ def meant(r, pool, old):
 def pools(r):
     """The lines of a contract that name the bytes of the pools that its message has texts of."""
     words = re.findall(r'\w+', meant(r, 'pool', 'old'))
-    return ''.join('        let %s : Str = now (%s .entry) in\n' % (p, p) for p in ('pool', 'old') if p in words)
+    return ''.join('let %s : Str = %s.entry.now in\n        ' % (p, p) for p in ('pool', 'old') if p in words)
 
 
 def type_uses(more=()):
@@ -300,20 +295,22 @@ def code():
     o = '''// What a pass answers: nothing, or the first violation with what its message names; a signed number is kept as its 64 bits.
 // Written by tools/verdicts.py.
 %s
-ghost use mathlib.Core.Path.{_≡_};
-ghost use Rattle·verdicts·specs.specs.Meaning.{numberFor};
+ghost use Rattle.std.specs.Prelude.{◌≡◌};
+ghost use Rattle.verdicts.specs.Meaning.{number_for};
 
+#[derive(Clone, Copy)]
 pub enum Verdict {
     Passed,
 ''' % type_uses()
     for r in TABLE:
-        o += '    %s,\n' % (r.variant + (' {\n' + ''.join('        %s: %s,\n' % (n, k.field) for n, k in r.kinds.items()) + '    }' if r.kinds else ''))
+        fields = ''.join('        %s: %s,\n' % (n, k.field) for n, k in r.kinds.items())
+        o += '    %s,\n' % (r.variant + (' {\n' + fields + '    }' if fields else ''))
     o += '''}
 
 impl Verdict {
     // 01's number, and 0 for none.
     pub fn number(self) -> u32
-        ensures { λ r. ⌜ r ≡ numberFor self ⌝ }
+        ensures { result ≡ number_for self }
     {
         match self {
             Verdict::Passed => 0,
@@ -323,38 +320,36 @@ impl Verdict {
     open(C + 'src/verdict.rt', 'w').write(o + '        }\n    }\n}\n')
     o = '''// The messages of the verdicts, written from their templates: a byte below 32 is the number of an argument. Written by tools/verdicts.py.
 %s
-ghost use Rattle·record.specs.Base.{Str};
+ghost use Rattle.record.specs.Base.{Str};
 %s
-ghost use Rattle·definition.specs.Verdicts as D;
-ghost use Rattle·definition.specs.Verdicts.{messageOf, %s};
-ghost use Rattle·verdicts·specs.specs.Template.{Writes};
-ghost use Rattle·verdicts·specs.specs.Meaning.{meaning};
+ghost use Rattle.definition.specs.Verdicts as D;
+ghost use Rattle.definition.specs.Verdicts.{message_of, %s};
+ghost use Rattle.verdicts.specs.Template.{Writes};
+ghost use Rattle.verdicts.specs.Meaning.{meaning};
 ''' % (type_uses(['use crate::template::%s;' % n for n in ['Arg', 'Written'] + [writer(r) for r in TABLE]] + ['use crate::verdict::Verdict;']),
        meaning_uses(ghost=True), ', '.join(r.name for r in TABLE))
     for r in TABLE:
         o += '''
 // %d
-fn %s(out: &mut [u8], %spool: &[u8], old: &[u8]) -> Written
-    ensures { λ r.
-%s        let said : D.Verdict = %s in
-        ⌜ Writes (now (out .entry)) (messageOf said) (now (out .exit)) r ⌝ }
+fn write_%s(out: &mut [u8], %spool: &[u8], old: &[u8]) -> Written
+    ensures { %slet said : D.Verdict = %s in
+        Writes out.old (message_of said) out.new result }
 {
     %s(out, b"%s", %s, pool, old)
 }
-''' % (r.number, snake(r), ''.join('%s: %s, ' % (n, k.field) for n, k in r.kinds.items()), pools(r), meant(r, 'pool', 'old'),
+''' % (r.number, r.name, ''.join('%s: %s, ' % (n, k.field) for n, k in r.kinds.items()), pools(r), meant(r, 'pool', 'old'),
        writer(r), template(r), arguments(r))
     o += '''
 // Puts the message of a verdict at the front of out, if it fits.
 pub fn write_verdict(out: &mut [u8], v: Verdict, pool: &[u8], old: &[u8]) -> Written
-    ensures { λ r.
-        let said : D.Verdict = meaning (now (pool .entry)) (now (old .entry)) v in
-        ⌜ Writes (now (out .entry)) (messageOf said) (now (out .exit)) r ⌝ }
+    ensures { let said : D.Verdict = meaning pool.now old.now v in
+        Writes out.old (message_of said) out.new result }
 {
     match v {
         Verdict::Passed => Written::Whole(0),
 '''
     for r in TABLE:
-        o += '        %s => %s(out, %spool, old),\n' % (pattern(r, ', '.join(r.kinds)), snake(r), ''.join('%s, ' % n for n in r.kinds))
+        o += '        %s => write_%s(out, %spool, old),\n' % (pattern(r, ', '.join(r.kinds)), r.name, ''.join('%s, ' % n for n in r.kinds))
     open(C + 'src/messages.rt', 'w').write(o + '    }\n}\n')
 
 
@@ -375,24 +370,25 @@ def template(r):
 
 def meaning():
     """specs/Meaning.antt"""
-    o = '''-- What the code's verdicts mean, over the two pools, in the words of Verdicts of definition, and their numbers. Written by tools/verdicts.py.
+    o = '''\
+-- What the code's verdicts mean, over the two pools, in the words of Verdicts of definition, and their numbers. Written by tools/verdicts.py.
 -- Assumes nothing.
-use Prim.Native.Nat.{ℕ}
-use Rattle·record.specs.Base.{Str}
+use Rattle.std.specs.Prelude.{ℕ}
+use Rattle.record.specs.Base.{Str}
 %s
-use Rattle·definition.specs.Verdicts as D
-use Rattle·definition.specs.Verdicts.{%s}
-use Rattle·verdicts·specs.specs.declared.verdict.Verdict.{Verdict}
-use Rattle·verdicts·specs.specs.declared.verdict.Verdict.the-variants.{Passed, %s}
+use Rattle.definition.specs.Verdicts as D
+use Rattle.definition.specs.Verdicts.{%s}
+use Rattle.verdicts.specs.declared.verdict.Verdict.{Verdict}
+use Rattle.verdicts.specs.declared.verdict.Verdict.TheVariants.{Passed, %s}
 
 unfoldable pub meaning : Str → Str → Verdict → D.Verdict
 meaning pool old Passed = D.pass
 %s
-abbrev pub numberFor : Verdict → ℕ
-numberFor Passed = 0
+abbrev pub number_for : Verdict → ℕ
+number_for Passed = 0
 %s''' % (meaning_uses(), ', '.join(r.name for r in TABLE), ', '.join(r.variant for r in TABLE),
        ''.join('meaning pool old %s =%s\n' % (constructor(r), indented(meant(r, 'pool', 'old'), len(constructor(r)) + 19)) for r in TABLE),
-       ''.join('numberFor %s = %d\n' % (constructor(r), r.number) for r in TABLE))
+       ''.join('number_for %s = %d\n' % (constructor(r), r.number) for r in TABLE))
     open(C + 'specs/Meaning.antt', 'w').write(o)
 
 
@@ -401,94 +397,55 @@ def laws():
     tags = ' ∷ '.join(str(i + 1) for i in range(len(TABLE))) + ' ∷ []'
     o = '''-- The code's verdicts: a violation is what comes of it and of anything after it, and its number is the definition's. Written by
 -- tools/verdicts.py. Assumes nothing.
-use mathlib.Core.Path.{_≡_, refl}
-use mathlib.Core.List.{[], _∷_}
+use mathlib.Core.Path.{◌≡◌, refl}
+use mathlib.Core.List.{[], ◌∷◌}
 use types.Run.{OneOf}
-use denote.Enum.Declared.{tagOf}
-use Rattle·record.specs.Base.{Str}
-use Rattle·record.proofs.Tags.{not-one-of}
-use Rattle·definition.specs.Verdicts as D
-use Rattle·definition.specs.Verdicts.{wordNumber, verdictNumber, %(names)s}
-use Rattle·definition.specs.Pass.{_then_}
-use Rattle·verdicts·specs.specs.Meaning.{meaning, numberFor}
-use Rattle·verdicts·proofs.proofs.verdict.Verdict.{the-type}
-use Rattle·verdicts·specs.specs.declared.verdict.Verdict.{Verdict}
-use Rattle·verdicts·specs.specs.declared.verdict.Verdict.the-variants.{Passed, %(variants)s}
+use denote.Enum.Declared.{tag_of}
+use Rattle.record.specs.Base.{Str}
+use Rattle.record.proofs.Tags.{not-one-of}
+use Rattle.definition.specs.Verdicts as D
+use Rattle.definition.specs.Verdicts.{word_number, verdict_number, %(names)s}
+use Rattle.definition.specs.Pass.{◌then◌}
+use Rattle.verdicts.specs.Meaning.{meaning, number_for}
+use Rattle.verdicts.specs.contracts.verdict.Verdict.{the_type}
+use Rattle.verdicts.specs.declared.verdict.Verdict.{Verdict}
+use Rattle.verdicts.specs.declared.verdict.Verdict.TheVariants.{Passed, %(variants)s}
 
 -- what the else of a test for Passed knows
-abbrev pub violated : Verdict → Type 0
-violated v = OneOf (%(tags)s) (tagOf the-type v)
+abbrev pub Violated : Verdict → Type 0
+Violated v = OneOf (%(tags)s) (tag_of the_type v)
 
-pub stays : (pool old : Str) (v : Verdict) (w : D.Verdict) → violated v → (meaning pool old v then w) ≡ meaning pool old v
-unfolding meaning _then_ %(opens)s
+pub stays : (pool old : Str) (v : Verdict) (w : D.Verdict) → Violated v → (meaning pool old v then w) ≡ meaning pool old v
+unfolding meaning ◌then◌ %(opens)s
 stays pool old Passed w h = absurd (not-one-of (%(tags)s) 0 tt h)
 %(stays)s
-pub number-is : (pool old : Str) (v : Verdict) → numberFor v ≡ verdictNumber (meaning pool old v)
-unfolding meaning verdictNumber wordNumber %(opens)s
-number-is pool old Passed = refl
+pub number_is : (pool old : Str) (v : Verdict) → number_for v ≡ verdict_number (meaning pool old v)
+unfolding meaning verdict_number word_number %(opens)s
+number_is pool old Passed = refl
 %(numbers)s''' % dict(
         names=', '.join(r.name for r in TABLE), variants=', '.join(r.variant for r in TABLE), tags=tags, opens=' '.join(r.name for r in TABLE),
         stays=''.join('stays pool old %s w h = refl\n' % constructor(r) for r in TABLE),
-        numbers=''.join('number-is pool old %s = refl\n' % constructor(r) for r in TABLE))
+        numbers=''.join('number_is pool old %s = refl\n' % constructor(r) for r in TABLE))
     open(C + 'proofs/VerdictLaws.antt', 'w').write(o)
 
 
-def numbered(name, n, between='-'):
-    return name if n == 1 else '%s%s%d' % (name, between, n)
-
-
 def proofs():
-    """proofs/verdict/Verdict/number/Proof.antt and proofs/messages/*/Proof.antt"""
-    arms = range(1, len(TABLE) + 2)
-    proof('verdict/Verdict/number', [(numbered('enum-told', i), 'c', 'c .match .keys%d' % i) for i in arms]
-          + [(numbered('returns', i), 'c', 'rw (c .%s .given .1)' % numbered('enum-told', i, '')) for i in arms], [], {})
+    """proofs/verdict/Verdict/number/Answers.antt and proofs/messages/*/Answers.antt"""
+    answers.write('verdicts', 'verdict/Verdict/number', [], [
+        ('returns-in-' + v, 'rw c.in-%s.is' % v) for v in ['Passed'] + [r.variant for r in TABLE]])
     for r in TABLE:
-        call = writer(r).replace('_', '-')
-        proof('messages/' + snake(r), [('slice-aggregate-' + call, 'c', 'refl'), (call + '-requires', 'c κs', 'tt'), ('same-length', 'c', 'c .before .out .given'),
-                                       ('returns', 'c', 'c .before .before .%s .ensures' % call)],
-              ['use mathlib.Core.Path.{refl}', 'use Rattle·record.specs.Base.{bytes}', 'use Rattle·record.specs.Fill.{joined}', 'use Rattle·verdicts·specs.specs.Template.{pickOf, filled}',
-               'use Rattle·definition.specs.Verdicts.{messageOf, %s}' % r.name], {'returns': 'bytes joined pickOf filled messageOf ' + r.name})
-    needs, ends, unfolding = [], [], {'returns': 'meaning messageOf'}
-    counts = {'enum-told': 0, 'enum-known-v': 0}
-
-    def count(name):
-        counts[name] += 1
-        return counts[name]
-
-    needs.append((numbered('enum-told', count('enum-told')), 'c', 'c .match .keys1'))
-    ends.append(('returns', 'c', 'rw (c .enum-told .given .1) (writes-whole _ [] _ 0 refl (omega arith) (front-none _))'))
-    for i, r in enumerate(TABLE):
-        call, keys = snake(r).replace('_', '-'), 'c .match .keys%d' % (i + 2)
-        if r.kinds:
-            k = count('enum-known-v')
-            needs.append((numbered('enum-known-v', k), 'c', keys))
-            fact = 'c .before .before .before .before .before .%s .given .1' % numbered('v', k, '')
-        else:
-            k = count('enum-told')
-            needs.append((numbered('enum-told', k), 'c', keys))
-            fact = 'c .before .before .before .before .enum-told%d .given .1' % k
-        needs.append((call + '-requires', 'c κs', 'tt'))
-        ends.append((numbered('same-length', i + 1), 'c', 'c .before .%s .given' % numbered('out', i + 1, '')))
-        ends.append(('returns-%d' % (i + 2), 'c', 'rw (%s) (c .before .before .%s .ensures)' % (fact, call)))
-        unfolding['returns-%d' % (i + 2)] = 'meaning'
-    proof('messages/write_verdict', needs + ends,
-          ['use mathlib.Core.Path.{refl}', 'use mathlib.Core.List.{[]}', 'use native.Mathlib.Omega.{arith}',
-           'use Rattle·record.proofs.WriterLaws.{front-none}', 'use Rattle·verdicts·proofs.proofs.TemplateLaws.{writes-whole}', 'use Rattle·definition.specs.Verdicts.{messageOf}',
-           'use Rattle·verdicts·specs.specs.Meaning.{meaning}'], unfolding)
-
-
-def proof(function, needs, uses, unfolding):
-    module = 'Rattle·verdicts·proofs.proofs.' + function.replace('/', '.')
-    o = '\n'.join(uses + ['use %s.Statement.{statement}' % module, 'use %s.Tie as tie' % module]) + '\n'
-    for name, arguments, answer in needs:
-        o += '\n%s : tie.Need-%s\n' % (name, name)
-        o += 'unfolding %s\n' % unfolding[name] if name in unfolding else ''
-        o += '%s %s = %s\n' % (name, arguments, answer)
-    spec = function.split('/')[-1].replace('_', '-') + '-spec'
-    o += '\npub %s : {M : Type 1} → statement M\n%s = tie.close (tie.spec %s)\n' % (spec, spec, ' '.join(n for n, _, _ in needs))
-    folder = C + 'proofs/' + function
-    os.makedirs(folder, exist_ok=True)
-    open(folder + '/Proof.antt', 'w').write(o)
+        call = writer(r)
+        answers.write('verdicts', 'messages/write_' + r.name, [
+            'use Rattle.record.specs.Base.{bytes}', 'use Rattle.record.specs.Fill.{joined}',
+            'use Rattle.verdicts.specs.Template.{pick_of, filled}', 'use Rattle.definition.specs.Verdicts.{message_of, %s}' % r.name],
+            [(call + '-requires', 'tt'), ('returns', 'c.%s.ensures' % call, 'bytes joined pick_of filled message_of ' + r.name)])
+    answers.write('verdicts', 'messages/write_verdict', [
+        'use mathlib.Core.Path.{refl}', 'use mathlib.Core.List.{[]}', 'use native.Mathlib.Omega.{arith}',
+        'use Rattle.record.proofs.WriterLaws.{front-none}', 'use Rattle.verdicts.proofs.TemplateLaws.{writes-whole}',
+        'use Rattle.definition.specs.Verdicts.{message_of}', 'use Rattle.verdicts.specs.Meaning.{meaning}'],
+        [('write_%s-requires' % r.name, 'tt') for r in TABLE]
+        + [('returns-in-Passed', 'rw c.in-Passed.is (writes-whole _ [] _ 0 refl (omega arith) (front-none _))', 'meaning message_of')]
+        + [('returns-in-' + r.variant, 'rw c.in-%s.is c.write_%s.ensures' % (r.variant, r.name), 'meaning') for r in TABLE])
 
 
 definition()
