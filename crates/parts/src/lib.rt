@@ -1,6 +1,10 @@
-// Numbers and length-and-bytes parts from a file descriptor, for the programs that replay vectors.
+// Numbers and length-and-bytes parts from a reader, for the programs that replay vectors. A read that fails counts as the end of the input.
 #![tactic(auto)]
+
 ghost use Rattle.std.specs.Prelude.{◌≤◌, ◌<◌, length};
+
+use std::io;
+use std::io::Read;
 
 // What was read; whole is false where the input ends before.
 #[derive(Clone, Copy)]
@@ -15,12 +19,27 @@ fn wide(b: u8) -> usize
     b as usize
 }
 
+// Reads until the buffer is full, the input ends or a read fails: how many bytes came.
+fn read_full<R: Read>(from: &mut R, buf: &mut [u8]) -> usize
+    ensures { result ≤ length buf.old }
+{
+    let mut done = 0;
+    while done < buf.len() {
+        match from.read(&mut buf[done..]) {
+            Ok(0) => break,
+            Ok(n) => done += n,
+            Err(_) => break,
+        }
+    }
+    done
+}
+
 // A number of one byte.
-pub fn read_byte(fd: i32) -> Part
+pub fn read_byte<R: Read>(from: &mut R) -> Part
     ensures { result.len < 256 }
 {
     let mut head = [0u8; 1];
-    let got = io::read_full(fd, &mut head);
+    let got = read_full(from, &mut head);
     if got < 1 {
         return Part {
             whole: false,
@@ -34,11 +53,11 @@ pub fn read_byte(fd: i32) -> Part
 }
 
 // A number of four bytes, little-endian.
-pub fn read_number(fd: i32) -> Part
+pub fn read_number<R: Read>(from: &mut R) -> Part
     ensures { result.len < 4294967296 }
 {
     let mut head = [0u8; 4];
-    let got = io::read_full(fd, &mut head);
+    let got = read_full(from, &mut head);
     if got < 4 {
         return Part {
             whole: false,
@@ -52,10 +71,10 @@ pub fn read_number(fd: i32) -> Part
 }
 
 // A length and as many bytes, at the front of the buffer.
-pub fn read_part(fd: i32, buf: &mut [u8]) -> Part
+pub fn read_part<R: Read>(from: &mut R, buf: &mut [u8]) -> Part
     ensures { result.len ≤ length buf.old }
 {
-    let p = read_number(fd);
+    let p = read_number(from);
     let n = p.len;
     if !p.whole {
         return Part {
@@ -69,7 +88,7 @@ pub fn read_part(fd: i32, buf: &mut [u8]) -> Part
             len: 0,
         };
     }
-    let k = io::read_full(fd, &mut buf[..n]);
+    let k = read_full(from, &mut buf[..n]);
     if k != n {
         return Part {
             whole: false,
@@ -83,13 +102,13 @@ pub fn read_part(fd: i32, buf: &mut [u8]) -> Part
 }
 
 // So many bytes, at the front of the buffer; and how many came.
-pub fn read_bytes(fd: i32, buf: &mut [u8], n: usize) -> usize
+pub fn read_bytes<R: Read>(from: &mut R, buf: &mut [u8], n: usize) -> usize
     ensures { result ≤ length buf.old }
 {
     if buf.len() < n {
         return 0;
     }
-    let k = io::read_full(fd, &mut buf[..n]);
+    let k = read_full(from, &mut buf[..n]);
     if n < k {
         return 0;
     }
@@ -121,24 +140,21 @@ pub fn holds(out: &[u8], text: &[u8]) -> bool {
 }
 
 // How a replay of vectors went, in one line.
-pub fn report(turns: u64, wrong: u64) {
-    io::print_decimal(1, turns);
-    io::write_all(1, b" vectors, ");
-    io::print_decimal(1, wrong);
-    io::write_all(1, b" differ\n");
+pub fn report(rt: &impl Print, turns: u64, wrong: u64) -> io::Result<()> {
+    println!(rt; "{turns} vectors, {wrong} differ")
 }
 
 // A length and its bytes, at the front of a buffer that has a byte more than the part may: how many bytes the part counts for. A cut length counts as
 // 0, a part that ends early as the bytes that came, and one whose stated length is above the limit as the whole buffer, which is one byte too long.
-pub fn lent_len(fd: i32, buf: &mut [u8]) -> usize
+pub fn lent_len<R: Read>(from: &mut R, buf: &mut [u8]) -> usize
     ensures { result ≤ length buf.old }
 {
-    let p = read_number(fd);
+    let p = read_number(from);
     let n = p.len;
     if buf.len() <= n {
         return buf.len();
     }
-    let k = io::read_full(fd, &mut buf[..n]);
+    let k = read_full(from, &mut buf[..n]);
     if n < k {
         return n;
     }
@@ -146,11 +162,6 @@ pub fn lent_len(fd: i32, buf: &mut [u8]) -> usize
 }
 
 // A refusal or number 10, in one line.
-pub fn print_refusal(number: u32, side: u32, place: usize) {
-    io::print_decimal(1, number as u64);
-    io::write_all(1, b" ");
-    io::print_decimal(1, side as u64);
-    io::write_all(1, b" ");
-    io::print_decimal(1, place as u64);
-    io::write_all(1, b"\n");
+pub fn print_refusal(rt: &impl Print, number: u32, side: u32, place: usize) -> io::Result<()> {
+    println!(rt; "{number} {side} {place}")
 }

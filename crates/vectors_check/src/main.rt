@@ -2,11 +2,15 @@
 // four bytes, little-endian, and the bytes), the room, the number, the side, the place and the length (four bytes each), and where the number is
 // above 10 the message. The lent buffer has a mark in every byte. Prints how many there are and how many differ.
 #![tactic(auto)]
+
 ghost use Rattle.std.specs.Prelude.{◌≤◌, length};
 
 use layout::answer::Answer;
 use menqachu::menqachu_check;
 use parts::{holds, mark, read_bytes, read_number, read_part, report};
+use std::fs::File;
+use std::io;
+use std::io::Read;
 
 #[derive(Clone, Copy)]
 enum Turn {
@@ -26,12 +30,12 @@ struct Expected {
     len: usize,
 }
 
-fn read_expected(fd: i32) -> Expected {
-    let room = read_number(fd);
-    let number = read_number(fd);
-    let side = read_number(fd);
-    let place = read_number(fd);
-    let len = read_number(fd);
+fn read_expected<R: Read>(from: &mut R) -> Expected {
+    let room = read_number(from);
+    let number = read_number(from);
+    let side = read_number(from);
+    let place = read_number(from);
+    let len = read_number(from);
     Expected {
         whole: len.whole,
         room: room.len,
@@ -56,13 +60,13 @@ fn same_answer(a: Answer, e: Expected) -> bool {
 }
 
 // The message, which follows where the number is a verdict's.
-fn read_message(fd: i32, text: &mut [u8], number: usize, len: usize) -> usize
+fn read_message<R: Read>(from: &mut R, text: &mut [u8], number: usize, len: usize) -> usize
     ensures { result ≤ length text.old }
 {
     if number <= 10 {
         return 0;
     }
-    read_bytes(fd, text, len)
+    read_bytes(from, text, len)
 }
 
 fn judge(
@@ -87,14 +91,14 @@ fn judge(
 }
 
 // The answer to a pair, in a buffer of the room that was given.
-fn answer(fd: i32, stream: &[u8], pool: &[u8], past: &[u8], old: &[u8]) -> Turn {
+fn answer<R: Read>(from: &mut R, stream: &[u8], pool: &[u8], past: &[u8], old: &[u8]) -> Turn {
     let mut out = [0u8; 65536];
     let mut text = [0u8; 4096];
-    let e = read_expected(fd);
+    let e = read_expected(from);
     if !e.whole {
         return Turn::End;
     }
-    let k = read_message(fd, &mut text, e.number, e.len);
+    let k = read_message(from, &mut text, e.number, e.len);
     let o = e.room;
     if 65536 < o {
         return Turn::Differs;
@@ -103,29 +107,29 @@ fn answer(fd: i32, stream: &[u8], pool: &[u8], past: &[u8], old: &[u8]) -> Turn 
 }
 
 // A part of the vector, at the front of the buffer: how long it is.
-fn part_len(fd: i32, buf: &mut [u8]) -> usize
+fn part_len<R: Read>(from: &mut R, buf: &mut [u8]) -> usize
     ensures { result ≤ length buf.old }
 {
-    read_part(fd, buf).len
+    read_part(from, buf).len
 }
 
-fn one(fd: i32) -> Turn {
+fn one<R: Read>(from: &mut R) -> Turn {
     let mut stream = [0u8; 40000];
     let mut pool = [0u8; 40000];
     let mut past = [0u8; 40000];
     let mut old = [0u8; 40000];
-    let n = part_len(fd, &mut stream);
-    let m = part_len(fd, &mut pool);
-    let k = part_len(fd, &mut past);
-    let l = part_len(fd, &mut old);
-    answer(fd, &stream[..n], &pool[..m], &past[..k], &old[..l])
+    let n = part_len(from, &mut stream);
+    let m = part_len(from, &mut pool);
+    let k = part_len(from, &mut past);
+    let l = part_len(from, &mut old);
+    answer(from, &stream[..n], &pool[..m], &past[..k], &old[..l])
 }
 
-fn replay(fd: i32) {
+fn replay<R: Read>(rt: &impl Print, from: &mut R) -> io::Result<()> {
     let mut turns: u64 = 0;
     let mut wrong: u64 = 0;
     while turns < 1000000 {
-        match one(fd) {
+        match one(from) {
             Turn::Same => {}
             Turn::Differs => {
                 wrong += 1;
@@ -136,15 +140,10 @@ fn replay(fd: i32) {
         }
         turns += 1;
     }
-    report(turns, wrong);
+    report(rt, turns, wrong)
 }
 
-fn main() {
-    let fd = os::open_read(b"checks");
-    if fd < 0 {
-        os::fail(b"checks");
-        return;
-    }
-    replay(fd);
-    libc::close(fd);
+fn main(rt: HostRuntime) -> io::Result<()> {
+    let mut file = File::open(&rt, "checks")?;
+    replay(&rt, &mut file)
 }

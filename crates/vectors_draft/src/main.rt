@@ -3,11 +3,15 @@
 // draft's buffer, the addition's stream or the name, the addition's pool, the copy's stream and pool, and what stands at the front of the buffer
 // afterwards; behind that every byte is as before. Prints how many there are and how many differ.
 #![tactic(auto)]
+
 ghost use Rattle.std.specs.Prelude.{◌≤◌, length};
 
 use drafts::saying::DraftAnswer;
 use menqachu::{menqachu_draft_add, menqachu_draft_count, menqachu_draft_remove};
 use parts::{read_byte, read_number, read_part, report};
+use std::fs::File;
+use std::io;
+use std::io::Read;
 
 #[derive(Clone, Copy)]
 enum Turn {
@@ -29,14 +33,14 @@ struct Case {
     changed: usize,
 }
 
-fn read_case(fd: i32) -> Case {
-    let call = read_byte(fd);
-    let given = read_number(fd);
-    let number = read_number(fd);
-    let side = read_number(fd);
-    let place = read_number(fd);
-    let len = read_number(fd);
-    let changed = read_number(fd);
+fn read_case<R: Read>(from: &mut R) -> Case {
+    let call = read_byte(from);
+    let given = read_number(from);
+    let number = read_number(from);
+    let side = read_number(from);
+    let place = read_number(from);
+    let len = read_number(from);
+    let changed = read_number(from);
     Case {
         whole: changed.whole,
         call: call.len,
@@ -132,22 +136,22 @@ fn judge(
 }
 
 // A part of the vector, at the front of the buffer: how long it is.
-fn part_len(fd: i32, buf: &mut [u8]) -> usize
+fn part_len<R: Read>(from: &mut R, buf: &mut [u8]) -> usize
     ensures { result ≤ length buf.old }
 {
-    read_part(fd, buf).len
+    read_part(from, buf).len
 }
 
 // The answer, with the copy and the buffer's front read behind the draft and the edit.
-fn answer(fd: i32, case: Case, draft: &mut [u8], more: &[u8], texts: &[u8]) -> Turn {
+fn answer<R: Read>(from: &mut R, case: Case, draft: &mut [u8], more: &[u8], texts: &[u8]) -> Turn {
     let mut past = [0u8; 40000];
     let mut old = [0u8; 40000];
     let mut front = [0u8; 60000];
     let mut before = [0u8; 60000];
     copy(draft, &mut before);
-    let n = part_len(fd, &mut past);
-    let m = part_len(fd, &mut old);
-    let k = part_len(fd, &mut front);
+    let n = part_len(from, &mut past);
+    let m = part_len(from, &mut old);
+    let k = part_len(from, &mut front);
     judge(
         case,
         draft,
@@ -160,25 +164,25 @@ fn answer(fd: i32, case: Case, draft: &mut [u8], more: &[u8], texts: &[u8]) -> T
     )
 }
 
-fn one(fd: i32) -> Turn {
+fn one<R: Read>(from: &mut R) -> Turn {
     let mut draft = [0u8; 60000];
     let mut more = [0u8; 40000];
     let mut texts = [0u8; 40000];
-    let case = read_case(fd);
+    let case = read_case(from);
     if !case.whole {
         return Turn::End;
     }
-    let n = part_len(fd, &mut draft);
-    let m = part_len(fd, &mut more);
-    let k = part_len(fd, &mut texts);
-    answer(fd, case, &mut draft[..n], &more[..m], &texts[..k])
+    let n = part_len(from, &mut draft);
+    let m = part_len(from, &mut more);
+    let k = part_len(from, &mut texts);
+    answer(from, case, &mut draft[..n], &more[..m], &texts[..k])
 }
 
-fn replay(fd: i32) {
+fn replay<R: Read>(rt: &impl Print, from: &mut R) -> io::Result<()> {
     let mut turns: u64 = 0;
     let mut wrong: u64 = 0;
     while turns < 1000000 {
-        match one(fd) {
+        match one(from) {
             Turn::Same => {}
             Turn::Differs => {
                 wrong += 1;
@@ -189,15 +193,10 @@ fn replay(fd: i32) {
         }
         turns += 1;
     }
-    report(turns, wrong);
+    report(rt, turns, wrong)
 }
 
-fn main() {
-    let fd = os::open_read(b"drafts");
-    if fd < 0 {
-        os::fail(b"drafts");
-        return;
-    }
-    replay(fd);
-    libc::close(fd);
+fn main(rt: HostRuntime) -> io::Result<()> {
+    let mut file = File::open(&rt, "drafts")?;
+    replay(&rt, &mut file)
 }

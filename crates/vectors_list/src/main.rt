@@ -2,12 +2,16 @@
 // bytes), the side it is read as (a byte), the room, the number, the side, the place and the length (four bytes each), and where the number is 0
 // the list. The lent buffer has a mark in every byte. Prints how many there are and how many differ.
 #![tactic(auto)]
+
 ghost use Rattle.std.specs.Prelude.{◌≤◌, length};
 
 use layout::answer::Answer;
 use layout::list::list_layouts;
 use parts::{holds, mark, read_byte, read_bytes, read_number, read_part, report};
 use record::refusal::Side;
+use std::fs::File;
+use std::io;
+use std::io::Read;
 
 #[derive(Clone, Copy)]
 enum Turn {
@@ -67,32 +71,32 @@ fn judge(
 }
 
 // The list, which follows where the number is 0.
-fn read_list(fd: i32, text: &mut [u8], number: usize, len: usize) -> usize
+fn read_list<R: Read>(from: &mut R, text: &mut [u8], number: usize, len: usize) -> usize
     ensures { result ≤ length text.old }
 {
     if number != 0 {
         return 0;
     }
-    read_bytes(fd, text, len)
+    read_bytes(from, text, len)
 }
 
-fn one(fd: i32) -> Turn {
+fn one<R: Read>(from: &mut R) -> Turn {
     let mut stream = [0u8; 40000];
     let mut pool = [0u8; 40000];
     let mut out = [0u8; 65536];
     let mut text = [0u8; 65536];
-    let s = read_part(fd, &mut stream);
-    let p = read_part(fd, &mut pool);
-    let read_as = read_byte(fd);
-    let room = read_number(fd);
-    let number = read_number(fd);
-    let side = read_number(fd);
-    let place = read_number(fd);
-    let len = read_number(fd);
+    let s = read_part(from, &mut stream);
+    let p = read_part(from, &mut pool);
+    let read_as = read_byte(from);
+    let room = read_number(from);
+    let number = read_number(from);
+    let side = read_number(from);
+    let place = read_number(from);
+    let len = read_number(from);
     if !len.whole {
         return Turn::End;
     }
-    let k = read_list(fd, &mut text, number.len, len.len);
+    let k = read_list(from, &mut text, number.len, len.len);
     let n = s.len;
     let m = p.len;
     let o = room.len;
@@ -114,11 +118,11 @@ fn one(fd: i32) -> Turn {
     )
 }
 
-fn replay(fd: i32) {
+fn replay<R: Read>(rt: &impl Print, from: &mut R) -> io::Result<()> {
     let mut turns: u64 = 0;
     let mut wrong: u64 = 0;
     while turns < 1000000 {
-        match one(fd) {
+        match one(from) {
             Turn::Same => {}
             Turn::Differs => {
                 wrong += 1;
@@ -129,15 +133,10 @@ fn replay(fd: i32) {
         }
         turns += 1;
     }
-    report(turns, wrong);
+    report(rt, turns, wrong)
 }
 
-fn main() {
-    let fd = os::open_read(b"lists");
-    if fd < 0 {
-        os::fail(b"lists");
-        return;
-    }
-    replay(fd);
-    libc::close(fd);
+fn main(rt: HostRuntime) -> io::Result<()> {
+    let mut file = File::open(&rt, "lists")?;
+    replay(&rt, &mut file)
 }

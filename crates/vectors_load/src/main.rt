@@ -2,6 +2,7 @@
 // for each outcome how many pairs had it, a sum over their bytes, and how many fields of each kind their released records show; how long the pairs
 // are; and how many calls that must give 61 do not. Each pair is made in a buffer too long, in one just long enough, and in one a byte short.
 #![tactic(auto)]
+
 use layout::answer::Answer;
 use menqachu::{menqachu_check, menqachu_load};
 use parts::{holds, mark};
@@ -11,6 +12,7 @@ use record::le::u32_at;
 use record::operands::text_at;
 use record::seek::{Between, Sought, seek};
 use record::text::bytes_of;
+use std::io;
 
 const SEEDS: u32 = 1000;
 
@@ -207,29 +209,25 @@ fn one(outcome: u32, seed: u32, found: Found, kinds: &mut [u64], lengths: &mut [
     judge(outcome, seed, cut::upto(&out, n), found, kinds, lengths)
 }
 
-fn print_count(n: u64) {
-    io::write_all(1, b" ");
-    io::print_decimal(1, n);
+fn print_count(rt: &impl Print, n: u64) -> io::Result<()> {
+    print!(rt; " {n}")
 }
 
-fn print_counts(counts: &[u64]) {
+fn print_counts(rt: &impl Print, counts: &[u64]) -> io::Result<()> {
     let mut i = 0;
     while i < counts.len() {
-        print_count(counts[i]);
+        print_count(rt, counts[i])?;
         i += 1;
     }
+    Ok(())
 }
 
-fn print_found(outcome: u32, found: Found, kinds: &[u64]) {
-    io::write_all(1, b"outcome ");
-    io::print_decimal(1, outcome as u64);
-    io::write_all(1, b": ");
-    io::print_decimal(1, found.met);
-    io::write_all(1, b" pairs met, sum ");
-    io::print_decimal(1, found.sum as u64);
-    io::write_all(1, b", kinds");
-    print_counts(kinds);
-    io::write_all(1, b"\n");
+fn print_found(rt: &impl Print, outcome: u32, found: Found, kinds: &[u64]) -> io::Result<()> {
+    let met = found.met;
+    let sum = found.sum;
+    print!(rt; "outcome {outcome}: {met} pairs met, sum {sum}, kinds")?;
+    print_counts(rt, kinds)?;
+    println!(rt; "")
 }
 
 // Makes and judges all pairs of an outcome.
@@ -243,10 +241,10 @@ fn all_seeds(outcome: u32, kinds: &mut [u64], lengths: &mut [u64]) -> Found {
     found
 }
 
-fn print_outcome(outcome: u32, lengths: &mut [u64]) {
+fn print_outcome(rt: &impl Print, outcome: u32, lengths: &mut [u64]) -> io::Result<()> {
     let mut kinds = [0u64; 17];
     let found = all_seeds(outcome, &mut kinds, lengths);
-    print_found(outcome, found, &kinds);
+    print_found(rt, outcome, found, &kinds)
 }
 
 // One more than were amiss, if this call does not give 61 and leave the buffer as it was, with room and without.
@@ -292,24 +290,22 @@ fn late_all(wrong: u64) -> u64 {
     late_seeds(resized, 43)
 }
 
-fn print_last(lengths: &[u64], wrong: u64) {
-    io::write_all(1, b"lengths by thousands of bytes:");
-    print_counts(lengths);
-    io::write_all(1, b"\ncalls that should give 61 and do not: ");
-    io::print_decimal(1, wrong);
-    io::write_all(1, b"\n");
+fn print_last(rt: &impl Print, lengths: &[u64], wrong: u64) -> io::Result<()> {
+    print!(rt; "lengths by thousands of bytes:")?;
+    print_counts(rt, lengths)?;
+    println!(rt; "\ncalls that should give 61 and do not: {wrong}")
 }
 
-fn main() {
+fn main(rt: HostRuntime) -> io::Result<()> {
     let mut lengths = [0u64; 16];
-    print_outcome(0, &mut lengths);
-    print_outcome(20, &mut lengths);
-    print_outcome(34, &mut lengths);
-    print_outcome(35, &mut lengths);
-    print_outcome(36, &mut lengths);
-    print_outcome(43, &mut lengths);
+    print_outcome(&rt, 0, &mut lengths)?;
+    print_outcome(&rt, 20, &mut lengths)?;
+    print_outcome(&rt, 34, &mut lengths)?;
+    print_outcome(&rt, 35, &mut lengths)?;
+    print_outcome(&rt, 36, &mut lengths)?;
+    print_outcome(&rt, 43, &mut lengths)?;
     let first = strange_outcomes(0, 0);
     let last = strange_outcomes(first, 2147483647);
     let wrong = late_all(last);
-    print_last(&lengths, wrong);
+    print_last(&rt, &lengths, wrong)
 }

@@ -2,8 +2,12 @@
 // bytes), the answer (a byte: 0 none, 1 an owner, 2 a refused record) and two numbers of four bytes (the start and the length of the owner's name;
 // the refusal's number and place; 0 and 0). Prints how many there are and how many differ.
 #![tactic(auto)]
+
 use menqachu::menqachu_owner;
 use parts::{read_byte, read_number, read_part, report};
+use std::fs::File;
+use std::io;
+use std::io::Read;
 
 #[derive(Clone, Copy)]
 enum Turn {
@@ -61,16 +65,16 @@ fn judge(
     }
 }
 
-fn one(fd: i32) -> Turn {
+fn one<R: Read>(from: &mut R) -> Turn {
     let mut stream = [0u8; 40000];
     let mut pool = [0u8; 40000];
     let mut name = [0u8; 1024];
-    let s = read_part(fd, &mut stream);
-    let p = read_part(fd, &mut pool);
-    let n = read_part(fd, &mut name);
-    let kind = read_byte(fd);
-    let first = read_number(fd);
-    let second = read_number(fd);
+    let s = read_part(from, &mut stream);
+    let p = read_part(from, &mut pool);
+    let n = read_part(from, &mut name);
+    let kind = read_byte(from);
+    let first = read_number(from);
+    let second = read_number(from);
     if !second.whole {
         return Turn::End;
     }
@@ -87,11 +91,11 @@ fn one(fd: i32) -> Turn {
     )
 }
 
-fn replay(fd: i32) {
+fn replay<R: Read>(rt: &impl Print, from: &mut R) -> io::Result<()> {
     let mut turns: u64 = 0;
     let mut wrong: u64 = 0;
     while turns < 1000000 {
-        match one(fd) {
+        match one(from) {
             Turn::Same => {}
             Turn::Differs => {
                 wrong += 1;
@@ -102,15 +106,10 @@ fn replay(fd: i32) {
         }
         turns += 1;
     }
-    report(turns, wrong);
+    report(rt, turns, wrong)
 }
 
-fn main() {
-    let fd = os::open_read(b"owners");
-    if fd < 0 {
-        os::fail(b"owners");
-        return;
-    }
-    replay(fd);
-    libc::close(fd);
+fn main(rt: HostRuntime) -> io::Result<()> {
+    let mut file = File::open(&rt, "owners")?;
+    replay(&rt, &mut file)
 }

@@ -2,7 +2,9 @@
 // texts (stdout here): a line a length with the count of equal texts, a sum over the counts with one unequal pair, one with all pairs in front of it
 // unequal too, and the count of a text with its own back.
 #![tactic(auto)]
+
 use menqachu::menqachu_pairs_compared;
+use std::io;
 
 const MOST: usize = 300;
 
@@ -59,36 +61,37 @@ fn back(a: &[u8]) -> &[u8] {
     &a[1..]
 }
 
-fn print_number(n: u64) {
-    io::write_all(1, b" ");
-    io::print_decimal(1, n);
+fn print_number(rt: &impl Print, n: u64) -> io::Result<()> {
+    print!(rt; " {n}")
 }
 
 // The counts of a text and another that is the same.
-fn print_counts(a: &[u8], b: &mut [u8]) {
-    io::print_decimal(1, a.len() as u64);
-    print_number(menqachu_pairs_compared(a, b) as u64);
-    print_number(one_unequal(a, b) as u64);
-    print_number(front_unequal(a, b) as u64);
-    print_number(menqachu_pairs_compared(a, back(a)) as u64);
-    io::write_all(1, b"\n");
+fn print_counts(rt: &impl Print, a: &[u8], b: &mut [u8]) -> io::Result<()> {
+    let length = a.len();
+    print!(rt; "{length}")?;
+    print_number(rt, menqachu_pairs_compared(a, b) as u64)?;
+    print_number(rt, one_unequal(a, b) as u64)?;
+    print_number(rt, front_unequal(a, b) as u64)?;
+    print_number(rt, menqachu_pairs_compared(a, back(a)) as u64)?;
+    println!(rt; "")
 }
 
-fn print_length(n: usize) {
+fn print_length(rt: &impl Print, n: usize) -> io::Result<()> {
     let mut a = [0u8; MOST];
     let mut b = [0u8; MOST];
     fill(&mut a);
     fill(&mut b);
     if MOST < n {
-        return;
+        return Ok(());
     }
-    print_counts(&a[..n], &mut b[..n]);
+    print_counts(rt, &a[..n], &mut b[..n])
 }
 
-fn main() {
+fn main(rt: HostRuntime) -> io::Result<()> {
     let mut n = 0;
     while n <= MOST {
-        print_length(n);
+        print_length(&rt, n)?;
         n += 1;
     }
+    Ok(())
 }

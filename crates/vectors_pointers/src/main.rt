@@ -1,9 +1,13 @@
 // Replays the oracle's answers of the check of pointers, data/pointers: each vector is a stream and a pool (a length of four bytes, little-endian,
 // and the bytes), the number (a byte) and the place (four bytes); the side and the length are 0. Prints how many there are and how many differ.
 #![tactic(auto)]
+
 use layout::answer::Answer;
 use parts::{read_byte, read_number, read_part, report};
 use pointers::check::check_pointers;
+use std::fs::File;
+use std::io;
+use std::io::Read;
 
 #[derive(Clone, Copy)]
 enum Turn {
@@ -33,13 +37,13 @@ fn judge(stream: &[u8], pool: &[u8], number: usize, place: usize) -> Turn {
     }
 }
 
-fn one(fd: i32) -> Turn {
+fn one<R: Read>(from: &mut R) -> Turn {
     let mut stream = [0u8; 40000];
     let mut pool = [0u8; 40000];
-    let s = read_part(fd, &mut stream);
-    let p = read_part(fd, &mut pool);
-    let number = read_byte(fd);
-    let place = read_number(fd);
+    let s = read_part(from, &mut stream);
+    let p = read_part(from, &mut pool);
+    let number = read_byte(from);
+    let place = read_number(from);
     if !place.whole {
         return Turn::End;
     }
@@ -48,11 +52,11 @@ fn one(fd: i32) -> Turn {
     judge(&stream[..n], &pool[..m], number.len, place.len)
 }
 
-fn replay(fd: i32) {
+fn replay<R: Read>(rt: &impl Print, from: &mut R) -> io::Result<()> {
     let mut turns: u64 = 0;
     let mut wrong: u64 = 0;
     while turns < 1000000 {
-        match one(fd) {
+        match one(from) {
             Turn::Same => {}
             Turn::Differs => {
                 wrong += 1;
@@ -63,15 +67,10 @@ fn replay(fd: i32) {
         }
         turns += 1;
     }
-    report(turns, wrong);
+    report(rt, turns, wrong)
 }
 
-fn main() {
-    let fd = os::open_read(b"pointers");
-    if fd < 0 {
-        os::fail(b"pointers");
-        return;
-    }
-    replay(fd);
-    libc::close(fd);
+fn main(rt: HostRuntime) -> io::Result<()> {
+    let mut file = File::open(&rt, "pointers")?;
+    replay(&rt, &mut file)
 }

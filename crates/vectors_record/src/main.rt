@@ -2,10 +2,14 @@
 // the bytes), the side and the number (a byte each; 0 stands for a record that can be read) and the place (four bytes). Prints how many there are
 // and how many differ.
 #![tactic(auto)]
+
 use parts::{read_byte, read_number, read_part, report};
 use record::read::{Outcome, read_record};
 use record::refusal::Side;
 use record::scalars::built_in;
+use std::fs::File;
+use std::io;
+use std::io::Read;
 
 #[derive(Clone, Copy)]
 enum Turn {
@@ -43,14 +47,14 @@ fn judge(stream: &[u8], pool: &[u8], side: usize, number: usize, place: usize) -
     }
 }
 
-fn one(fd: i32) -> Turn {
+fn one<R: Read>(from: &mut R) -> Turn {
     let mut stream = [0u8; 40000];
     let mut pool = [0u8; 40000];
-    let s = read_part(fd, &mut stream);
-    let p = read_part(fd, &mut pool);
-    let side = read_byte(fd);
-    let number = read_byte(fd);
-    let place = read_number(fd);
+    let s = read_part(from, &mut stream);
+    let p = read_part(from, &mut pool);
+    let side = read_byte(from);
+    let number = read_byte(from);
+    let place = read_number(from);
     if !place.whole {
         return Turn::End;
     }
@@ -59,11 +63,11 @@ fn one(fd: i32) -> Turn {
     judge(&stream[..n], &pool[..m], side.len, number.len, place.len)
 }
 
-fn replay(fd: i32) {
+fn replay<R: Read>(rt: &impl Print, from: &mut R) -> io::Result<()> {
     let mut turns: u64 = 0;
     let mut wrong: u64 = 0;
     while turns < 1000000 {
-        match one(fd) {
+        match one(from) {
             Turn::Same => {}
             Turn::Differs => {
                 wrong += 1;
@@ -74,15 +78,10 @@ fn replay(fd: i32) {
         }
         turns += 1;
     }
-    report(turns, wrong);
+    report(rt, turns, wrong)
 }
 
-fn main() {
-    let fd = os::open_read(b"records");
-    if fd < 0 {
-        os::fail(b"records");
-        return;
-    }
-    replay(fd);
-    libc::close(fd);
+fn main(rt: HostRuntime) -> io::Result<()> {
+    let mut file = File::open(&rt, "records")?;
+    replay(&rt, &mut file)
 }

@@ -5,11 +5,15 @@
 // is its 320 bytes as the struct has them: the names, then the lengths of the names, the starts and the lengths, eight bytes each, little-endian. A
 // part may be as long as its array below. Prints how many vectors there are and how many differ.
 #![tactic(auto)]
+
 ghost use Rattle.std.specs.Prelude.{◌≤◌, ◌<◌, length};
 
 use drafts::shelved::{Shelf, ShelfAnswer};
 use menqachu::{menqachu_shelf_back, menqachu_shelf_set};
 use parts::{read_byte, read_number, read_part, report};
+use std::fs::File;
+use std::io;
+use std::io::Read;
 
 #[derive(Clone, Copy)]
 enum Turn {
@@ -30,13 +34,13 @@ struct Case {
     changed: usize,
 }
 
-fn read_case(fd: i32) -> Case {
-    let call = read_byte(fd);
-    let number = read_number(fd);
-    let side = read_number(fd);
-    let place = read_number(fd);
-    let len = read_number(fd);
-    let changed = read_number(fd);
+fn read_case<R: Read>(from: &mut R) -> Case {
+    let call = read_byte(from);
+    let number = read_number(from);
+    let side = read_number(from);
+    let place = read_number(from);
+    let len = read_number(from);
+    let changed = read_number(from);
     Case {
         whole: changed.whole,
         call: call.len,
@@ -197,22 +201,22 @@ fn judge(
 }
 
 // A part of the vector, at the front of the buffer: how long it is.
-fn part_len(fd: i32, buf: &mut [u8]) -> usize
+fn part_len<R: Read>(from: &mut R, buf: &mut [u8]) -> usize
     ensures { result ≤ length buf.old }
 {
-    read_part(fd, buf).len
+    read_part(from, buf).len
 }
 
 // A shelf of the vector.
-fn read_shelf(fd: i32) -> Shelf {
+fn read_shelf<R: Read>(from: &mut R) -> Shelf {
     let mut bytes = [0u8; 320];
-    part_len(fd, &mut bytes);
+    part_len(from, &mut bytes);
     shelf_from(&bytes)
 }
 
 // A setting: the copy's parts are skipped.
-fn set(
-    fd: i32,
+fn set<R: Read>(
+    from: &mut R,
     case: Case,
     given: Shelf,
     after: Shelf,
@@ -223,15 +227,15 @@ fn set(
     let mut front = [0u8; 200000];
     let mut before = [0u8; 200000];
     copy(held, &mut before);
-    part_len(fd, &mut front);
-    part_len(fd, &mut front);
-    let n = part_len(fd, &mut front);
+    part_len(from, &mut front);
+    part_len(from, &mut front);
+    let n = part_len(from, &mut front);
     let r = menqachu_shelf_set(given, name, draft, held);
     judge(case, r, after, held, &front[..n], &before)
 }
 
-fn back(
-    fd: i32,
+fn back<R: Read>(
+    from: &mut R,
     case: Case,
     given: Shelf,
     after: Shelf,
@@ -244,29 +248,29 @@ fn back(
     let mut front = [0u8; 200000];
     let mut before = [0u8; 200000];
     copy(draft, &mut before);
-    let n = part_len(fd, &mut past);
-    let m = part_len(fd, &mut old);
-    let k = part_len(fd, &mut front);
+    let n = part_len(from, &mut past);
+    let m = part_len(from, &mut old);
+    let k = part_len(from, &mut front);
     let r = menqachu_shelf_back(given, name, draft, held, &past[..n], &old[..m]);
     judge(case, r, after, draft, &front[..k], &before)
 }
 
-fn one(fd: i32) -> Turn {
+fn one<R: Read>(from: &mut R) -> Turn {
     let mut name = [0u8; 400];
     let mut draft = [0u8; 60000];
     let mut held = [0u8; 200000];
-    let case = read_case(fd);
+    let case = read_case(from);
     if !case.whole {
         return Turn::End;
     }
-    let given = read_shelf(fd);
-    let after = read_shelf(fd);
-    let n = part_len(fd, &mut name);
-    let m = part_len(fd, &mut draft);
-    let k = part_len(fd, &mut held);
+    let given = read_shelf(from);
+    let after = read_shelf(from);
+    let n = part_len(from, &mut name);
+    let m = part_len(from, &mut draft);
+    let k = part_len(from, &mut held);
     if case.call == 0 {
         return set(
-            fd,
+            from,
             case,
             given,
             after,
@@ -276,7 +280,7 @@ fn one(fd: i32) -> Turn {
         );
     }
     back(
-        fd,
+        from,
         case,
         given,
         after,
@@ -286,11 +290,11 @@ fn one(fd: i32) -> Turn {
     )
 }
 
-fn replay(fd: i32) {
+fn replay<R: Read>(rt: &impl Print, from: &mut R) -> io::Result<()> {
     let mut turns: u64 = 0;
     let mut wrong: u64 = 0;
     while turns < 1000000 {
-        match one(fd) {
+        match one(from) {
             Turn::Same => {}
             Turn::Differs => {
                 wrong += 1;
@@ -301,15 +305,10 @@ fn replay(fd: i32) {
         }
         turns += 1;
     }
-    report(turns, wrong);
+    report(rt, turns, wrong)
 }
 
-fn main() {
-    let fd = os::open_read(b"shelves");
-    if fd < 0 {
-        os::fail(b"shelves");
-        return;
-    }
-    replay(fd);
-    libc::close(fd);
+fn main(rt: HostRuntime) -> io::Result<()> {
+    let mut file = File::open(&rt, "shelves")?;
+    replay(&rt, &mut file)
 }
