@@ -40,8 +40,8 @@ pub record Fits (side : Side) (pool : Str) (last : ℕ) (parent : Parent) (c : S
   pub going : opcode c ≡ 15 → ⊥
 
 abbrev pub AllFit : Side → Str → ℕ → Parent → List Str → Type 0
-AllFit side pool last parent [] = last ≡ 0 → ⊥
-AllFit side pool last parent (c ∷ cs) = Fits side pool last parent c × AllFit side pool (opcode c) (parent_after parent (opcode c)) cs
+AllFit side pool last above [] = last ≡ 0 → ⊥
+AllFit side pool last above (c ∷ cs) = Fits side pool last above c × AllFit side pool (opcode c) (parent_after above (opcode c)) cs
 
 -- the elements that commands give, each from its bytes with all that follow, and the commands after it
 unfoldable pub listed_in : {A : Type 0} → (ℕ → Bool) → ℕ → (Str → List Str → A) → List Str → List A
