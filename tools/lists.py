@@ -31,6 +31,8 @@ OF = {'unstored': 'key_of'}
 AT = {'unstored': 'key_at'}
 # the lemmas whose names have no dash
 PLAIN = ['keys-none', 'keys-found', 'variants-laws']
+# heads are looked at once, and plugin keys and unstored keys are gone along by the walk over all keys, which has its own measure
+UNMEASURED = ('heads', 'keys', 'unstored')
 R = 'crates/record/'
 for d in LISTS:
     d['C'], one = d['n'].capitalize(), d['one'].capitalize()
@@ -195,16 +197,15 @@ unfoldable pub %(one)s_in : Str → List %(model)s → Option %(model)s
 def laws():
     o = '''-- The laws of each list, as the branches of its iterator and of its look-up need them. Written by tools/lists.py. Assumes nothing.
 use mathlib.Core.Path.{◌≡◌, sym, ap, ap₂, subst, ◌∙◌}
-use mathlib.Core.List.{List, [], ◌∷◌}
-use mathlib.Core.Option.{Option, none, some}
+use mathlib.Core.List.{[], ◌∷◌}
 use mathlib.Core.Bool.{Bool, true, false}
 use Prim.Native.Nat.{ℕ, suc, ◌+◌, ◌-◌, ◌≤◌, ◌<◌}
 use native.Mathlib.Omega.{arith}
 use lib.ListN.{length, drop}
-use Rattle.record.specs.Base.{Str, bytes, eqs, find, first}
+use Rattle.record.specs.Base.{Str, bytes, eqs}
 use Rattle.record.specs.Stretch.{text_of}
 use Rattle.record.specs.Schema.{%s}
-use Rattle.record.specs.Commands.{operands, wide, widths, width_with, width_of, place, commands_at, %s}
+use Rattle.record.specs.Commands.{operands, wide, widths, width_with, width_of, place, %s}
 use Rattle.record.specs.Lists.{%s}
 use Rattle.record.specs.Seek.{SoughtFrom}
 use Rattle.record.specs.Steps.{field_key_at, FieldPlace, FieldPlaced, %s}
@@ -215,11 +216,13 @@ use Rattle.record.specs.declared.seek.Sought.{Sought}
 use Rattle.record.specs.declared.seek.Sought.TheVariants.{Nowhere, At}
 use Rattle.record.proofs.SeekLaws.{sought-stands, sought-nearer, listed-none, listed-some}
 use Rattle.record.proofs.ListLaws.{find_none, find-hit, find-miss}
-''' % (', '.join(sorted({d['model'] for d in LISTS})), ', '.join(sorted({d['at'] for d in LISTS})),
+''' % (', '.join(sorted({d['model'] for d in LISTS if d['named'] == 'walk'})), ', '.join(sorted({d['at'] for d in LISTS})),
        ', '.join(sorted({d['of'] for d in LISTS} | {d['n'] for d in LISTS})),
        ', '.join(name % d for d in LISTS for name in
-                 ['%(n)s_at', '%(n)s_of', '%(n)s_left', '%(C)sFrom'] + ['%(one)s_found', '%(one)s_in'] * (d['named'] == 'walk')))
-    o += ''.join(declared(d) for d in LISTS)
+                 ['%(n)s_at', '%(n)s_of'] + ['%(n)s_left'] * (d['n'] not in UNMEASURED) + ['%(C)sFrom']
+                 + ['%(one)s_found', '%(one)s_in'] * (d['named'] == 'walk')))
+    # of heads only the first is looked at, so that no law goes on along them
+    o += ''.join(declared(d) for d in LISTS).split('\n', 1)[1]
     for d in LISTS:
         d = dict(d, kidopen=''.join(' ' + ('keys_at' if k == 'field_key_at' else k) for k in d['kids']),
                  kidlist=''.join(' (%s s p j)' % k for k in d['kids']))
@@ -249,7 +252,6 @@ module _ (s : Str) (at : ℕ) (r : Sought) (i : SoughtFrom s %(between)s %(b)d a
 
 pub ruleset %(n)s-laws = (%(n)s-none, %(n)s-found)
 ''' % d
-    # of heads only the first is looked at, so that no law goes on along them
     for d in LISTS[1:]:
         o += '''
 module _ (s : Str) (at : ℕ) (r : %(step)s) (f : %(C)sFrom s at r) where
@@ -260,8 +262,7 @@ module _ (s : Str) (at : ℕ) (r : %(step)s) (f : %(C)sFrom s at r) where
   pub %(n)s-now : (p : Str) (e : D.%(struct)s.%(struct)s) (k : Cursor) → r ≡ %(some)s e k → %(n)s_at s p at ≡ %(of)s p e%(kid)s ∷ %(n)s_at s p k.at
   %(n)s-now p e k m = f.list p ∙ ap (%(n)s_of s p) m
 ''' % d
-        # plugin keys and unstored keys are gone along by the walk over all keys, which has its own measure
-        if d['n'] not in ('keys', 'unstored'):
+        if d['n'] not in UNMEASURED:
             o += '''
   pub %(n)s-nearer : (e : D.%(struct)s.%(struct)s) (k : Cursor) → r ≡ %(some)s e k → length s - k.at < length s - at
   %(n)s-nearer e k m = let h : suc (length s - k.at) ≤ length s - at = subst (λ x. %(n)s_left s x ≤ length s - at) m f.left in omega arith
@@ -314,8 +315,7 @@ def proofs():
         if d['named'] == 'walk':
             function, laws = 'lists/find_%(one)s' % d, 'search (kept, find-%(one)s-laws)' % d
             answers.write('record', function, [
-                'use Prim.Native.Nat.{◌-◌}', 'use Rattle.record.proofs.TextLaws.{kept}',
-                'use Rattle.record.proofs.StepLaws.{%(n)s-nearer, find-%(one)s-laws}' % d],
+                'use Rattle.record.proofs.TextLaws.{kept}', 'use Rattle.record.proofs.StepLaws.{%(n)s-nearer, find-%(one)s-laws}' % d],
                 [('returns-in_default', laws), ('returns-then-same', laws), ('loop-e-smaller', 'search %(n)s-nearer' % d),
                  ('loop-e-preserved', laws)])
             answers.write_invariants('record', function, [

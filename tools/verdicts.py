@@ -177,7 +177,7 @@ def definition():
     o = '''\
 -- The verdicts: the words and numbers of 01, What a check returns, and the messages of layout.rs byte for byte. Written by tools/verdicts.py.
 -- Assumes nothing.
-use Rattle.std.specs.Prelude.{List, [], ◌∷◌, ◌++◌, Bool, true, false, ℕ}
+use Rattle.std.specs.Prelude.{[], ◌∷◌, ◌++◌, Bool, true, false, ℕ}
 use Rattle.std.proofs.Math.Option.{Option, none, some}
 use Rattle.record.specs.Base.{Str, bytes, decimal, signed}
 use Rattle.record.specs.Fill.{joined}

@@ -11,7 +11,6 @@ use Rattle.record.specs.Steps.{bitfields_at, members_at, BitfieldsFrom, MembersF
 use Rattle.record.specs.Dates.{Dated}
 use Rattle.record.specs.declared.text.Text.{Text}
 use Rattle.record.specs.declared.operands.OptText.{OptText}
-use Rattle.record.specs.declared.operands.OptText.TheVariants as O
 use Rattle.record.specs.declared.command.Cursor.{Cursor}
 use Rattle.record.specs.declared.command.Bitfield.{Bitfield}
 use Rattle.record.specs.declared.command.Member.{Member}

@@ -1,12 +1,12 @@
 -- The check's answer, from what the two readings and the comparison answer. Assumes nothing.
-use Prim.Native.Nat.{ℕ, ◌≤◌}
+use Prim.Native.Nat.{ℕ}
 use mathlib.Core.List.{List}
 use mathlib.Core.Path.{◌≡◌, ap, subst, ◌∙◌}
 use lib.ListN.{length}
 use Rattle.record.specs.Base.{Str}
 use Rattle.record.specs.Scalars.{Scalar, scalars_of, built_in, built_in_rows}
 use Rattle.record.specs.Reading.{Rec, rec, schema_of}
-use Rattle.record.specs.Read.{Exact, Read}
+use Rattle.record.specs.Read.{Read}
 use Rattle.record.specs.declared.refusal.Refusal.{Refusal}
 use Rattle.record.specs.declared.refusal.Side.TheVariants.{Current, Released}
 use Rattle.record.specs.declared.read.Outcome.{Outcome}

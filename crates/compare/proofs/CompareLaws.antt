@@ -50,9 +50,8 @@ use Rattle.compare.specs.CoverTable.{changed_types, Changes}
 use Rattle.compare.specs.Required.{RequiredText}
 use Rattle.compare.specs.Heads.{HeadRelease, HeadUnreleased}
 use Rattle.compare.specs.Sought.{UnreleasedFrom}
-use Rattle.compare.specs.Passes.{Releases, Prepared, TypesLaid, LaidOut, ChangesNoted, Ran}
+use Rattle.compare.specs.Passes.{Releases, Prepared, LaidOut, ChangesNoted, Ran}
 use Rattle.compare.specs.declared.compare.Facts.{Facts}
-use Rattle.compare.specs.declared.compare.Counts.{Counts}
 
 -- a stream that is cut off needs no more room ----------------------------------------------------------------------------
 

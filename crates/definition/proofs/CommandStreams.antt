@@ -266,11 +266,11 @@ cells_of (suc w) [] e = absurd (omega arith)
 cells_of (suc w) (b ∷ x) e = ap (λ (l : Str). b ∷ l) (cells_of w x (omega arith))
 
 -- what is read of a command is read of its own bytes, whatever stands behind it
-module _ {C : Type 0} (b w : ℕ) (is_is_wide : width_of b ≡ w) (reads : Str → C) (own : (f : ℕ → ℕ) (t : Str) → reads (cells w f ++ t) ≡ reads (cells w f)) where
+module _ {C : Type 0} (b w : ℕ) (is-wide : width_of b ≡ w) (reads : Str → C) (own : (f : ℕ → ℕ) (t : Str) → reads (cells w f ++ t) ≡ reads (cells w f)) where
   pub own-bytes : (s : Str) (at : ℕ) (x : Str) (xs : List Str) → CommandsFrom s at (x ∷ xs) → Whole x → number x ≡ b → reads (drop at s) ≡ reads x
   unfolding stream_of
   own-bytes s at x xs h c e =
-      let l : length x ≡ w = c.wide ∙ ap width_of e ∙ is_is_wide in
+      let l : length x ≡ w = c.wide ∙ ap width_of e ∙ is-wide in
       let spelled = cells_of w x l in
       ap reads h ∙ sym (ap (λ (y : Str). reads (y ++ stream_of xs)) spelled) ∙ own (λ i. get_or x i 0) (stream_of xs) ∙ ap reads spelled
 

@@ -2,7 +2,7 @@
 use mathlib.Core.Path.{◌≡◌, refl, sym, ap, ◌∙◌}
 use mathlib.Core.List.{List, [], ◌∷◌, ◌++◌, append_assoc, append-nil}
 use mathlib.Core.Bool.{Bool, true, false}
-use Prim.Native.Nat.{ℕ, ◌+◌, ◌≤◌, ◌<◌}
+use Prim.Native.Nat.{ℕ, ◌≤◌, ◌<◌}
 use native.Mathlib.Omega.{arith}
 use lib.ListN.{get_or, drop}
 use lib.Dec.{eqb}
@@ -13,7 +13,6 @@ use Rattle.record.specs.Operands.{text_at}
 use Rattle.record.specs.Commands.{commands_at}
 use Rattle.record.specs.Seek.{after_at}
 use Rattle.record.specs.declared.text.Text.{Text}
-use Rattle.record.specs.declared.seek.Sought.{Sought}
 use Rattle.record.specs.declared.seek.Sought.TheVariants.{Nowhere, At}
 use Rattle.record.proofs.Stream.{commands-next, commands-stop, step-found}
 use Rattle.record.proofs.SeekLaws.{stepped, ended-there}

@@ -8,9 +8,8 @@ use lib.ListN.{length, take}
 use Rattle.record.specs.Base.{Str}
 use Rattle.record.specs.Scalars.{Scalar}
 use Rattle.record.specs.Schema.{Schema}
-use Rattle.record.specs.Reading.{rec, read, reading}
+use Rattle.record.specs.Reading.{rec, reading}
 use Rattle.record.specs.declared.refusal.Side.TheVariants.{Current}
-use Rattle.record.specs.declared.refusal.Refusal.{Refusal}
 use Rattle.record.specs.declared.refusal.Refusal.TheVariants as R
 use Rattle.record.proofs.WriterLaws.{puts-near}
 use Rattle.drafts.specs.Edits.{refused, settled}

@@ -1,8 +1,7 @@
 -- Draft and copy read: the cases of every call. Assumes nothing.
-use mathlib.Core.Path.{◌≡◌, refl, sym, ap, ap₂, subst, ◌∙◌}
+use mathlib.Core.Path.{◌≡◌, sym, ap, ap₂, subst, ◌∙◌}
 use mathlib.Core.List.{List, [], ◌∷◌}
 use Prim.Native.Nat.{ℕ}
-use native.Mathlib.Omega.{arith}
 use types.Run.{OneOf}
 use denote.Enum.Declared.{tag_of}
 use Rattle.record.specs.Base.{Str}
@@ -12,7 +11,7 @@ use Rattle.record.specs.Read.{reading_of, Read}
 use Rattle.record.specs.declared.refusal.Side.TheVariants.{Released}
 use Rattle.record.specs.declared.refusal.Refusal.{Refusal}
 use Rattle.record.specs.declared.read.Outcome.{Outcome}
-use Rattle.record.specs.declared.read.Outcome.TheVariants.{Readable, Refused}
+use Rattle.record.specs.declared.read.Outcome.TheVariants.{Refused}
 use Rattle.record.specs.contracts.read.Outcome as outcome-type
 use Rattle.record.proofs.ScalarLaws.{built_in-rows}
 use Rattle.record.proofs.Accepted.{accepting}

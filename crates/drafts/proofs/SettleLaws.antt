@@ -2,7 +2,7 @@
 use mathlib.Core.Path.{◌≡◌, refl, sym, ap, ap₂, subst, ◌∙◌}
 use mathlib.Core.List.{List, [], ◌∷◌}
 use mathlib.Core.Bool.{Bool, true, false, ◌&&◌}
-use Prim.Native.Nat.{ℕ, zero, suc, ◌+◌, ◌≤◌, ◌<◌}
+use Prim.Native.Nat.{ℕ, ◌+◌, ◌≤◌, ◌<◌}
 use native.Mathlib.Omega.{arith}
 use lib.ListN.{length, take, drop}
 use lib.Seq.{take_at}
@@ -23,9 +23,9 @@ use Rattle.record.specs.declared.refusal.Side.TheVariants.{Current}
 use Rattle.record.specs.declared.refusal.Refusal.{Refusal}
 use Rattle.record.specs.declared.refusal.Refusal.TheVariants as R
 use Rattle.record.specs.declared.read.Outcome.{Outcome}
-use Rattle.record.specs.declared.read.Outcome.TheVariants.{Readable, Refused}
+use Rattle.record.specs.declared.read.Outcome.TheVariants.{Refused}
 use Rattle.record.specs.declared.seek.Sought.{Sought}
-use Rattle.record.specs.declared.seek.Sought.TheVariants.{Nowhere, At}
+use Rattle.record.specs.declared.seek.Sought.TheVariants.{At}
 use Rattle.record.specs.contracts.read.Outcome as outcome-type
 use Rattle.record.specs.contracts.seek.Sought as sought-type
 use Rattle.record.proofs.ScalarLaws.{built_in-rows}
@@ -44,7 +44,7 @@ use Rattle.drafts.specs.Answering.{edited_as, Says, Both, Opens}
 use Rattle.drafts.specs.declared.pack.Ends.{Ends}
 use Rattle.drafts.specs.declared.saying.DraftAnswer.{DraftAnswer}
 use Rattle.drafts.specs.declared.opening.Opening.{Opening}
-use Rattle.drafts.specs.declared.opening.Opening.TheVariants.{Ready, Barred}
+use Rattle.drafts.specs.declared.opening.Opening.TheVariants.{Barred}
 use Rattle.drafts.specs.contracts.opening.Opening as opening-type
 use Rattle.drafts.proofs.Outcomes.{readable, ready, nowhere}
 use Rattle.drafts.proofs.StoreLaws.{parts-long}

@@ -13,7 +13,7 @@ use denote.Enum.Declared.{tag_of}
 use Rattle.record.specs.Base.{Str, find}
 use Rattle.record.specs.Scalars.{Scalar}
 use Rattle.record.specs.Letters.{odd_letter}
-use Rattle.record.specs.Commands.{operands, widths, command_of, step_at, place, start}
+use Rattle.record.specs.Commands.{operands, widths, command_of, step_at, start}
 use Rattle.record.specs.Seek.{after_at}
 use Rattle.record.specs.Judge.{may_stand, advanced, ready, faulted, faults_from, judged_with, judged_as, judged_at}
 use Rattle.record.specs.Reading.{rec, Opened, opened, vast, schema_from, refuse, Parsed, ok, bad, onto, continued, parse, parsed, vast_or, sizes_of, concluded, reading, stream_limit, pool_limit}

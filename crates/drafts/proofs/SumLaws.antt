@@ -25,7 +25,7 @@ use Rattle.record.specs.declared.refusal.Refusal.{Refusal}
 use Rattle.record.specs.declared.read.Outcome.{Outcome}
 use Rattle.record.specs.declared.read.Outcome.TheVariants.{Readable, Refused}
 use Rattle.record.specs.declared.seek.Sought.{Sought}
-use Rattle.record.specs.declared.seek.Sought.TheVariants.{Nowhere, At}
+use Rattle.record.specs.declared.seek.Sought.TheVariants.{At}
 use Rattle.record.specs.contracts.read.Outcome as outcome-type
 use Rattle.record.specs.contracts.seek.Sought as sought-type
 use Rattle.record.proofs.Stream.{commands-next, commands-stop}

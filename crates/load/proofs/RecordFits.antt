@@ -1,7 +1,7 @@
 -- A record of a pair: its commands fit. Assumes nothing.
 use mathlib.Core.Path.{refl}
 use mathlib.Core.List.{List, [], ◌∷◌, ◌++◌, Memᴰ}
-use Prim.Native.Nat.{ℕ, ◌+◌}
+use Prim.Native.Nat.{ℕ}
 use native.Mathlib.Omega.{arith}
 use Rattle.texts.specs.Utf8.{inside, is_tail, no_tail}
 use Rattle.record.specs.Base.{Str, bytes}

@@ -1,6 +1,6 @@
 -- The plan that a setting gives, and its records as commands: the sections that both records share come first, the structures last.
 -- Assumes nothing.
-use Rattle.std.specs.Prelude.{List, [], ◌∷◌, ◌++◌, true, false, ℕ, ◌+◌, ◌-◌, ◌^◌}
+use Rattle.std.specs.Prelude.{List, [], ◌∷◌, ◌++◌, true, false, ℕ, ◌-◌, ◌^◌}
 use Rattle.std.proofs.Math.Option.{Option, none, some}
 use Rattle.record.specs.Base.{Str, bytes}
 use Rattle.record.specs.Stretch.{text_of}

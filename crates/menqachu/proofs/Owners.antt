@@ -13,7 +13,7 @@ use Rattle.record.specs.Schema.{Schema, Struct}
 use Rattle.record.specs.Commands.{struct_at, commands_at}
 use Rattle.record.specs.Lists.{opt_of, listed, anything, structs}
 use Rattle.record.specs.Steps.{structs_at, families_at}
-use Rattle.record.specs.Reading.{Rec, Reading, read, refuse, reading, schema_from, schema_of}
+use Rattle.record.specs.Reading.{Reading, read, refuse, reading, schema_from, schema_of}
 use Rattle.record.specs.Owner.{Types, types_in, struct_in_slot, with_name, roots_in, ownership_order, roots, owner_of, First, now, later}
 use Rattle.record.specs.References.{types_at}
 use Rattle.record.specs.Versioned.{struct_commands_at, command_in_slot}

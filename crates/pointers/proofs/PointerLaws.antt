@@ -30,7 +30,7 @@ use Rattle.record.specs.declared.refusal.Refusal.{Refusal}
 use Rattle.record.specs.declared.refusal.Side.TheVariants.{Current}
 use Rattle.record.specs.declared.read.Outcome.{Outcome}
 use Rattle.record.specs.declared.read.Outcome.TheVariants.{Readable, Refused}
-use Rattle.layout.specs.Answer.{Answer, refusal_of, Answered}
+use Rattle.layout.specs.Answer.{refusal_of, Answered}
 use Rattle.layout.specs.declared.answer.Answer as D
 use Rattle.layout.proofs.Readable.{reading-refused, reading-read}
 use Rattle.pointers.specs.Pointers.{pointee_of, name_fault, is_struct, is_family, pointee_fault, field_fault, field_here, accepted, or_next, first_fault, pointers_read, pointers, fault_of, fault_from, Answers}

@@ -19,7 +19,7 @@ use Rattle.record.specs.Steps.{field_key_at}
 use Rattle.record.specs.Index.{Indexed}
 use Rattle.record.specs.Owner.{referenced, type_fields, Edge, Leads, here, along}
 use Rattle.record.specs.References.{types_at}
-use Rattle.record.specs.Marks.{body_at, body_of, PlacesFrom, reference_at, entered, target_at, IsBody, Into, LeadsTo, place_past, type_place, place_number, Clear, unseen, Ready, IsVisited, Visited, Named, Full, Change, as_it_was, a-field, a-type, Led, Walked, TypeWalked, BodyWalked, Beyond, FieldWalked}
+use Rattle.record.specs.Marks.{body_at, body_of, PlacesFrom, reference_at, entered, target_at, IsBody, Into, LeadsToTarget, place_past, type_place, place_number, Clear, unseen, Ready, IsVisited, Visited, Named, Full, Change, as_it_was, a-field, a-type, Led, Walked, TypeWalked, BodyWalked, Beyond, FieldWalked}
 use Rattle.record.specs.declared.command.Cursor.{Cursor}
 use Rattle.record.specs.declared.marks.Body.{Body}
 use Rattle.record.specs.declared.marks.Target.{Target}
@@ -221,13 +221,13 @@ module _ (s p : Str) (mark q : ℕ) (m : List ℕ) where
         filled n (inl h) = inl (visited-before n h)
         filled n (inr f) = inr f
 
-    module _ (x : List ℕ) (r : Target) (found : Indexed s p x → LeadsTo s p q r) where
+    module _ (x : List ℕ) (r : Target) (found : Indexed s p x → LeadsToTarget s p q r) where
       pub field-ends : r ≡ Nothing → Led s p x m (set m q mark) (FieldWalked s p mark q m (set m q mark))
       field-ends e = record {
         same_length = length-set m q mark;
         fewer = let u = unseen-set m q mark inside free real in omega arith;
         so = λ i.
-            let nothing : target_at s p q ≡ none = subst (LeadsTo s p q) e (found i) in
+            let nothing : target_at s p q ≡ none = subst (LeadsToTarget s p q) e (found i) in
             marking (set m q mark) (walked_none s p) (λ n t. absurd (let z : ◌≡◌ {A = ℕ} 0 1 = cc in omega arith));
       }
 
@@ -235,7 +235,7 @@ module _ (s p : Str) (mark q : ℕ) (m : List ℕ) where
       field-leads b after e g = record {
         same_length = g.same_length ∙ length-set m q mark;
         fewer = let f = g.fewer in let u = unseen-set m q mark inside free real in omega arith;
-        so = λ i. through (subst (LeadsTo s p q) e (found i)) (g.so i);
+        so = λ i. through (subst (LeadsToTarget s p q) e (found i)) (g.so i);
       }
         where
           through : Into s p q b → BodyWalked s p mark b (set m q mark) after → FieldWalked s p mark q m after

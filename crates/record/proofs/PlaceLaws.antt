@@ -18,7 +18,7 @@ use Rattle.record.specs.Seek.{after_at, SoughtFrom}
 use Rattle.record.specs.Owner.{Types, referenced, has_slot, variant_fields, fields_in, type_fields}
 use Rattle.record.specs.Index.{first_place, sought_at, struct_placed, family_placed, Indexed, Declared}
 use Rattle.record.specs.References.{types_at, Refers}
-use Rattle.record.specs.Marks.{between, body_at, body_left, PlacesFrom, reference_at, entered, target_at, either_place, type_place, IsBody, Entering, LeadsTo}
+use Rattle.record.specs.Marks.{between, body_at, body_left, PlacesFrom, reference_at, entered, target_at, either_place, type_place, IsBody, Entering, LeadsToTarget}
 use Rattle.record.specs.declared.text.Text.{Text}
 use Rattle.record.specs.declared.operands.OptText.{OptText}
 use Rattle.record.specs.declared.operands.OptText.TheVariants.{Absent, Given}
@@ -228,7 +228,7 @@ module _ (s p : Str) (q : ℕ) where
   reference-is x r h g = g.name none ∙ ap (λ (y : Str). referenced (field_of p (field_at y) none)) h
 
   module _ (r : OptText) (found : opt_of p r ≡ reference_at s p q) where
-    pub target_none : r ≡ Absent → LeadsTo s p q Nothing
+    pub target_none : r ≡ Absent → LeadsToTarget s p q Nothing
     unfolding target_at entered
     target_none m = ap (entered (types_at s p)) (sym found ∙ ap (opt_of p) m)
 
@@ -236,12 +236,12 @@ module _ (s p : Str) (q : ℕ) where
       named : reference_at s p q ≡ some w
       named = sym found ∙ ap (opt_of p) m ∙ ap some (sym e)
 
-      entered-target : (o : Target) → Entering s p w o → LeadsTo s p q o
+      entered-target : (o : Target) → Entering s p w o → LeadsToTarget s p q o
       unfolding target_at
       entered-target Nothing h = ap (entered (types_at s p)) named ∙ not_entered (types_at s p) w h
       entered-target (Fields b) h = record { name = w; target = is-entered (types_at s p) (reference_at s p q) w named h.0; body = h.1 }
 
-      pub target-entered : (o : Target) → (Indexed s p x → Entering s p w o) → LeadsTo s p q o
+      pub target-entered : (o : Target) → (Indexed s p x → Entering s p w o) → LeadsToTarget s p q o
       target-entered o h = entered-target o (h i)
 
 pub ruleset target-laws = (target_none, target-entered)

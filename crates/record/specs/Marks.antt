@@ -95,9 +95,9 @@ pub record Into (s p : Str) (q : ℕ) (b : Body) : Type 0 where
   pub body : IsBody s p name b
 
 -- what the field at a place leads to
-abbrev pub LeadsTo : Str → Str → ℕ → Target → Type 0
-LeadsTo s p q Nothing = target_at s p q ≡ none
-LeadsTo s p q (Fields b) = Into s p q b
+abbrev pub LeadsToTarget : Str → Str → ℕ → Target → Type 0
+LeadsToTarget s p q Nothing = target_at s p q ≡ none
+LeadsToTarget s p q (Fields b) = Into s p q b
 
 -- walks ------------------------------------------------------------------------------------------------------------------
 

@@ -4,7 +4,7 @@ ghost use Rattle.std.specs.Prelude.{◌≡◌, ◌≤◌, ◌<◌, length, get_o
 ghost use Rattle.record.specs.Base.{Str};
 ghost use Rattle.record.specs.Lists.{opt_of};
 ghost use Rattle.record.specs.Index.{Indexed, Declared};
-ghost use Rattle.record.specs.Marks.{between, PlacesFrom, reference_at, IsBody, Entering, LeadsTo, Clear, Ready, IsVisited, Led, BodyWalked, FieldWalked};
+ghost use Rattle.record.specs.Marks.{between, PlacesFrom, reference_at, IsBody, Entering, LeadsToTarget, Clear, Ready, IsVisited, Led, BodyWalked, FieldWalked};
 ghost use Rattle.record.specs.Ownership.{RootWalked, RootsMarked, OwnersMarked};
 
 use crate::command::Cursor;
@@ -132,7 +132,7 @@ fn enter(stream: &[u8], pool: &[u8], index: &[u16], name: &[u8]) -> Target
 fn target_at(stream: &[u8], pool: &[u8], index: &[u16], place: usize) -> Target
     ensures { let s : Str = stream.now in
         let p : Str = pool.now in
-        (Indexed s p index.now → LeadsTo s p place result) }
+        (Indexed s p index.now → LeadsToTarget s p place result) }
 {
     let OptText::Given(name) = reference_at(stream, pool, place) else {
         return Target::Nothing;

@@ -14,11 +14,11 @@ is_tail b = inside 0x80 0xbf b
 unfoldable pub utf81 : ℕ → Bool
 utf81 a = inside 0x00 0x7f a
 
--- UTF8-2 = %x_c2-DF UTF8-tail
+-- UTF8-2 = %xC2-DF UTF8-tail
 unfoldable pub utf82 : ℕ → ℕ → Bool
 utf82 a b = inside 0xc2 0xdf a && is_tail b
 
--- UTF8-3 = %x_e0 %x_a0-BF UTF8-tail / %x_e1-EC 2( UTF8-tail ) / %x_ed %x80-9F UTF8-tail / %x_ee-EF 2( UTF8-tail )
+-- UTF8-3 = %xE0 %xA0-BF UTF8-tail / %xE1-EC 2( UTF8-tail ) / %xED %x80-9F UTF8-tail / %xEE-EF 2( UTF8-tail )
 unfoldable pub utf83 : ℕ → ℕ → ℕ → Bool
 utf83 a b c =
     ((inside 0xe0 0xe0 a && inside 0xa0 0xbf b) && is_tail c)
@@ -26,7 +26,7 @@ utf83 a b c =
     || (((inside 0xed 0xed a && inside 0x80 0x9f b) && is_tail c)
     || ((inside 0xee 0xef a && is_tail b) && is_tail c)))
 
--- UTF8-4 = %x_f0 %x90-BF 2( UTF8-tail ) / %x_f1-F3 3( UTF8-tail ) / %x_f4 %x80-8F 2( UTF8-tail )
+-- UTF8-4 = %xF0 %x90-BF 2( UTF8-tail ) / %xF1-F3 3( UTF8-tail ) / %xF4 %x80-8F 2( UTF8-tail )
 unfoldable pub utf84 : ℕ → ℕ → ℕ → ℕ → Bool
 utf84 a b c d =
     (((inside 0xf0 0xf0 a && inside 0x90 0xbf b) && is_tail c) && is_tail d)

@@ -1,4 +1,3 @@
-use Prim.Native.Nat.{◌-◌}
 use Rattle.compare.proofs.AlikeLaws.{alike-here, alike-so-far, alike-on, alike-nearer}
 use Rattle.compare.proofs.alike.pass_places.Goals as goal
 

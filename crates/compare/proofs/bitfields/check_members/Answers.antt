@@ -1,5 +1,4 @@
 use borrow.Enum.Refused.{opened}
-use Prim.Native.Nat.{◌-◌}
 use Rattle.record.proofs.TextLaws.{kept, ended}
 use Rattle.record.proofs.StepLaws.{members-nearer}
 use Rattle.compare.proofs.BitfieldLaws.{members-laws}

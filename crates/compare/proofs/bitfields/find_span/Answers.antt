@@ -1,4 +1,3 @@
-use Prim.Native.Nat.{◌-◌}
 use Rattle.record.proofs.StepLaws.{members-nearer}
 use Rattle.compare.proofs.BitfieldLaws.{span-here, span-laws}
 use Rattle.compare.proofs.bitfields.find_span.Goals as goal

@@ -1,5 +1,4 @@
 use borrow.Enum.Refused.{opened}
-use Prim.Native.Nat.{◌-◌}
 use Rattle.compare.proofs.CompareLaws.{passes_on, passes-stop, passes-end}
 use borrow.Author.Rules.{rules}
 use Rattle.compare.proofs.compare.check_declared.Goals as goal

@@ -1,5 +1,4 @@
 use borrow.Enum.Refused.{opened}
-use Prim.Native.Nat.{◌-◌}
 use Rattle.record.proofs.TextLaws.{kept, ended}
 use Rattle.compare.proofs.ConstantLaws.{placed-laws}
 use borrow.Author.Rules.{rules}

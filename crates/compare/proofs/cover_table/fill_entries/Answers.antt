@@ -1,4 +1,3 @@
-use Prim.Native.Nat.{◌-◌}
 use Rattle.compare.proofs.CoverTableLaws.{entering-start, entering-over, entering-put, entering-end}
 use Rattle.compare.proofs.cover_table.fill_entries.Goals as goal
 

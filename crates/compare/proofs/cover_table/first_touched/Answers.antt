@@ -1,4 +1,3 @@
-use Prim.Native.Nat.{◌-◌}
 use Rattle.record.proofs.TextLaws.{kept, ended}
 use Rattle.compare.proofs.CoverTableLaws.{touched-laws}
 use Rattle.compare.proofs.cover_table.first_touched.Goals as goal

@@ -1,4 +1,3 @@
-use Prim.Native.Nat.{◌-◌}
 use Rattle.compare.proofs.CoverageLaws.{cut-laws, cut_on}
 use Rattle.compare.proofs.coverage.before_colons.Goals as goal
 

@@ -1,4 +1,3 @@
-use Prim.Native.Nat.{◌-◌}
 use Rattle.record.proofs.StepLaws.{values-nearer}
 use Rattle.compare.proofs.EnumLaws.{number-here, number-laws}
 use Rattle.compare.proofs.enums.find_number.Goals as goal

@@ -1,5 +1,4 @@
 use borrow.Enum.Refused.{opened}
-use Prim.Native.Nat.{◌-◌}
 use Rattle.compare.proofs.FieldLaws.{table-typed, visited-start, visited-on, visited-end, violated-passed, types-here, types-end, types-on, types-stop}
 use borrow.Author.Rules.{rules}
 use Rattle.compare.proofs.fields.check_fields.Goals as goal

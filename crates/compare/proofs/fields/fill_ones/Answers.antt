@@ -1,4 +1,3 @@
-use Prim.Native.Nat.{◌-◌}
 use Rattle.compare.proofs.FieldLaws.{ones-start, ones-on, ones-end}
 use borrow.Author.Rules.{rules}
 use Rattle.compare.proofs.fields.fill_ones.Goals as goal

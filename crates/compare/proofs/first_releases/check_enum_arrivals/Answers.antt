@@ -1,5 +1,4 @@
 use borrow.Enum.Refused.{opened}
-use Prim.Native.Nat.{◌-◌}
 use Rattle.record.proofs.TextLaws.{kept, ended}
 use Rattle.record.proofs.StepLaws.{enums-nearer}
 use Rattle.compare.proofs.FirstReleaseLaws.{enums-begin, enum-arrivals-laws}

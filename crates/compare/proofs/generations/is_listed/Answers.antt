@@ -1,4 +1,3 @@
-use Prim.Native.Nat.{◌-◌}
 use Rattle.record.proofs.TextLaws.{kept, ended}
 use Rattle.record.proofs.StepLaws.{versions-nearer}
 use Rattle.compare.proofs.GenerationLaws.{listed-begin, listed-laws}

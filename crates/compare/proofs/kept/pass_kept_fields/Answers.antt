@@ -1,4 +1,3 @@
-use Prim.Native.Nat.{◌-◌}
 use Rattle.compare.proofs.KeptLaws.{keeping_start, keeping-noted, keeping-room, keeping-end, keeping-alike, keeping-on, keeping-nearer}
 use Rattle.compare.proofs.kept.pass_kept_fields.Goals as goal
 

@@ -1,4 +1,3 @@
-use Prim.Native.Nat.{◌-◌}
 use Rattle.record.proofs.SeekLaws.{sought-nearer}
 use Rattle.compare.proofs.NearLaws.{nearing-start, nearing-end, key-inside, nearing-put, nearing-on}
 use Rattle.compare.proofs.near.fill_fields.Goals as goal

@@ -1,4 +1,3 @@
-use Prim.Native.Nat.{◌-◌}
 use Rattle.compare.proofs.FieldLaws.{table-typed}
 use Rattle.drafts.proofs.ChangedLaws.{changed-start, changed-over, changed-on, changed-end, count-few}
 use borrow.Author.Rules.{rules}

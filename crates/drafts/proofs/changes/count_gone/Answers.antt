@@ -1,4 +1,3 @@
-use Prim.Native.Nat.{◌-◌}
 use Rattle.drafts.proofs.ChangedLaws.{gone-start, gone-over, gone-on, gone-end}
 use Rattle.drafts.proofs.changes.count_gone.Goals as goal
 

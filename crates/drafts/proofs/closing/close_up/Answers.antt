@@ -1,4 +1,3 @@
-use Prim.Native.Nat.{◌-◌}
 use Rattle.drafts.proofs.ClosingLaws.{closing-start, closing-write, closing-add, closing-less, closing-on, closing-over, closing_end}
 use Rattle.drafts.proofs.closing.close_up.Goals as goal
 

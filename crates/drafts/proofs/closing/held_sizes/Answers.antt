@@ -1,4 +1,3 @@
-use Prim.Native.Nat.{◌-◌}
 use Rattle.drafts.proofs.ClosingLaws.{sizes-start, sizes-on, sizes-end}
 use Rattle.drafts.proofs.closing.held_sizes.Goals as goal
 

@@ -1,4 +1,3 @@
-use Prim.Native.Nat.{◌-◌}
 use Rattle.drafts.proofs.ClosingLaws.{sum-start, sum-on, sum_fits, sum-short, sum-end}
 use Rattle.drafts.proofs.closing.kept_before.Goals as goal
 

@@ -1,4 +1,3 @@
-use Prim.Native.Nat.{◌-◌}
 use Rattle.drafts.proofs.ClosingLaws.{moved-start, moved_on, moved-end}
 use Rattle.drafts.proofs.closing.moved_starts.Goals as goal
 

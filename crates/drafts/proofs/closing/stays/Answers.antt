@@ -1,5 +1,4 @@
 use mathlib.Core.Path.{refl}
-use Prim.Native.Nat.{◌-◌}
 use Rattle.drafts.proofs.ClosingLaws.{covers-on, covers-here, covers-short, covers-end}
 use Rattle.drafts.proofs.closing.stays.Goals as goal
 

@@ -1,5 +1,4 @@
 use Rattle.record.proofs.SeekLaws.{after-nearer}
-use Prim.Native.Nat.{◌-◌}
 use Rattle.drafts.proofs.FindLaws.{finding-start, finding-none, finding-here, finding-on}
 use Rattle.drafts.proofs.find.find_type.Goals as goal
 

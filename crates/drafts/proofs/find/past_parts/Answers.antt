@@ -1,6 +1,5 @@
 use Rattle.record.proofs.SeekLaws.{after-nearer}
 use mathlib.Core.Path.{refl}
-use Prim.Native.Nat.{◌-◌}
 use Rattle.drafts.proofs.FindLaws.{parts_none, parts-on, parts-end}
 use Rattle.record.proofs.TextLaws.{kept, ended}
 use Rattle.drafts.proofs.find.past_parts.Goals as goal

@@ -1,5 +1,4 @@
 use Rattle.drafts.proofs.ShapeLaws.{along-front, shape-whole, shape-nearer, shape_on, shape-misfit}
-use Prim.Native.Nat.{◌-◌}
 use Rattle.drafts.proofs.judging.read_shape.Goals as goal
 
 pub loop-after-init : goal.loop-after-init

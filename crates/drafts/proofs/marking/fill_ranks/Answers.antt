@@ -1,4 +1,3 @@
-use Prim.Native.Nat.{◌-◌}
 use Rattle.drafts.proofs.MarkedLaws.{ranked-start, ranked-on, ranked-end}
 use Rattle.drafts.proofs.marking.fill_ranks.Goals as goal
 

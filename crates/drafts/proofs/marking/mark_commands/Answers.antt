@@ -1,5 +1,4 @@
 use Rattle.record.proofs.SeekLaws.{after-nearer}
-use Prim.Native.Nat.{◌-◌}
 use Rattle.drafts.proofs.MarkedLaws.{marking-start, marking-on, marking-end, marks-stop, marks-on, marks-end}
 use Rattle.drafts.proofs.marking.mark_commands.Goals as goal
 

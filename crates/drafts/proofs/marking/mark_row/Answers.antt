@@ -1,4 +1,3 @@
-use Prim.Native.Nat.{◌-◌}
 use Rattle.drafts.proofs.MarkedLaws.{marking-start, marking-on, marking-end, texts-on, texts-end}
 use native.Mathlib.Omega.{arith}
 use Rattle.drafts.proofs.marking.mark_row.Goals as goal

@@ -1,4 +1,3 @@
-use Prim.Native.Nat.{◌-◌}
 use Rattle.drafts.proofs.MarkedLaws.{marked_start, marked-on, marked-end, marked-past}
 use Rattle.drafts.proofs.marking.mark_text.Goals as goal
 

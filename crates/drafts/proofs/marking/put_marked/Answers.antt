@@ -1,5 +1,4 @@
 use mathlib.Core.Path.{refl}
-use Prim.Native.Nat.{◌-◌}
 use Rattle.drafts.proofs.MarkedLaws.{kept_on, kept-over, kept-end}
 use Rattle.drafts.proofs.PutLaws.{putting-start, putting-on, putting-same, putting-end}
 use native.Mathlib.Omega.{arith}

@@ -1,4 +1,3 @@
-use Prim.Native.Nat.{◌-◌}
 use Rattle.drafts.proofs.RowLaws.{first-start, free_on, free-here, first-none}
 use Rattle.drafts.proofs.names.free_row.Goals as goal
 

@@ -1,4 +1,3 @@
-use Prim.Native.Nat.{◌-◌}
 use Rattle.drafts.proofs.RowLaws.{first-start, first_on, first-here, first-none}
 use Rattle.drafts.proofs.names.row_of.Goals as goal
 

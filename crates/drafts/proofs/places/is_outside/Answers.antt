@@ -1,5 +1,4 @@
 use mathlib.Core.Path.{refl}
-use Prim.Native.Nat.{◌-◌}
 use Rattle.drafts.proofs.PlaceLaws.{any-on, any_here, any-end}
 use Rattle.drafts.proofs.places.is_outside.Goals as goal
 

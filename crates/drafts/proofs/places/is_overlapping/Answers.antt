@@ -1,5 +1,4 @@
 use mathlib.Core.Path.{refl}
-use Prim.Native.Nat.{◌-◌}
 use Rattle.drafts.proofs.PlaceLaws.{pairs-on, pairs-here, pairs_end}
 use Rattle.drafts.proofs.places.is_overlapping.Goals as goal
 

@@ -1,6 +1,5 @@
 use Rattle.record.proofs.SeekLaws.{after-nearer}
 use mathlib.Core.Path.{refl}
-use Prim.Native.Nat.{◌-◌}
 use Rattle.drafts.proofs.PutLaws.{putting-start, putting-on, putting-end, written-stop, written_on, written-end}
 use native.Mathlib.Omega.{arith}
 use Rattle.drafts.proofs.writing.put_commands.Goals as goal

@@ -1,4 +1,3 @@
-use Prim.Native.Nat.{◌-◌}
 use native.Mathlib.Nat.{sub-zero}
 use Rattle.drafts.proofs.PutLaws.{putting-start, putting-on, putting-end, plain-on, plain_end}
 use native.Mathlib.Omega.{arith}

@@ -1,5 +1,4 @@
 use mathlib.Core.Path.{refl}
-use Prim.Native.Nat.{◌-◌}
 use Rattle.drafts.proofs.PutLaws.{putting-start, putting-on, putting-end, row_on, row-end}
 use native.Mathlib.Omega.{arith}
 use Rattle.drafts.proofs.writing.put_row.Goals as goal

@@ -1,4 +1,3 @@
-use Prim.Native.Nat.{◌-◌}
 use Rattle.record.proofs.SeekLaws.{sought-nearer}
 use Rattle.pointers.proofs.PointerLaws.{faults-end, faults-on, faults-stop}
 use Rattle.pointers.proofs.check.first_fault.Goals as goal
