@@ -4,7 +4,8 @@ ghost use Rattle.std.specs.Prelude.{◌≡◌, ◌≤◌, ◌<◌, length, get_o
 ghost use Rattle.record.specs.Base.{Str};
 ghost use Rattle.record.specs.Lists.{opt_of};
 ghost use Rattle.record.specs.Index.{Indexed, Declared};
-ghost use Rattle.record.specs.Marks.{between, PlacesFrom, reference_at, IsBody, Entering, LeadsToTarget, Clear, Ready, IsVisited, Led, BodyWalked, FieldWalked};
+ghost use Rattle.record.specs.Marks.{between, PlacesFrom, reference_at, IsBody, Entering, LeadsToTarget};
+ghost use Rattle.record.specs.Marks.{Clear, Ready, IsVisited, Led, BodyWalked, FieldWalked};
 ghost use Rattle.record.specs.Ownership.{RootWalked, RootsMarked, OwnersMarked};
 
 use crate::command::Cursor;
