@@ -1,5 +1,5 @@
-// The exported calls, as menqachu_c hands them to programs in C and Rust. They are the calls of compare, layout, pointers, load, drafts and texts; what
-// each promises is a line of specs/Guarantees.
+// The exported calls, as menqachu_c hands them to programs in C and Rust. They are the calls of compare, layout, pointers, load, drafts and texts;
+// what each promises is a line of specs/Guarantees.
 #![tactic(auto)]
 
 ghost use Rattle.std.specs.Prelude.{[]};
