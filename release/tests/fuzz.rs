@@ -5,7 +5,8 @@
 mod common;
 
 use std::process::Stdio;
-use std::time::Instant;
+use std::thread::sleep;
+use std::time::{Duration, Instant};
 
 use common::vectors::records;
 use common::{command, run_in, Drawn, Folder};
@@ -229,9 +230,10 @@ fn hold(folder: &Folder, calls: &[&str], input: &[u8], good: &[u8], round: &str)
     folder.file("good", good);
     for call in calls.iter().map(|call| filled(call)) {
         let (status, mut took) = timed(folder, &call, input, good);
-        // Other work on the machine makes a run longer, so the shortest of three counts.
-        for _ in 0..2 {
+        // Other work on the machine makes a run longer, so the shortest of ten counts, each a little later.
+        for pause in 1..10 {
             if took > LIMIT {
+                sleep(Duration::from_millis(100 * pause));
                 took = took.min(timed(folder, &call, input, good).1);
             }
         }
@@ -255,7 +257,8 @@ fn timed(folder: &Folder, call: &str, input: &[u8], good: &[u8]) -> (Option<i32>
     command.stdin(Stdio::null()).stdout(Stdio::null()).stderr(Stdio::null());
     let before = processor();
     let status = command.status().expect("the command starts").code();
-    (status, processor() - before)
+    // A difference of two such numbers is rounded, since 0.2 s is not more than 0.2 s.
+    (status, ((processor() - before) * 100.0).round() / 100.0)
 }
 
 #[test]
