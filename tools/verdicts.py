@@ -292,15 +292,14 @@ def meaning_uses(ghost=False):
 
 def code():
     """src/verdict.rt and src/messages.rt"""
-    o = '''// What a pass answers: nothing, or the first violation with what its message names; a signed number is kept as its 64 bits.
+    o = '''// A violation with what its message names; a signed number is kept as its 64 bits. A pass answers Ok, or the first violation as its error.
 // Written by tools/verdicts.py.
 %s
 ghost use Rattle.std.specs.Prelude.{◌≡◌};
-ghost use Rattle.verdicts.specs.Meaning.{number_for};
+ghost use Rattle.verdicts.specs.Meaning.{number_for, number_found};
 
 #[derive(Clone, Copy)]
 pub enum Verdict {
-    Passed,
 ''' % type_uses()
     for r in TABLE:
         fields = ''.join('        %s: %s,\n' % (n, k.field) for n, k in r.kinds.items())
@@ -308,16 +307,29 @@ pub enum Verdict {
     o += '''}
 
 impl Verdict {
-    // 01's number, and 0 for none.
+    // 01's number.
     pub fn number(self) -> u32
         ensures { result ≡ number_for self }
     {
         match self {
-            Verdict::Passed => 0,
 '''
     for r in TABLE:
         o += '            %s => %d,\n' % (pattern(r, ', '.join('%s: _' % n for n in r.kinds)), r.number)
-    open(C + 'src/verdict.rt', 'w').write(o + '        }\n    }\n}\n')
+    o += '''        }
+    }
+}
+
+// 01's number of what a pass answers, 0 for no violation.
+pub fn number_found(found: Result<(), Verdict>) -> u32
+    ensures { result ≡ number_found found }
+{
+    match found {
+        Ok(_) => 0,
+        Err(v) => v.number(),
+    }
+}
+'''
+    open(C + 'src/verdict.rt', 'w').write(o)
     o = '''// The messages of the verdicts, written from their templates: a byte below 32 is the number of an argument. Written by tools/verdicts.py.
 %s
 ghost use Rattle.record.specs.Base.{Str};
@@ -325,7 +337,7 @@ ghost use Rattle.record.specs.Base.{Str};
 ghost use Rattle.definition.specs.Verdicts as D;
 ghost use Rattle.definition.specs.Verdicts.{message_of, %s};
 ghost use Rattle.verdicts.specs.Template.{Writes};
-ghost use Rattle.verdicts.specs.Meaning.{meaning};
+ghost use Rattle.verdicts.specs.Meaning.{violation, meaning};
 ''' % (type_uses(['use crate::template::%s;' % n for n in ['Arg', 'Written'] + [writer(r) for r in TABLE]] + ['use crate::verdict::Verdict;']),
        meaning_uses(ghost=True), ', '.join(r.name for r in TABLE))
     for r in TABLE:
@@ -340,17 +352,30 @@ fn write_%s(out: &mut [u8], %spool: &[u8], old: &[u8]) -> Written
 ''' % (r.number, r.name, ''.join('%s: %s, ' % (n, k.field) for n, k in r.kinds.items()), pools(r), meant(r, 'pool', 'old'),
        writer(r), template(r), arguments(r))
     o += '''
-// Puts the message of a verdict at the front of out, if it fits.
-pub fn write_verdict(out: &mut [u8], v: Verdict, pool: &[u8], old: &[u8]) -> Written
-    ensures { let said : D.Verdict = meaning pool.now old.now v in
+// Puts the message of a violation at the front of out, if it fits.
+fn write_violation(out: &mut [u8], v: Verdict, pool: &[u8], old: &[u8]) -> Written
+    ensures { let said : D.Verdict = violation pool.now old.now v in
         Writes out.old (message_of said) out.new result }
 {
     match v {
-        Verdict::Passed => Written::Whole(0),
 '''
     for r in TABLE:
         o += '        %s => write_%s(out, %spool, old),\n' % (pattern(r, ', '.join(r.kinds)), r.name, ''.join('%s, ' % n for n in r.kinds))
-    open(C + 'src/messages.rt', 'w').write(o + '    }\n}\n')
+    o += '''    }
+}
+
+// Puts the message of what a pass answers at the front of out, if it fits: none has an empty one.
+pub fn write_verdict(out: &mut [u8], found: Result<(), Verdict>, pool: &[u8], old: &[u8]) -> Written
+    ensures { let said : D.Verdict = meaning pool.now old.now found in
+        Writes out.old (message_of said) out.new result }
+{
+    match found {
+        Ok(_) => Written::Whole(0),
+        Err(v) => write_violation(out, v, pool, old),
+    }
+}
+'''
+    open(C + 'src/messages.rt', 'w').write(o)
 
 
 def writer(r):
@@ -373,79 +398,83 @@ def meaning():
     o = '''\
 -- What the code's verdicts mean, over the two pools, in the words of Verdicts of definition, and their numbers. Written by tools/verdicts.py.
 -- Assumes nothing.
-use Rattle.std.specs.Prelude.{ℕ}
+use Rattle.std.specs.Prelude.{ℕ, Result, Ok, Err, ⊤}
 use Rattle.record.specs.Base.{Str}
 %s
 use Rattle.definition.specs.Verdicts as D
 use Rattle.definition.specs.Verdicts.{%s}
 use Rattle.verdicts.specs.declared.verdict.Verdict.{Verdict}
-use Rattle.verdicts.specs.declared.verdict.Verdict.TheVariants.{Passed, %s}
+use Rattle.verdicts.specs.declared.verdict.Verdict.TheVariants.{%s}
 
-unfoldable pub meaning : Str → Str → Verdict → D.Verdict
-meaning pool old Passed = D.pass
+-- a violation
+unfoldable pub violation : Str → Str → Verdict → D.Verdict
 %s
+-- what a pass answers
+unfoldable pub meaning : Str → Str → Result ⊤ Verdict → D.Verdict
+meaning pool old (Ok u) = D.pass
+meaning pool old (Err v) = violation pool old v
+
 abbrev pub number_for : Verdict → ℕ
-number_for Passed = 0
-%s''' % (meaning_uses(), ', '.join(r.name for r in TABLE), ', '.join(r.variant for r in TABLE),
-       ''.join('meaning pool old %s =%s\n' % (constructor(r), indented(meant(r, 'pool', 'old'), len(constructor(r)) + 19)) for r in TABLE),
+%s
+abbrev pub number_found : Result ⊤ Verdict → ℕ
+number_found (Ok u) = 0
+number_found (Err v) = number_for v
+''' % (meaning_uses(), ', '.join(r.name for r in TABLE), ', '.join(r.variant for r in TABLE),
+       ''.join('violation pool old %s =%s\n' % (constructor(r), indented(meant(r, 'pool', 'old'), len(constructor(r)) + 21)) for r in TABLE),
        ''.join('number_for %s = %d\n' % (constructor(r), r.number) for r in TABLE))
     open(C + 'specs/Meaning.antt', 'w').write(o)
 
 
 def laws():
     """proofs/VerdictLaws.antt"""
-    tags = ' ∷ '.join(str(i + 1) for i in range(len(TABLE))) + ' ∷ []'
     o = '''-- The code's verdicts: a violation is what comes of it and of anything after it, and its number is the definition's. Written by
 -- tools/verdicts.py. Assumes nothing.
 use mathlib.Core.Path.{◌≡◌, refl}
-use mathlib.Core.List.{[], ◌∷◌}
-use types.Run.{OneOf}
-use denote.Enum.Declared.{tag_of}
+use Rattle.std.specs.Prelude.{Result, Ok, Err, ⊤}
 use Rattle.record.specs.Base.{Str}
-use Rattle.record.proofs.Tags.{not-one-of}
 use Rattle.definition.specs.Verdicts as D
 use Rattle.definition.specs.Verdicts.{word_number, verdict_number, %(names)s}
 use Rattle.definition.specs.Pass.{◌then◌}
-use Rattle.verdicts.specs.Meaning.{meaning, number_for}
-use Rattle.verdicts.specs.contracts.verdict.Verdict.{the_type}
+use Rattle.verdicts.specs.Meaning.{violation, meaning, number_for, number_found}
 use Rattle.verdicts.specs.declared.verdict.Verdict.{Verdict}
-use Rattle.verdicts.specs.declared.verdict.Verdict.TheVariants.{Passed, %(variants)s}
+use Rattle.verdicts.specs.declared.verdict.Verdict.TheVariants.{%(variants)s}
 
--- what the else of a test for Passed knows
-abbrev pub Violated : Verdict → Type 0
-Violated v = OneOf (%(tags)s) (tag_of the_type v)
-
-pub stays : (pool old : Str) (v : Verdict) (w : D.Verdict) → Violated v → (meaning pool old v then w) ≡ meaning pool old v
-unfolding meaning ◌then◌ %(opens)s
-stays pool old Passed w h = absurd (not-one-of (%(tags)s) 0 tt h)
-%(stays)s
-pub number_is : (pool old : Str) (v : Verdict) → number_for v ≡ verdict_number (meaning pool old v)
-unfolding meaning verdict_number word_number %(opens)s
-number_is pool old Passed = refl
-%(numbers)s''' % dict(
-        names=', '.join(r.name for r in TABLE), variants=', '.join(r.variant for r in TABLE), tags=tags, opens=' '.join(r.name for r in TABLE),
-        stays=''.join('stays pool old %s w h = refl\n' % constructor(r) for r in TABLE),
-        numbers=''.join('number_is pool old %s = refl\n' % constructor(r) for r in TABLE))
+pub stops : (pool old : Str) (v : Verdict) (w : D.Verdict) → (meaning pool old (Err v) then w) ≡ meaning pool old (Err v)
+unfolding meaning violation ◌then◌ %(opens)s
+%(stops)s
+number_of_violation : (pool old : Str) (v : Verdict) → number_for v ≡ verdict_number (violation pool old v)
+unfolding violation verdict_number word_number %(opens)s
+%(numbers)s
+pub number_is : (pool old : Str) (found : Result ⊤ Verdict) → number_found found ≡ verdict_number (meaning pool old found)
+unfolding meaning verdict_number
+number_is pool old (Ok u) = refl
+number_is pool old (Err v) = number_of_violation pool old v
+''' % dict(
+        names=', '.join(r.name for r in TABLE), variants=', '.join(r.variant for r in TABLE), opens=' '.join(r.name for r in TABLE),
+        stops=''.join('stops pool old %s w = refl\n' % constructor(r) for r in TABLE),
+        numbers=''.join('number_of_violation pool old %s = refl\n' % constructor(r) for r in TABLE))
     open(C + 'proofs/VerdictLaws.antt', 'w').write(o)
 
 
 def proofs():
     """proofs/verdict/Verdict/number/Answers.antt and proofs/messages/*/Answers.antt"""
     answers.write('verdicts', 'verdict/Verdict/number', [], [
-        ('returns-in-' + v, 'rw c.in-%s.is' % v) for v in ['Passed'] + [r.variant for r in TABLE]])
+        ('returns-in-' + r.variant, 'rw c.in-%s.is' % r.variant) for r in TABLE])
     for r in TABLE:
         call = writer(r)
         answers.write('verdicts', 'messages/write_' + r.name, [
             'use Rattle.record.specs.Base.{bytes}', 'use Rattle.record.specs.Fill.{joined}',
             'use Rattle.verdicts.specs.Template.{pick_of, filled}', 'use Rattle.definition.specs.Verdicts.{message_of, %s}' % r.name],
             [(call + '-requires', 'tt'), ('returns', 'c.%s.ensures' % call, 'bytes joined pick_of filled message_of ' + r.name)])
+    answers.write('verdicts', 'messages/write_violation', ['use Rattle.verdicts.specs.Meaning.{violation}'],
+                  [('write_%s-requires' % r.name, 'tt') for r in TABLE]
+                  + [('returns-in-' + r.variant, 'rw c.in-%s.is c.write_%s.ensures' % (r.variant, r.name), 'violation') for r in TABLE])
     answers.write('verdicts', 'messages/write_verdict', [
         'use mathlib.Core.Path.{refl}', 'use mathlib.Core.List.{[]}', 'use native.Mathlib.Omega.{arith}',
         'use Rattle.record.proofs.WriterLaws.{front-none}', 'use Rattle.verdicts.proofs.TemplateLaws.{writes-whole}',
         'use Rattle.definition.specs.Verdicts.{message_of}', 'use Rattle.verdicts.specs.Meaning.{meaning}'],
-        [('write_%s-requires' % r.name, 'tt') for r in TABLE]
-        + [('returns-in-Passed', 'rw c.in-Passed.is (writes-whole _ [] _ 0 refl (omega arith) (front-none _))', 'meaning message_of')]
-        + [('returns-in-' + r.variant, 'rw c.in-%s.is c.write_%s.ensures' % (r.variant, r.name), 'meaning') for r in TABLE])
+        [('returns-in-Ok', 'rw c.in-Ok.is (writes-whole _ [] _ 0 refl (omega arith) (front-none _))', 'meaning message_of'),
+         ('returns-in-Err', 'rw c.in-Err.is c.write_violation.ensures', 'meaning')])
 
 
 definition()

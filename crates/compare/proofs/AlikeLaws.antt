@@ -1,8 +1,8 @@
 -- Fields that are alike are the same, and what is passed over does not count. p is the first pool and q the second. Assumes nothing.
+use Rattle.std.specs.Prelude.{Option, Some, None}
 use Prim.Native.Nat.{ℕ, ◌+◌, ◌-◌, ◌/◌, ◌≤◌, ◌<◌}
 use mathlib.Core.Path.{◌≡◌, refl, sym, ap, ap₂, subst, ◌∙◌}
 use mathlib.Core.List.{List, ◌∷◌}
-use mathlib.Core.Option.{none}
 use mathlib.Core.Bool.{Bool, true, false, ◌&&◌, beq}
 use native.Mathlib.Omega.{arith}
 use borrow.Author.Tests.{eq-eqb}
@@ -14,7 +14,7 @@ use Rattle.record.specs.Stretch.{text_of}
 use Rattle.record.specs.Scalars.{Scalar}
 use Rattle.record.specs.Schema.{Field}
 use Rattle.record.specs.Commands.{operands, wide, widths, width_with, width_of, place, field_at}
-use Rattle.record.specs.Lists.{opt_of, number_of, field_of}
+use Rattle.record.specs.Lists.{opt_of, field_of}
 use Rattle.record.specs.Seek.{SoughtFrom}
 use Rattle.record.specs.Kind.{kind_of, is_padding}
 use Rattle.record.specs.Shapes.{FieldLayout, shape_type, capped}
@@ -22,10 +22,7 @@ use Rattle.record.specs.Reading.{rec}
 use Rattle.record.specs.declared.command as C
 use Rattle.record.specs.declared.command.Cursor.{Cursor}
 use Rattle.record.specs.declared.text.Text.{Text}
-use Rattle.record.specs.declared.operands.OptText.{OptText}
 use Rattle.record.specs.declared.seek.Between.TheVariants.{Keys}
-use Rattle.record.specs.declared.seek.Sought.{Sought}
-use Rattle.record.specs.declared.seek.Sought.TheVariants.{At}
 use Rattle.record.proofs.Basics.{eqs-refl}
 use Rattle.record.proofs.CommandLaws.{text_same, number_same}
 use Rattle.record.proofs.SeekLaws.{sought-stands, sought-nearer}
@@ -38,8 +35,6 @@ use Rattle.layout.proofs.SpotLaws.{place-passed, place-sound}
 use Rattle.definition.specs.Fields.{eq_place, eq_places}
 use Rattle.compare.proofs.LayoutLaws.{same_word}
 use Rattle.compare.specs.Alike.{SameNumbers, SameTexts, AlikePassed, Begins, AlikeNext, AlikeFrom}
-use Rattle.compare.specs.declared.alike.AlikeStep.{AlikeStep}
-use Rattle.compare.specs.declared.alike.AlikeStep.TheVariants.{Alike}
 
 -- parts ---------------------------------------------------------------------------------------------------------------------
 
@@ -53,13 +48,13 @@ pub numbers-alike : (s t x y : Str) (b : Bool) → x ≡ drop 13 s → y ≡ dro
 numbers-alike s t x y b f g h e =
     let d = byte-after s t (same_word x y _ _ b f g h e) in
     record {
-      count = ap number_of (number_same s t 13 (λ i k l. d i k));
-      rows = ap number_of (number_same s t 18 (λ i k l. d i (omega arith)));
-      cols = ap number_of (number_same s t 23 (λ i k l. d i (omega arith)));
-      size = ap number_of (number_same s t 28 (λ i k l. d i (omega arith)));
+      count = number_same s t 13 (λ i k l. d i k);
+      rows = number_same s t 18 (λ i k l. d i (omega arith));
+      cols = number_same s t 23 (λ i k l. d i (omega arith));
+      size = number_same s t 28 (λ i k l. d i (omega arith));
     }
 
-pub texts-alike : (p q s t : Str) (f g h i : Text) (k l m n : OptText) (x y u v : Str) (a b c d : Bool) → f ≡ text_at s 1 → g ≡ text_at t 1 → x ≡ text_of p f → y ≡ text_of q g → a ≡ eqs x y → a ≡ true
+pub texts-alike : (p q s t : Str) (f g h i : Text) (k l m n : Option Text) (x y u v : Str) (a b c d : Bool) → f ≡ text_at s 1 → g ≡ text_at t 1 → x ≡ text_of p f → y ≡ text_of q g → a ≡ eqs x y → a ≡ true
     → h ≡ text_at s 4 → i ≡ text_at t 4 → u ≡ text_of p h → v ≡ text_of q i → b ≡ eqs u v → b ≡ true → k ≡ opt_text_at s 7 → l ≡ opt_text_at t 7 → (c ≡ true → opt_of p k ≡ opt_of q l) → c ≡ true
     → m ≡ opt_text_at s 10 → n ≡ opt_text_at t 10 → (d ≡ true → opt_of p m ≡ opt_of q n) → d ≡ true → SameTexts p q (field_at s) (field_at t)
 texts-alike p q s t f g h i k l m n x y u v a b c d f1 g1 x1 y1 a1 a2 h1 i1 u1 v1 b1 b2 k1 l1 c1 c2 m1 n1 d1 d2 =
@@ -70,7 +65,7 @@ texts-alike p q s t f g h i k l m n x y u v a b c d f1 g1 x1 y1 a1 a2 h1 i1 u1 v
       element = ap (opt_of p) (sym m1) ∙ d1 d2 ∙ ap (opt_of q) n1;
     }
 
-fields-alike : (p q : Str) (f g : C.Field.Field) → SameNumbers f g → SameTexts p q f g → field_of p f none ≡ field_of q g none
+fields-alike : (p q : Str) (f g : C.Field.Field) → SameNumbers f g → SameTexts p q f g → field_of p f None ≡ field_of q g None
 fields-alike p q f g n t = λ x. record {
   name = t.name x;
   kind = t.kind x;
@@ -80,7 +75,7 @@ fields-alike p q f g n t = λ x. record {
   rows = n.rows x;
   cols = n.cols x;
   size = n.size x;
-  key = none;
+  key = None;
 }
 
 -- a field is in its 33 bytes
@@ -114,12 +109,12 @@ part_cut s a = let e : a + 33 - a ≡ 33 = omega arith in ap (λ (n : ℕ). fiel
 
 pub alike-there : (s p b q : Str) (a c : ℕ) (t u : Bool) → (t ≡ true → SameNumbers (field_at (take (a + 33 - a) (drop a s))) (field_at (take (c + 33 - c) (drop c b)))) → t ≡ true
     → (u ≡ true → SameTexts p q (field_at (take (a + 33 - a) (drop a s))) (field_at (take (c + 33 - c) (drop c b)))) → u ≡ true
-    → field_of p (field_at (drop a s)) none ≡ field_of q (field_at (drop c b)) none
+    → field_of p (field_at (drop a s)) None ≡ field_of q (field_at (drop c b)) None
 alike-there s p b q a c t u f g h i =
-    ap (λ (v : C.Field.Field). field_of p v none) (sym (part_cut s a)) ∙ fields-alike p q _ _ (f g) (h i) ∙ ap (λ (v : C.Field.Field). field_of q v none) (part_cut b c)
+    ap (λ (v : C.Field.Field). field_of p v None) (sym (part_cut s a)) ∙ fields-alike p q _ _ (f g) (h i) ∙ ap (λ (v : C.Field.Field). field_of q v None) (part_cut b c)
 
 -- a field's command is in the stream
-pub field-inside : (s : Str) (at : ℕ) (r : Sought) (a k : ℕ) → SoughtFrom s Keys 11 at r → r ≡ At a k → a + 33 ≤ length s
+pub field-inside : (s : Str) (at : ℕ) (r : Option (ℕ × ℕ)) (a k : ℕ) → SoughtFrom s Keys 11 at r → r ≡ Some (a, k) → a + 33 ≤ length s
 unfolding width_of width_with operands widths wide bytes
 field-inside s at r a k i m = let h = sought-stands s Keys 11 at r i a k m in let e = h.after in let l = h.within in omega arith
 
@@ -137,19 +132,19 @@ heads-same : (x : FieldLayout) (l m : List FieldLayout) → eq_places (x ∷ l) 
 unfolding eq_places
 heads-same x l m = ap (λ (t : Bool). t && eq_places l m) (place-self x)
 
-module _ (s p : Str) (z : List ℕ) (at : ℕ) (b q : Str) (y : List ℕ) (to : ℕ) (r : Sought) (i : SoughtFrom s Keys 11 at r) (a k : ℕ) (m : r ≡ At a k)
-    (r₀ : Sought) (i₀ : SoughtFrom b Keys 11 to r₀) (a₀ k₀ : ℕ) (m₀ : r₀ ≡ At a₀ k₀) where
+module _ (s p : Str) (z : List ℕ) (at : ℕ) (b q : Str) (y : List ℕ) (to : ℕ) (r : Option (ℕ × ℕ)) (i : SoughtFrom s Keys 11 at r) (a k : ℕ) (m : r ≡ Some (a, k))
+    (r₀ : Option (ℕ × ℕ)) (i₀ : SoughtFrom b Keys 11 to r₀) (a₀ k₀ : ℕ) (m₀ : r₀ ≡ Some (a₀, k₀)) where
   abbrev F : C.Field.Field
   F = field_at (drop a s)
 
   abbrev G : C.Field.Field
   G = field_at (drop a₀ b)
 
-  module _ (size : ℕ) (u : size ≡ get_or z (k / 33) 0) (u₀ : size ≡ get_or y (k₀ / 33) 0) (e : field_of p F none ≡ field_of q G none) where
+  module _ (size : ℕ) (u : size ≡ get_or z (k / 33) 0) (u₀ : size ≡ get_or y (k₀ / 33) 0) (e : field_of p F None ≡ field_of q G None) where
     one_place : (offset : ℕ) → place_at p (drop a s) offset size ≡ place_at q (drop a₀ b) offset size
     one_place offset =
         let n : text_of p F.name ≡ text_of q G.name = ap (λ (x : Field). x.name) e in
-        let t : shape_type (field_of p F none) ≡ shape_type (field_of q G none) = ap shape_type e in
+        let t : shape_type (field_of p F None) ≡ shape_type (field_of q G None) = ap shape_type e in
         let g : is_padding (kind_of (text_of p F.kind)) ≡ is_padding (kind_of (text_of q G.kind)) = ap (λ (x : Field). is_padding (kind_of x.kind)) e in
         λ x. record { name = n x; offset = offset; size = size; described = t x; padding = g x }
 
@@ -167,12 +162,12 @@ module _ (s p : Str) (z : List ℕ) (at : ℕ) (b q : Str) (y : List ℕ) (to : 
           sound₀ = place-sound b q w y to offset r₀ i₀ a₀ k₀ m₀ size end u₀ v d₀;
         }
 
-  pub alike_next : (x x₀ : ℕ) (t : Bool) → x ≡ get_or z (k / 33) 0 → x₀ ≡ get_or y (k₀ / 33) 0 → x ≡ x₀ → (t ≡ true → field_of p (field_at (drop a s)) none ≡ field_of q (field_at (drop a₀ b)) none) → t ≡ true
+  pub alike_next : (x x₀ : ℕ) (t : Bool) → x ≡ get_or z (k / 33) 0 → x₀ ≡ get_or y (k₀ / 33) 0 → x ≡ x₀ → (t ≡ true → field_of p (field_at (drop a s)) None ≡ field_of q (field_at (drop a₀ b)) None) → t ≡ true
       → AlikeNext s p z at b q y to a k k₀ x
   alike_next x x₀ t u u₀ o h e =
       record {
         passed = begins x u (o ∙ u₀) (h e);
-        sought = subst (λ (f : Sought). SoughtFrom s Keys 11 at f) m i;
+        sought = subst (λ (f : Option (ℕ × ℕ)). SoughtFrom s Keys 11 at f) m i;
         sized = u;
       }
 
@@ -189,10 +184,10 @@ module _ (s p : Str) (z : List ℕ) (b q : Str) (y : List ℕ) (c c₀ : SpotCur
     pub alike-so-far : (d d₀ : SpotCursor) → d ≡ cursor_at (Body (place at)) offset → d₀ ≡ cursor_at (Body (place to)) offset → AlikePassed s p z b q y c c₀ d d₀
     alike-so-far d d₀ e f = rw (e, f) o
 
-    pub alike-on : (t : AlikeStep) (a k l size e : ℕ) → AlikeFrom s p z at b q y to t → t ≡ Alike a k l size → e ≡ capped (offset + size)
+    pub alike-on : (t : Option (ℕ × ℕ × ℕ × ℕ)) (a k l size e : ℕ) → AlikeFrom s p z at b q y to t → t ≡ Some (a, k, l, size) → e ≡ capped (offset + size)
         → AlikePassed s p z b q y c c₀ (cursor_at (Body (place k)) e) (cursor_at (Body (place l)) e)
     alike-on t a k l size e f m v =
-        let n = subst (λ (x : AlikeStep). AlikeFrom s p z at b q y to x) m f in
+        let n = subst (λ (x : Option (ℕ × ℕ × ℕ × ℕ)). AlikeFrom s p z at b q y to x) m f in
         record {
           same = λ w d d₀.
               let h = n.passed w offset e v (o.sound w d d₀) (o.sound₀ w d d₀) in
@@ -215,8 +210,8 @@ module _ (s p : Str) (z : List ℕ) (b q : Str) (y : List ℕ) (c c₀ : SpotCur
         sound₀ = λ w f f₀. o.sound₀ w (record { sizes = f.sizes; ends = f.ends }) (record { sizes = f₀.sizes; ends = f₀.ends });
       })))
 
-pub alike-nearer : (s p : Str) (z : List ℕ) (at : ℕ) (b q : Str) (y : List ℕ) (to : ℕ) (t : AlikeStep) (a k l size : ℕ) → AlikeFrom s p z at b q y to t → t ≡ Alike a k l size → length s - k < length s - at
-alike-nearer s p z at b q y to t a k l size f m = sought-nearer s Keys 11 at (At a k) (subst (λ (x : AlikeStep). AlikeFrom s p z at b q y to x) m f).sought a k refl
+pub alike-nearer : (s p : Str) (z : List ℕ) (at : ℕ) (b q : Str) (y : List ℕ) (to : ℕ) (t : Option (ℕ × ℕ × ℕ × ℕ)) (a k l size : ℕ) → AlikeFrom s p z at b q y to t → t ≡ Some (a, k, l, size) → length s - k < length s - at
+alike-nearer s p z at b q y to t a k l size f m = sought-nearer s Keys 11 at (Some (a, k)) (subst (λ (x : Option (ℕ × ℕ × ℕ × ℕ)). AlikeFrom s p z at b q y to x) m f).sought a k refl
 
 module _ (s p : Str) (z : List ℕ) (b q : Str) (y : List ℕ) (c c₀ d d₀ : SpotCursor) (w : List Scalar) (f : SoundCursor (rec s p w) z c) (f₀ : SoundCursor (rec b q w) y c₀) (o : AlikePassed s p z b q y c c₀ d d₀) where
   pub ahead-sound : SoundCursor (rec s p w) z d

@@ -1,14 +1,12 @@
 -- The passes of a comparison, one by one and in a row, from the code's passes over the lists of two records. Assumes nothing.
 use mathlib.Core.Path.{◌≡◌, refl, sym, ap, ap₂, ◌∙◌}
 use mathlib.Core.List.{List, [], ◌∷◌}
-use mathlib.Core.Option.{Option}
 use mathlib.Core.Bool.{Bool, true, false, cond}
-use Prim.Native.Nat.{ℕ, ◌+◌, ◌≤◌, ◌<◌}
+use Prim.Native.Nat.{ℕ, ◌≤◌}
 use native.Mathlib.Omega.{arith}
 use native.Mathlib.Nat.{min-le_left, min_comm}
-use lib.Dec.{leb}
-use borrow.Author.Tests.{leb-true}
 use lib.ListN.{length, get_or, take, length-take}
+use Rattle.std.specs.Prelude.{Result, Ok, ⊤, Option}
 use Rattle.record.specs.Base.{Str}
 use Rattle.record.specs.Stretch.{text_of}
 use Rattle.record.specs.Scalars.{Scalar}
@@ -21,7 +19,6 @@ use Rattle.record.specs.Ends.{IndexedTo}
 use Rattle.record.specs.Reading.{Rec, rec, schema_of}
 use Rattle.record.specs.declared.ends.Ends.{Ends}
 use Rattle.record.specs.declared.text.Text.{Text}
-use Rattle.record.specs.declared.operands.OptText.{OptText}
 use Rattle.record.proofs.EndLaws.{constants-front, enums-front, bitfields-front}
 use Rattle.record.proofs.SchemaLaws.{schema-release, schema-unreleased, schema-constants, schema-aliases, schema-enums, schema-bitfields, schema-structs, schema-families, schema-unstored, schema-versions}
 use Rattle.layout.specs.Room.{Room}
@@ -39,18 +36,15 @@ use Rattle.definition.specs.Standalone.{check_standalone}
 use Rattle.definition.specs.Generations.{check_generations}
 use Rattle.definition.specs.Unreleased.{check_nothing_released}
 use Rattle.definition.specs.Compare.{pass_list, all_passes, pass_at, passes, first_of, compare}
-use Rattle.definition.proofs.Compare.{passes-step, no-passes}
 use Rattle.verdicts.specs.Meaning.{meaning}
 use Rattle.verdicts.specs.declared.verdict.Verdict.{Verdict}
-use Rattle.verdicts.specs.declared.verdict.Verdict.TheVariants.{Passed}
-use Rattle.verdicts.proofs.VerdictLaws.{Violated}
-use Rattle.verdicts.proofs.PassLaws.{then-on, then-stop}
+use Rattle.verdicts.proofs.PassLaws.{HandedOn, then-on, then-stop}
 use Rattle.compare.specs.Layouts.{types_of}
 use Rattle.compare.specs.CoverTable.{changed_types, Changes}
 use Rattle.compare.specs.Required.{RequiredText}
 use Rattle.compare.specs.Heads.{HeadRelease, HeadUnreleased}
 use Rattle.compare.specs.Sought.{UnreleasedFrom}
-use Rattle.compare.specs.Passes.{Releases, Prepared, LaidOut, ChangesNoted, Ran}
+use Rattle.compare.specs.Passes.{Releases, Prepared, LaidOut}
 use Rattle.compare.specs.declared.compare.Facts.{Facts}
 
 -- a stream that is cut off needs no more room ----------------------------------------------------------------------------
@@ -67,7 +61,7 @@ module _ (r u : Str) (n : ℕ) (f : u ≡ take n r) where
 
 -- both records made ready --------------------------------------------------------------------------------------------------
 
-pub prepared : (s p b q : Str) (w : List Scalar) (x y : List ℕ) (t : Text) (o : OptText) (is was : Ends) → Releases (rec s p w) (rec b q w) t o
+pub prepared : (s p b q : Str) (w : List Scalar) (x y : List ℕ) (t : Text) (o : Option Text) (is was : Ends) → Releases (rec s p w) (rec b q w) t o
     → IndexedTo s p x is → IndexedTo b q y was → Prepared (rec s p w) (rec b q w) x y (record { current = t; copy = o; is = is; was = was })
 prepared s p b q w x y t o is was g f h = record { releases = g; is = f; was = h }
 
@@ -96,41 +90,26 @@ module _ (c r : Schema) where
   unfolding passes all_passes pass_list first_of
   passes-both = simp (then-assoc, then-none)
 
-module _ (p q : Str) (c r : Schema) (a e k : ℕ) (h : passes a e c r ≡ passes k e c r) where
-  pub passes-end : e ≤ k → meaning p q Passed ≡ passes a e c r
-  unfolding meaning
-  passes-end l = sym (h ∙ no-passes c r k e l)
+  -- the passes of each part
+  declared-row : (x : D.Verdict) → x ≡ (pass_at 2 c r then (pass_at 3 c r then (pass_at 4 c r then (pass_at 5 c r then pass_at 6 c r)))) → x ≡ passes 2 7 c r
+  unfolding passes pass_at all_passes pass_list first_of
+  declared-row x h = h ∙ sym (simp then-none)
 
-  module _ (v : Verdict) (i : meaning p q v ≡ pass_at k c r) (l : k < e) (m : leb e 10 ≡ true) where
-    pub passes_on : v ≡ Passed → passes a e c r ≡ passes (k + 1) e c r
-    unfolding ◌then◌ meaning
-    passes_on f =
-        h
-        ∙ passes-step c r k e l (leb-true e 10 m)
-        ∙ ap (λ (x : D.Verdict). x then passes (k + 1) e c r) (sym i ∙ ap (meaning p q) f)
+  laid-row : (x : D.Verdict) → x ≡ (pass_at 7 c r then (pass_at 8 c r then pass_at 9 c r)) → x ≡ passes 7 10 c r
+  unfolding passes pass_at all_passes pass_list first_of
+  laid-row x h = h ∙ sym (simp then-none)
 
-    pub passes-stop : Violated v → meaning p q v ≡ passes a e c r
-    passes-stop f = then-stop p q (pass_at k c r) (passes (k + 1) e c r) v i f ∙ sym (h ∙ passes-step c r k e l (leb-true e 10 m))
+-- what is declared, then the types
+module _ (p q : Str) (c r : Schema) (v : Result ⊤ Verdict) (i : meaning p q v ≡ passes 2 7 c r) where
+  pub declared-stop : (z : Result ⊤ Verdict) → HandedOn v z → meaning p q z ≡ passes 2 10 c r
+  declared-stop z f = then-stop p q _ _ v i z f ∙ sym (passes-both c r)
 
--- the order, then all others; what is declared, then the types
-module _ (p q : Str) (c r : Schema) (v : Verdict) where
-  module _ (i : meaning p q v ≡ pass_at 1 c r) where
-    pub order-stop : Violated v → meaning p q v ≡ passes 1 10 c r
-    order-stop f = then-stop p q _ _ v i f ∙ sym (passes-first c r)
-
-    pub order-on : (u : Verdict) → v ≡ Passed → meaning p q u ≡ passes 2 10 c r → meaning p q u ≡ passes 1 10 c r
-    order-on u f k = then-on p q _ _ v i u f k ∙ sym (passes-first c r)
-
-  module _ (i : meaning p q v ≡ passes 2 7 c r) where
-    pub declared-stop : Violated v → meaning p q v ≡ passes 2 10 c r
-    declared-stop f = then-stop p q _ _ v i f ∙ sym (passes-both c r)
-
-    pub declared-on : (u : Verdict) → v ≡ Passed → meaning p q u ≡ passes 7 10 c r → meaning p q u ≡ passes 2 10 c r
-    declared-on u f k = then-on p q _ _ v i u f k ∙ sym (passes-both c r)
+  pub declared-on : (u : Result ⊤ Verdict) → v ≡ Ok tt → meaning p q u ≡ passes 7 10 c r → meaning p q u ≡ passes 2 10 c r
+  declared-on u f k = then-on p q _ _ v i u f k ∙ sym (passes-both c r)
 
 -- each pass by its number ------------------------------------------------------------------------------------------------
 
-module _ (s p b q : Str) (w : List Scalar) (current : Text) (copy : OptText) (g : Releases (rec s p w) (rec b q w) current copy) where
+module _ (s p b q : Str) (w : List Scalar) (current : Text) (copy : Option Text) (g : Releases (rec s p w) (rec b q w) current copy) where
   abbrev N : Str
   N = text_of p current
 
@@ -153,104 +132,145 @@ module _ (s p b q : Str) (w : List Scalar) (current : Text) (copy : OptText) (g 
   passes-are =
       rw (sym g.current-is, sym g.copy_is, schema-constants (rec s p w), schema-constants (rec b q w), schema-enums (rec s p w), schema-enums (rec b q w), schema-structs (rec s p w), schema-structs (rec b q w), schema-unstored (rec s p w), schema-unstored (rec b q w), schema-bitfields (rec s p w), schema-bitfields (rec b q w), schema-families (rec s p w), schema-families (rec b q w), schema-versions (rec s p w), schema-aliases (rec b q w))
 
-  -- the entry of a number
-  entry : (k : ℕ) → get_or (all_passes (schema_of (rec s p w)) (schema_of (rec b q w))) k D.pass ≡ pass_at k (schema_of (rec s p w)) (schema_of (rec b q w))
-  unfolding pass_at
-  entry k = refl
+  module _ (v : Result ⊤ Verdict) where
+    at : (k : ℕ) (x : D.Verdict) → get_or (all_passes (schema_of (rec s p w)) (schema_of (rec b q w))) k D.pass ≡ x → meaning p q v ≡ x → meaning p q v ≡ pass_at k (schema_of (rec s p w)) (schema_of (rec b q w))
+    unfolding pass_at
+    at k x f h = h ∙ sym f
 
-  is_at : (v : Verdict) (k i : ℕ) → k ≡ i → meaning p q v ≡ get_or (all_passes (schema_of (rec s p w)) (schema_of (rec b q w))) i D.pass → meaning p q v ≡ pass_at k (schema_of (rec s p w)) (schema_of (rec b q w))
-  is_at v k i e h = h ∙ entry i ∙ ap (λ (j : ℕ). pass_at j (schema_of (rec s p w)) (schema_of (rec b q w))) (sym e)
+    order-at : meaning p q v ≡ check_release_order N C → meaning p q v ≡ pass_at 1 (schema_of (rec s p w)) (schema_of (rec b q w))
+    order-at h = at 1 _ (ap (λ (l : List D.Verdict). get_or l 1 D.pass) passes-are) h
 
-  pub order-at : (v : Verdict) → meaning p q v ≡ check_release_order N C → meaning p q v ≡ pass_at 1 (schema_of (rec s p w)) (schema_of (rec b q w))
-  order-at v h = is_at v 1 1 refl (h ∙ sym (ap (λ (l : List D.Verdict). get_or l 1 D.pass) passes-are))
+    first-releases : meaning p q v ≡ check_first_releases N C (constants_at s p 0) (constants_at b q 0) (enums_at s p 0) (enums_at b q 0) (plugin_keys (structs_at s p 0) (unstored_at s p 0)) (plugin_keys (structs_at b q 0) (unstored_at b q 0))
+        → meaning p q v ≡ pass_at 2 (schema_of (rec s p w)) (schema_of (rec b q w))
+    first-releases h = at 2 _ (ap (λ (l : List D.Verdict). get_or l 2 D.pass) passes-are) h
 
-  module _ (v : Verdict) (k : ℕ) where
-    at : (i : ℕ) → k ≡ i → (x : D.Verdict) → get_or (all_passes (schema_of (rec s p w)) (schema_of (rec b q w))) i D.pass ≡ x → meaning p q v ≡ x → meaning p q v ≡ pass_at k (schema_of (rec s p w)) (schema_of (rec b q w))
-    at i e x f h = is_at v k i e (h ∙ sym f)
+    constants : meaning p q v ≡ check_constants (structs_at s p 0) (constants_at s p 0) (constants_at b q 0) → meaning p q v ≡ pass_at 3 (schema_of (rec s p w)) (schema_of (rec b q w))
+    constants h = at 3 _ (ap (λ (l : List D.Verdict). get_or l 3 D.pass) passes-are) h
 
-    first-releases : k ≡ 2 → meaning p q v ≡ check_first_releases N C (constants_at s p 0) (constants_at b q 0) (enums_at s p 0) (enums_at b q 0) (plugin_keys (structs_at s p 0) (unstored_at s p 0)) (plugin_keys (structs_at b q 0) (unstored_at b q 0))
-        → meaning p q v ≡ pass_at k (schema_of (rec s p w)) (schema_of (rec b q w))
-    first-releases e h = at 2 e _ (ap (λ (l : List D.Verdict). get_or l 2 D.pass) passes-are) h
+    enums : meaning p q v ≡ check_enums (enums_at s p 0) (enums_at b q 0) → meaning p q v ≡ pass_at 4 (schema_of (rec s p w)) (schema_of (rec b q w))
+    enums h = at 4 _ (ap (λ (l : List D.Verdict). get_or l 4 D.pass) passes-are) h
 
-    constants : k ≡ 3 → meaning p q v ≡ check_constants (structs_at s p 0) (constants_at s p 0) (constants_at b q 0) → meaning p q v ≡ pass_at k (schema_of (rec s p w)) (schema_of (rec b q w))
-    constants e h = at 3 e _ (ap (λ (l : List D.Verdict). get_or l 3 D.pass) passes-are) h
+    bitfields : meaning p q v ≡ check_bitfields (bitfields_at s p 0) (bitfields_at b q 0) → meaning p q v ≡ pass_at 5 (schema_of (rec s p w)) (schema_of (rec b q w))
+    bitfields h = at 5 _ (ap (λ (l : List D.Verdict). get_or l 5 D.pass) passes-are) h
 
-    enums : k ≡ 4 → meaning p q v ≡ check_enums (enums_at s p 0) (enums_at b q 0) → meaning p q v ≡ pass_at k (schema_of (rec s p w)) (schema_of (rec b q w))
-    enums e h = at 4 e _ (ap (λ (l : List D.Verdict). get_or l 4 D.pass) passes-are) h
+    bitfield-releases : meaning p q v ≡ check_bitfield_releases N (bitfields_at s p 0) (bitfields_at b q 0) → meaning p q v ≡ pass_at 6 (schema_of (rec s p w)) (schema_of (rec b q w))
+    bitfield-releases h = at 6 _ (ap (λ (l : List D.Verdict). get_or l 6 D.pass) passes-are) h
 
-    bitfields : k ≡ 5 → meaning p q v ≡ check_bitfields (bitfields_at s p 0) (bitfields_at b q 0) → meaning p q v ≡ pass_at k (schema_of (rec s p w)) (schema_of (rec b q w))
-    bitfields e h = at 5 e _ (ap (λ (l : List D.Verdict). get_or l 5 D.pass) passes-are) h
+    fields : meaning p q v ≡ check_fields (types_of (rec s p w)) (types_of (rec b q w)) → meaning p q v ≡ pass_at 7 (schema_of (rec s p w)) (schema_of (rec b q w))
+    fields h = at 7 _ (ap (λ (l : List D.Verdict). get_or l 7 D.pass) passes-are) h
 
-    bitfield-releases : k ≡ 6 → meaning p q v ≡ check_bitfield_releases N (bitfields_at s p 0) (bitfields_at b q 0) → meaning p q v ≡ pass_at k (schema_of (rec s p w)) (schema_of (rec b q w))
-    bitfield-releases e h = at 6 e _ (ap (λ (l : List D.Verdict). get_or l 6 D.pass) passes-are) h
+    standalone : meaning p q v ≡ check_standalone (families_at s p 0) (families_at b q 0) (types_of (rec s p w)) (types_of (rec b q w)) → meaning p q v ≡ pass_at 8 (schema_of (rec s p w)) (schema_of (rec b q w))
+    standalone h = at 8 _ (ap (λ (l : List D.Verdict). get_or l 8 D.pass) passes-are) h
 
-    fields : k ≡ 7 → meaning p q v ≡ check_fields (types_of (rec s p w)) (types_of (rec b q w)) → meaning p q v ≡ pass_at k (schema_of (rec s p w)) (schema_of (rec b q w))
-    fields e h = at 7 e _ (ap (λ (l : List D.Verdict). get_or l 7 D.pass) passes-are) h
+    generations : meaning p q v ≡ check_generations N C (versions_at s p 0) (types_at s p) (constants_at s p 0) (constants_at b q 0) (changed_types (rec s p w) (rec b q w))
+        → meaning p q v ≡ pass_at 9 (schema_of (rec s p w)) (schema_of (rec b q w))
+    generations h = at 9 _ (ap (λ (l : List D.Verdict). get_or l 9 D.pass) passes-are) h
 
-    standalone : k ≡ 8 → meaning p q v ≡ check_standalone (families_at s p 0) (families_at b q 0) (types_of (rec s p w)) (types_of (rec b q w)) → meaning p q v ≡ pass_at k (schema_of (rec s p w)) (schema_of (rec b q w))
-    standalone e h = at 8 e _ (ap (λ (l : List D.Verdict). get_or l 8 D.pass) passes-are) h
+-- the order, then all others
+module _ (s p b q : Str) (w : List Scalar) (current : Text) (copy : Option Text) (g : Releases (rec s p w) (rec b q w) current copy) (v : Result ⊤ Verdict)
+    (h : meaning p q v ≡ check_release_order (text_of p current) (opt_of q copy)) where
+  pub order-stop : (z : Result ⊤ Verdict) → HandedOn v z → meaning p q z ≡ passes 1 10 (schema_of (rec s p w)) (schema_of (rec b q w))
+  order-stop z f = then-stop p q _ _ v (order-at s p b q w _ _ g v h) z f ∙ sym (passes-first _ _)
 
-    generations : k ≡ 9 → meaning p q v ≡ check_generations N C (versions_at s p 0) (types_at s p) (constants_at s p 0) (constants_at b q 0) (changed_types (rec s p w) (rec b q w))
-        → meaning p q v ≡ pass_at k (schema_of (rec s p w)) (schema_of (rec b q w))
-    generations e h = at 9 e _ (ap (λ (l : List D.Verdict). get_or l 9 D.pass) passes-are) h
+  pub order-on : (u : Result ⊤ Verdict) → v ≡ Ok tt → meaning p q u ≡ passes 2 10 (schema_of (rec s p w)) (schema_of (rec b q w))
+      → meaning p q u ≡ passes 1 10 (schema_of (rec s p w)) (schema_of (rec b q w))
+  order-on u f k = then-on p q _ _ v (order-at s p b q w _ _ g v h) u f k ∙ sym (passes-first _ _)
 
 -- from a prepared pair, each stream cut off where its list ends
 module _ (s p b q : Str) (w : List Scalar) (x y : List ℕ) (f : Facts) (g : Prepared (rec s p w) (rec b q w) x y f) where
-  module _ (v : Verdict) (k : ℕ) where
-    pub first-releases-at : k ≡ 2
-        → meaning p q v
+  module _ (v : Result ⊤ Verdict) where
+    first-releases-at :
+        meaning p q v
         ≡ check_first_releases (text_of p f.current) (opt_of q f.copy) (constants_at s p 0) (constants_at b q 0) (enums_at s p 0) (enums_at b q 0) (plugin_keys (structs_at s p 0) (unstored_at s p 0)) (plugin_keys (structs_at b q 0) (unstored_at b q 0))
-        → meaning p q v ≡ pass_at k (schema_of (rec s p w)) (schema_of (rec b q w))
-    first-releases-at e h = first-releases s p b q w _ _ g.releases v k e h
+        → meaning p q v ≡ pass_at 2 (schema_of (rec s p w)) (schema_of (rec b q w))
+    first-releases-at h = first-releases s p b q w _ _ g.releases v h
 
-    pub constants-at : (u : Str) → u ≡ take f.was.constants b → k ≡ 3 → meaning p q v ≡ check_constants (structs_at s p 0) (constants_at s p 0) (constants_at u q 0)
-        → meaning p q v ≡ pass_at k (schema_of (rec s p w)) (schema_of (rec b q w))
-    constants-at u c e h = constants s p b q w _ _ g.releases v k e (h ∙ ap (check_constants (structs_at s p 0) (constants_at s p 0)) (constants-front b q u f.was g.was.ends c))
+    constants-at : (u : Str) → u ≡ take f.was.constants b → meaning p q v ≡ check_constants (structs_at s p 0) (constants_at s p 0) (constants_at u q 0)
+        → meaning p q v ≡ pass_at 3 (schema_of (rec s p w)) (schema_of (rec b q w))
+    constants-at u c h = constants s p b q w _ _ g.releases v (h ∙ ap (check_constants (structs_at s p 0) (constants_at s p 0)) (constants-front b q u f.was g.was.ends c))
 
-    pub enums-at : (u : Str) → u ≡ take f.was.enums b → k ≡ 4 → meaning p q v ≡ check_enums (enums_at s p 0) (enums_at u q 0) → meaning p q v ≡ pass_at k (schema_of (rec s p w)) (schema_of (rec b q w))
-    enums-at u c e h = enums s p b q w _ _ g.releases v k e (h ∙ ap (check_enums (enums_at s p 0)) (enums-front b q u f.was g.was.ends c))
+    enums-at : (u : Str) → u ≡ take f.was.enums b → meaning p q v ≡ check_enums (enums_at s p 0) (enums_at u q 0) → meaning p q v ≡ pass_at 4 (schema_of (rec s p w)) (schema_of (rec b q w))
+    enums-at u c h = enums s p b q w _ _ g.releases v (h ∙ ap (check_enums (enums_at s p 0)) (enums-front b q u f.was g.was.ends c))
 
     module _ (t u : Str) (c : t ≡ take f.is.bitfields s) (d : u ≡ take f.was.bitfields b) where
-      pub bitfields-at : k ≡ 5 → meaning p q v ≡ check_bitfields (bitfields_at t p 0) (bitfields_at u q 0) → meaning p q v ≡ pass_at k (schema_of (rec s p w)) (schema_of (rec b q w))
-      bitfields-at e h = bitfields s p b q w _ _ g.releases v k e (h ∙ ap₂ check_bitfields (bitfields-front s p t f.is g.is.ends c) (bitfields-front b q u f.was g.was.ends d))
+      bitfields-at : meaning p q v ≡ check_bitfields (bitfields_at t p 0) (bitfields_at u q 0) → meaning p q v ≡ pass_at 5 (schema_of (rec s p w)) (schema_of (rec b q w))
+      bitfields-at h = bitfields s p b q w _ _ g.releases v (h ∙ ap₂ check_bitfields (bitfields-front s p t f.is g.is.ends c) (bitfields-front b q u f.was g.was.ends d))
 
-      pub bitfield-releases-at : k ≡ 6 → meaning p q v ≡ check_bitfield_releases (text_of p f.current) (bitfields_at t p 0) (bitfields_at u q 0) → meaning p q v ≡ pass_at k (schema_of (rec s p w)) (schema_of (rec b q w))
-      bitfield-releases-at e h =
-          bitfield-releases s p b q w _ _ g.releases v k e
+      bitfield-releases-at : meaning p q v ≡ check_bitfield_releases (text_of p f.current) (bitfields_at t p 0) (bitfields_at u q 0) → meaning p q v ≡ pass_at 6 (schema_of (rec s p w)) (schema_of (rec b q w))
+      bitfield-releases-at h =
+          bitfield-releases s p b q w _ _ g.releases v
           (h ∙ ap₂ (check_bitfield_releases (text_of p f.current)) (bitfields-front s p t f.is g.is.ends c) (bitfields-front b q u f.was g.was.ends d))
 
     -- over the types
-    module _ (l m n : List ℕ) where
-      pub fields-ran : k ≡ 7 → meaning p q v ≡ check_fields (types_of (rec s p w)) (types_of (rec b q w)) → (v ≡ Passed → Changes (rec s p w) (rec b q w) l n) → Ran k (rec s p w) (rec b q w) l m n v
-      fields-ran e h c = record { verdict = fields s p b q w _ _ g.releases v k e h; noted = λ z o. record { changes = λ i j. c z } }
+    fields-at : meaning p q v ≡ check_fields (types_of (rec s p w)) (types_of (rec b q w)) → meaning p q v ≡ pass_at 7 (schema_of (rec s p w)) (schema_of (rec b q w))
+    fields-at h = fields s p b q w _ _ g.releases v h
 
-      pub standalone-ran : k ≡ 8 → meaning p q v ≡ check_standalone (families_at s p 0) (families_at b q 0) (types_of (rec s p w)) (types_of (rec b q w)) → Ran k (rec s p w) (rec b q w) l m m v
-      standalone-ran e h = record { verdict = standalone s p b q w _ _ g.releases v k e h; noted = λ z o. record { changes = λ i j. o.changes (omega (arith, e)) (omega (arith, e)) } }
+    standalone-at : meaning p q v ≡ check_standalone (families_at s p 0) (families_at b q 0) (types_of (rec s p w)) (types_of (rec b q w)) → meaning p q v ≡ pass_at 8 (schema_of (rec s p w)) (schema_of (rec b q w))
+    standalone-at h = standalone s p b q w _ _ g.releases v h
 
-      pub generations-ran : k ≡ 9 → (k ≡ 9 → Changes (rec s p w) (rec b q w) l m)
-          → ((w₀ : List Scalar) → Changes (rec s p w₀) (rec b q w₀) l m
-          → meaning p q v ≡ check_generations (text_of p f.current) (opt_of q f.copy) (versions_at s p 0) (types_at s p) (constants_at s p 0) (constants_at b q 0) (changed_types (rec s p w₀) (rec b q w₀)))
-          → Ran k (rec s p w) (rec b q w) l m n v
-      generations-ran e c h = record { verdict = generations s p b q w _ _ g.releases v k e (h w (c e)); noted = λ z o. record { changes = λ i j. absurd (omega (arith, e)) } }
+    generations-at : (l m : List ℕ) → Changes (rec s p w) (rec b q w) l m
+        → ((w₀ : List Scalar) → Changes (rec s p w₀) (rec b q w₀) l m
+        → meaning p q v ≡ check_generations (text_of p f.current) (opt_of q f.copy) (versions_at s p 0) (types_at s p) (constants_at s p 0) (constants_at b q 0) (changed_types (rec s p w₀) (rec b q w₀)))
+        → meaning p q v ≡ pass_at 9 (schema_of (rec s p w)) (schema_of (rec b q w))
+    generations-at l m c h = generations s p b q w _ _ g.releases v (h w c)
 
--- the last number where it is none of the others
-pub last-declared : (k : ℕ) → 2 ≤ k → k < 7 → (k ≡ 2 → ⊥) → (k ≡ 3 → ⊥) → (k ≡ 4 → ⊥) → (k ≡ 5 → ⊥) → k ≡ 6
-last-declared k a z b c d e = omega arith
+-- the passes over what is declared outside types, one after the other
+module _ (s p b q : Str) (w : List Scalar) (x y : List ℕ) (f : Facts) (g : Prepared (rec s p w) (rec b q w) x y f) (v₂ : Result ⊤ Verdict)
+    (h₂ : meaning p q v₂
+    ≡ check_first_releases (text_of p f.current) (opt_of q f.copy) (constants_at s p 0) (constants_at b q 0) (enums_at s p 0) (enums_at b q 0) (plugin_keys (structs_at s p 0) (unstored_at s p 0)) (plugin_keys (structs_at b q 0) (unstored_at b q 0))) where
+  second : meaning p q v₂ ≡ pass_at 2 (schema_of (rec s p w)) (schema_of (rec b q w))
+  second = first-releases-at s p b q w x y f g v₂ h₂
 
-pub last-laid : (k : ℕ) → 7 ≤ k → k < 10 → (k ≡ 7 → ⊥) → (k ≡ 8 → ⊥) → k ≡ 9
-last-laid k a z b c = omega arith
+  pub second-stops : (z : Result ⊤ Verdict) → HandedOn v₂ z → meaning p q z ≡ passes 2 7 (schema_of (rec s p w)) (schema_of (rec b q w))
+  second-stops z e = declared-row _ _ _ (then-stop p q _ _ v₂ second z e)
 
--- the table that the pass over the fields fills, from pass to pass
-module _ (s p b q : Str) (w : List Scalar) (l m : List ℕ) where
-  pub noted-start : ChangesNoted 7 (rec s p w) (rec b q w) l m
-  noted-start = record { changes = λ i j. absurd (omega arith) }
+  module _ (o₂ : v₂ ≡ Ok tt) (v₃ : Result ⊤ Verdict) (u₃ : Str) (c₃ : u₃ ≡ take f.was.constants b) (h₃ : meaning p q v₃ ≡ check_constants (structs_at s p 0) (constants_at s p 0) (constants_at u₃ q 0)) where
+    third : meaning p q v₃ ≡ pass_at 3 (schema_of (rec s p w)) (schema_of (rec b q w))
+    third = constants-at s p b q w x y f g v₃ u₃ c₃ h₃
 
-  module _ (k : ℕ) (o : ChangesNoted k (rec s p w) (rec b q w) l m) where
-    pub noted-ready : k ≡ 9 → Changes (rec s p w) (rec b q w) l m
-    noted-ready e = o.changes (omega (arith, e)) (omega (arith, e))
+    pub third-stops : (z : Result ⊤ Verdict) → HandedOn v₃ z → meaning p q z ≡ passes 2 7 (schema_of (rec s p w)) (schema_of (rec b q w))
+    third-stops z e = declared-row _ _ _ (then-on p q _ _ v₂ second z o₂ (then-stop p q _ _ v₃ third z e))
 
-    pub noted-on : (n : List ℕ) (v : Verdict) → Ran k (rec s p w) (rec b q w) l m n v → v ≡ Passed → ChangesNoted (k + 1) (rec s p w) (rec b q w) l n
-    noted-on n v r e = r.noted e o
+    module _ (o₃ : v₃ ≡ Ok tt) (v₄ : Result ⊤ Verdict) (u₄ : Str) (c₄ : u₄ ≡ take f.was.enums b) (h₄ : meaning p q v₄ ≡ check_enums (enums_at s p 0) (enums_at u₄ q 0)) where
+      fourth : meaning p q v₄ ≡ pass_at 4 (schema_of (rec s p w)) (schema_of (rec b q w))
+      fourth = enums-at s p b q w x y f g v₄ u₄ c₄ h₄
+
+      pub fourth-stops : (z : Result ⊤ Verdict) → HandedOn v₄ z → meaning p q z ≡ passes 2 7 (schema_of (rec s p w)) (schema_of (rec b q w))
+      fourth-stops z e = declared-row _ _ _ (then-on p q _ _ v₂ second z o₂ (then-on p q _ _ v₃ third z o₃ (then-stop p q _ _ v₄ fourth z e)))
+
+      module _ (o₄ : v₄ ≡ Ok tt) (v₅ : Result ⊤ Verdict) (t u : Str) (c₅ : t ≡ take f.is.bitfields s) (d₅ : u ≡ take f.was.bitfields b) (h₅ : meaning p q v₅ ≡ check_bitfields (bitfields_at t p 0) (bitfields_at u q 0)) where
+        fifth : meaning p q v₅ ≡ pass_at 5 (schema_of (rec s p w)) (schema_of (rec b q w))
+        fifth = bitfields-at s p b q w x y f g v₅ t u c₅ d₅ h₅
+
+        pub fifth-stops : (z : Result ⊤ Verdict) → HandedOn v₅ z → meaning p q z ≡ passes 2 7 (schema_of (rec s p w)) (schema_of (rec b q w))
+        fifth-stops z e = declared-row _ _ _ (then-on p q _ _ v₂ second z o₂ (then-on p q _ _ v₃ third z o₃ (then-on p q _ _ v₄ fourth z o₄ (then-stop p q _ _ v₅ fifth z e))))
+
+        pub sixth-ends : (v₆ : Result ⊤ Verdict) → v₅ ≡ Ok tt → meaning p q v₆ ≡ check_bitfield_releases (text_of p f.current) (bitfields_at t p 0) (bitfields_at u q 0) → meaning p q v₆ ≡ passes 2 7 (schema_of (rec s p w)) (schema_of (rec b q w))
+        sixth-ends v₆ o₅ h₆ =
+            declared-row _ _ _
+            (then-on p q _ _ v₂ second v₆ o₂ (then-on p q _ _ v₃ third v₆ o₃ (then-on p q _ _ v₄ fourth v₆ o₄ (then-on p q _ _ v₅ fifth v₆ o₅ (bitfield-releases-at s p b q w x y f g v₆ t u c₅ d₅ h₆)))))
+
+-- the passes over the types, one after the other; that over the fields notes which changed
+module _ (s p b q : Str) (w : List Scalar) (x y : List ℕ) (f : Facts) (g : Prepared (rec s p w) (rec b q w) x y f) (v₇ : Result ⊤ Verdict)
+    (h₇ : meaning p q v₇ ≡ check_fields (types_of (rec s p w)) (types_of (rec b q w))) where
+  seventh : meaning p q v₇ ≡ pass_at 7 (schema_of (rec s p w)) (schema_of (rec b q w))
+  seventh = fields-at s p b q w x y f g v₇ h₇
+
+  pub seventh-stops : (z : Result ⊤ Verdict) → HandedOn v₇ z → meaning p q z ≡ passes 7 10 (schema_of (rec s p w)) (schema_of (rec b q w))
+  seventh-stops z e = laid-row _ _ _ (then-stop p q _ _ v₇ seventh z e)
+
+  module _ (o₇ : v₇ ≡ Ok tt) (v₈ : Result ⊤ Verdict) (h₈ : meaning p q v₈ ≡ check_standalone (families_at s p 0) (families_at b q 0) (types_of (rec s p w)) (types_of (rec b q w))) where
+    eighth : meaning p q v₈ ≡ pass_at 8 (schema_of (rec s p w)) (schema_of (rec b q w))
+    eighth = standalone-at s p b q w x y f g v₈ h₈
+
+    pub eighth-stops : (z : Result ⊤ Verdict) → HandedOn v₈ z → meaning p q z ≡ passes 7 10 (schema_of (rec s p w)) (schema_of (rec b q w))
+    eighth-stops z e = laid-row _ _ _ (then-on p q _ _ v₇ seventh z o₇ (then-stop p q _ _ v₈ eighth z e))
+
+    pub ninth-ends : (v₉ : Result ⊤ Verdict) (l m : List ℕ) → v₈ ≡ Ok tt → (v₇ ≡ Ok tt → Changes (rec s p w) (rec b q w) l m)
+        → ((w₀ : List Scalar) → Changes (rec s p w₀) (rec b q w₀) l m
+        → meaning p q v₉ ≡ check_generations (text_of p f.current) (opt_of q f.copy) (versions_at s p 0) (types_at s p) (constants_at s p 0) (constants_at b q 0) (changed_types (rec s p w₀) (rec b q w₀)))
+        → meaning p q v₉ ≡ passes 7 10 (schema_of (rec s p w)) (schema_of (rec b q w))
+    ninth-ends v₉ l m o₈ c h₉ = laid-row _ _ _ (then-on p q _ _ v₇ seventh v₉ o₇ (then-on p q _ _ v₈ eighth v₉ o₈ (generations-at s p b q w x y f g v₉ l m (c o₇) h₉)))
 
 -- the whole --------------------------------------------------------------------------------------------------------------
 
@@ -261,7 +281,7 @@ module _ (cur rel : Rec) where
   abbrev T : Schema
   T = schema_of rel
 
-  pub releases : (t : Text) (o copy : OptText) → HeadRelease cur.stream o → RequiredText o t → HeadRelease rel.stream copy → Releases cur rel t copy
+  pub releases : (t : Text) (o copy : Option Text) → HeadRelease cur.stream o → RequiredText o t → HeadRelease rel.stream copy → Releases cur rel t copy
   releases t o copy ho ht hc = record {
     current-is = ht.this cur.pool ∙ ap required (ho.this cur.pool ∙ sym (schema-release cur));
     copy_is = hc.this rel.pool ∙ sym (schema-release rel);
@@ -271,12 +291,12 @@ module _ (cur rel : Rec) where
     flag_is : T.unreleased ≡ b
     flag_is = schema-unreleased rel ∙ sym (u.this rel.pool)
 
-    pub compared-unreleased : (p : Str) (v : Verdict) → b ≡ true → UnreleasedFrom rel.stream v → meaning p rel.pool v ≡ compare S T
+    pub compared-unreleased : (p : Str) (v : Result ⊤ Verdict) → b ≡ true → UnreleasedFrom rel.stream v → meaning p rel.pool v ≡ compare S T
     unfolding compare
     compared-unreleased p v e h =
         h.this p rel.pool
         ∙ sym (rw (flag_is ∙ e, schema-structs rel, schema-constants rel, schema-enums rel, schema-bitfields rel, schema-aliases rel, schema-families rel))
 
-    pub compared : (v : Verdict) → b ≡ false → meaning cur.pool rel.pool v ≡ passes 1 10 S T → meaning cur.pool rel.pool v ≡ compare S T
+    pub compared : (v : Result ⊤ Verdict) → b ≡ false → meaning cur.pool rel.pool v ≡ passes 1 10 S T → meaning cur.pool rel.pool v ≡ compare S T
     unfolding compare passes all_passes pass_list
     compared v e h = h ∙ sym (rw (flag_is ∙ e))

@@ -1,13 +1,13 @@
 -- The cases of the pass over the constants. s and p are the current stream and pool, b and q the released ones. Assumes nothing.
 use mathlib.Core.Path.{◌≡◌, refl, sym, ap, ◌∙◌}
 use mathlib.Core.List.{List, [], ◌∷◌, map}
-use mathlib.Core.Option.{Option, none, some}
 use mathlib.Core.Bool.{Bool, true, false, ◌||◌, false≢true}
 use Prim.Native.Nat.{ℕ, ◌+◌, ◌≤◌, ◌<◌}
 use native.Mathlib.Numerals.{add-one}
 use native.Mathlib.Omega.{arith}
 use lib.ListN.{length, take, drop, get_or, drop_of_length-le}
 use lib.Seq.{take_at, drop-cons}
+use Rattle.std.specs.Prelude.{Result, Ok, Err, ⊤, Option, Some, None}
 use Rattle.record.specs.Base.{Str, eqs, signed, any}
 use Rattle.record.specs.Schema.{Struct}
 use Rattle.record.specs.Stretch.{text_of}
@@ -22,16 +22,9 @@ use Rattle.record.specs.Owner.{with_name}
 use Rattle.record.specs.Versioned.{InSlots}
 use Rattle.record.specs.Generation.{generation_of, held_as, HoldsGeneration}
 use Rattle.record.specs.declared.text.Text.{Text}
-use Rattle.record.specs.declared.operands.OptText.{OptText}
 use Rattle.record.specs.declared.command.Cursor.{Cursor}
 use Rattle.record.specs.declared.command as C
-use Rattle.record.specs.declared.generation.Generation.{Generation}
-use Rattle.record.specs.declared.generation.Generation.TheVariants.{NoGeneration, Held}
 use Rattle.record.specs.declared.versioned.Versioned.{Versioned}
-use Rattle.record.specs.declared.lists.ConstantStep.{ConstantStep}
-use Rattle.record.specs.declared.lists.ConstantStep.TheVariants.{NoConstant, AConstant}
-use Rattle.record.specs.declared.lists.StructStep.{StructStep}
-use Rattle.record.specs.declared.lists.StructStep.TheVariants.{NoStruct, AStruct}
 use Rattle.record.proofs.Basics.{eqs→eq, eqs-refl}
 use Rattle.record.proofs.VersionedLaws.{versioned-are-roots}
 use Rattle.record.proofs.WriterLaws.{puts-exact, puts-front}
@@ -44,13 +37,14 @@ use Rattle.verdicts.specs.Arguments.{value_meant}
 use Rattle.definition.specs.Constants.{last_constant, holds_in, held_by_any, is_generation, check_constant, check_constants_in, check_constants}
 use Rattle.compare.specs.Required.{RequiredText}
 use Rattle.compare.specs.Sought.{HoldsValue}
-use Rattle.verdicts.specs.Meaning.{meaning}
+use Rattle.verdicts.specs.Meaning.{violation, meaning}
 use Rattle.verdicts.specs.declared.arguments.ConstantValue.{ConstantValue}
 use Rattle.verdicts.specs.declared.arguments.ConstantValue.TheVariants.{Integer, Words}
 use Rattle.verdicts.specs.declared.verdict.Verdict.{Verdict}
-use Rattle.verdicts.specs.declared.verdict.Verdict.TheVariants.{Passed, ConstantGone, ConstantChanged}
-use Rattle.verdicts.proofs.VerdictLaws.{Violated}
+use Rattle.verdicts.specs.declared.verdict.Verdict.TheVariants.{ConstantGone, ConstantChanged}
+use Rattle.verdicts.proofs.PassLaws.{HandedOn}
 use Rattle.verdicts.proofs.Each.{each-end, each_on, each-stop}
+use Rattle.record.specs.Commands.{Step}
 
 -- what a constant holds
 module _ (c : C.Constant.Constant) where
@@ -83,7 +77,7 @@ turned a b = go (eqs a b) (eqs b a) refl refl
 
 module _ (p : Str) (v : ConstantValue) where
   -- the words of a constant
-  module _ (o : OptText) (t : Text) (z : Str) (m : v ≡ Words o) (r : RequiredText o t) (y : z ≡ text_of p t) where
+  module _ (o : Option Text) (t : Text) (z : Str) (m : v ≡ Words o) (r : RequiredText o t) (y : z ≡ text_of p t) where
     words-text : constant_text (value_meant p v) ≡ z
     unfolding constant_text required
     words-text = rw m (sym (r.this p)) ∙ sym y
@@ -127,29 +121,29 @@ module _ (s p n : Str) where
   abbrev held : List Str → Bool
   held roots = held_by_any (structs_at s p 0) (constants_at s p 0) roots n
 
-  module _ (r : StructStep) where
-    pub slot-none : r ≡ NoStruct → false ≡ held (with_name (struct_found s p r) [])
+  module _ (r : Step C.Struct.Struct) where
+    pub slot-none : r ≡ None → false ≡ held (with_name (struct_found s p r) [])
     unfolding held_by_any with_name any
     slot-none m = rw m
 
-    module _ (y : List ℕ) (j : Indexed s p y) (e : C.Struct.Struct) (k : Cursor) (x : Str) (g : Generation) (m : r ≡ AStruct e k) (i : x ≡ text_of p e.name) (h : HoldsGeneration s p y x g) where
+    module _ (y : List ℕ) (j : Indexed s p y) (e : C.Struct.Struct) (k : Cursor) (x : Str) (g : Option (Text × ℕ)) (m : r ≡ Some (e, k)) (i : x ≡ text_of p e.name) (h : HoldsGeneration s p y x g) where
       of-root : held (with_name (struct_found s p r) []) ≡ holds_in n (held_as p g)
       unfolding held_by_any with_name any
       of-root = rw (m, ← i, ← h.this j) (or-false (holds_in n (held_as p g)))
 
-      pub slot-without : g ≡ NoGeneration → false ≡ held (with_name (struct_found s p r) [])
+      pub slot-without : g ≡ None → false ≡ held (with_name (struct_found s p r) [])
       unfolding holds_in
       slot-without o = rw (of-root, o)
 
-      pub slot-with : (t : Text) (w : ℕ) (z : Str) (b : Bool) → g ≡ Held t w → z ≡ text_of p t → b ≡ eqs z n → b ≡ held (with_name (struct_found s p r) [])
+      pub slot-with : (t : Text) (w : ℕ) (z : Str) (b : Bool) → g ≡ Some (t, w) → z ≡ text_of p t → b ≡ eqs z n → b ≡ held (with_name (struct_found s p r) [])
       unfolding holds_in
       slot-with t w z b o u v = rw (of-root, o, ← u) v
 
   -- one more structure
   held_first : (o : Option Struct) (l : List Str) → held (with_name o l) ≡ (held (with_name o []) || held l)
   unfolding held_by_any with_name any
-  held_first none l = refl
-  held_first (some t) l = ap (λ (b : Bool). b || held l) (sym (or-false (holds_in n (generation_of (structs_at s p 0) (constants_at s p 0) t.name))))
+  held_first None l = refl
+  held_first (Some t) l = ap (λ (b : Bool). b || held l) (sym (or-false (holds_in n (generation_of (structs_at s p 0) (constants_at s p 0) t.name))))
 
   module _ (r : Versioned) (i : InSlots s p r) (x : Bool) (h : x ≡ held (with_name (struct_found s p r.info) [])) where
     in-slots : is_generation (structs_at s p 0) (constants_at s p 0) n ≡ (x || held (with_name (struct_found s p r.metadata) (with_name (struct_found s p r.runtime) [])))
@@ -175,7 +169,7 @@ pub ruleset generation-laws = (generation-info, generation-metadata, generation-
 
 -- one constant ------------------------------------------------------------------------------------------------------------
 
-module _ (s p q x : Str) (z : List ℕ) (w : C.Constant.Constant) (r : ConstantStep) (d : Indexed s p z) (t : x ≡ text_of q w.name) (h : LastConstant s p z x r) where
+module _ (s p q x : Str) (z : List ℕ) (w : C.Constant.Constant) (r : Step C.Constant.Constant) (d : Indexed s p z) (t : x ≡ text_of q w.name) (h : LastConstant s p z x r) where
   abbrev asked : D.Verdict
   asked = check_constant (structs_at s p 0) (constants_at s p 0) (constant_of q w)
 
@@ -183,11 +177,11 @@ module _ (s p q x : Str) (z : List ℕ) (w : C.Constant.Constant) (r : ConstantS
   unfolding last_constant
   found = ap (λ (y : Str). last_constant y (constants_at s p 0)) (sym t) ∙ h.this d
 
-  pub constant-gone : r ≡ NoConstant → meaning p q (ConstantGone w.name) ≡ asked
-  unfolding meaning check_constant on_found
+  pub constant-gone : r ≡ None → meaning p q (Err (ConstantGone w.name)) ≡ asked
+  unfolding meaning violation check_constant on_found
   constant-gone m = rw (found, m)
 
-  module _ (c : C.Constant.Constant) (k : Cursor) (m : r ≡ AConstant c k) (u v : ConstantValue) (i : HoldsValue w u) (j : HoldsValue c v) (b : Bool)
+  module _ (c : C.Constant.Constant) (k : Cursor) (m : r ≡ Some (c, k)) (u v : ConstantValue) (i : HoldsValue w u) (j : HoldsValue c v) (b : Bool)
       (l : b ≡ eqs (constant_text (value_meant p v)) (constant_text (value_meant q u))) where
     abbrev changed : D.Verdict
     changed = D.constant_changed (text_of q w.name) (constant_text (value_meant q u)) (constant_text (value_meant p v))
@@ -196,17 +190,17 @@ module _ (s p q x : Str) (z : List ℕ) (w : C.Constant.Constant) (r : ConstantS
     unfolding check_constant on_found
     in_parts = rw (found, m, ← i.this q, ← j.this p, ← l)
 
-    pub constant-same : b ≡ true → meaning p q Passed ≡ asked
+    pub constant-same : b ≡ true → meaning p q (Ok tt) ≡ asked
     unfolding meaning ensure
     constant-same g = rw (in_parts, g, or-true)
 
     module _ (g : b ≡ false) (y : Str) (a : Bool) (n : y ≡ text_of q w.name) (o : a ≡ is_generation (structs_at s p 0) (constants_at s p 0) y) where
-      pub constant-exempt : a ≡ true → meaning p q Passed ≡ asked
+      pub constant-exempt : a ≡ true → meaning p q (Ok tt) ≡ asked
       unfolding meaning ensure
       constant-exempt e = rw (in_parts, ← n, ← o, e)
 
-      pub constant-changed : a ≡ false → meaning p q (ConstantChanged w.name u v) ≡ asked
-      unfolding meaning ensure
+      pub constant-changed : a ≡ false → meaning p q (Err (ConstantChanged w.name u v)) ≡ asked
+      unfolding meaning violation ensure
       constant-changed e = rw (in_parts, g, ← ap (is_generation (structs_at s p 0) (constants_at s p 0)) n, ← o, e)
 
 -- the constants of the table ----------------------------------------------------------------------------------------------
@@ -215,11 +209,11 @@ module _ (s p b q : Str) (t : List ℕ) (i : ℕ) where
   abbrev left : ℕ → D.Verdict
   left n = check_constants_in (structs_at s p 0) (constants_at s p 0) (map (placed_constant b q) (drop n t))
 
-  pub placed_end : length t ≤ i → left i ≡ meaning p q Passed
+  pub placed_end : length t ≤ i → left i ≡ meaning p q (Ok tt)
   unfolding check_constants_in
   placed_end h = each-end _ _ p q (ap (map (placed_constant b q)) (drop_of_length-le t h))
 
-  module _ (h : i < length t) (c : C.Constant.Constant) (v : Verdict) (e : c ≡ constant_at (drop (get_or t i 0) b))
+  module _ (h : i < length t) (c : C.Constant.Constant) (v : Result ⊤ Verdict) (e : c ≡ constant_at (drop (get_or t i 0) b))
       (l : meaning p q v ≡ check_constant (structs_at s p 0) (constants_at s p 0) (constant_of q c)) where
     next-placed : map (placed_constant b q) (drop i t) ≡ placed_constant b q (get_or t i 0) ∷ map (placed_constant b q) (drop (i + 1) t)
     next-placed = rw (add-one, drop-cons t i 0)
@@ -228,18 +222,18 @@ module _ (s p b q : Str) (t : List ℕ) (i : ℕ) where
     unfolding placed_constant
     asked-placed = l ∙ ap (λ (d : C.Constant.Constant). check_constant (structs_at s p 0) (constants_at s p 0) (constant_of q d)) e
 
-    pub placed_on : v ≡ Passed → left i ≡ left (i + 1)
+    pub placed_on : v ≡ Ok tt → left i ≡ left (i + 1)
     unfolding check_constants_in
     placed_on g = each_on _ _ p q _ _ v next-placed asked-placed g
 
-    pub placed-stop : Violated v → left i ≡ meaning p q v
+    pub placed-stop : (z : Result ⊤ Verdict) → HandedOn v z → left i ≡ meaning p q z
     unfolding check_constants_in
-    placed-stop g = each-stop _ _ p q _ _ v next-placed asked-placed g
+    placed-stop z g = each-stop _ _ p q _ _ v next-placed asked-placed z g
 
 pub ruleset placed-laws = (placed_end, placed_on, placed-stop)
 
 -- the table holds the released constants in byte order of their names
-pub table-checked : (s p b q : Str) (t x y : List ℕ) (v : Verdict) → length b ≤ 32768 → Room b x → Room b y
+pub table-checked : (s p b q : Str) (t x y : List ℕ) (v : Result ⊤ Verdict) → length b ≤ 32768 → Room b x → Room b y
     → (length b ≤ 32768 → Room b x → Room b y → ConstantsTable b q t)
     → meaning p q v ≡ check_constants_in (structs_at s p 0) (constants_at s p 0) (map (placed_constant b q) t) → meaning p q v ≡ check_constants (structs_at s p 0) (constants_at s p 0) (constants_at b q 0)
 unfolding check_constants

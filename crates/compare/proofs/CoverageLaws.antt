@@ -1,8 +1,8 @@
 -- What covers a type: its name before the first "::", the families that stand alone, and the entry that is found. Assumes nothing.
+use Rattle.std.specs.Prelude.{Option, Some, None}
 use Prim.Native.Nat.{ℕ, suc, ◌+◌, ◌-◌, ◌*◌, ◌≤◌, ◌<◌, ◌/◌, ◌%◌}
 use mathlib.Core.Path.{◌≡◌, refl, sym, ap, ap₂, subst, ◌∙◌}
 use mathlib.Core.List.{List, [], ◌∷◌, ◌++◌, append-nil}
-use mathlib.Core.Option.{some}
 use mathlib.Core.Bool.{Bool, true, false, ◌&&◌, not, cond, false≢true}
 use native.Mathlib.Numerals.{add-one}
 use native.Mathlib.Omega.{arith}
@@ -18,11 +18,9 @@ use Rattle.record.specs.Owner.{owner_of}
 use Rattle.record.specs.Leads.{LeadTable}
 use Rattle.record.specs.Versioned.{InSlots}
 use Rattle.record.specs.References.{types_at}
-use Rattle.record.specs.Ownership.{Known, IsOwner, owner_meant}
+use Rattle.record.specs.Ownership.{Known, IsOwner}
 use Rattle.record.specs.declared.text.Text.{Text}
 use Rattle.record.specs.declared.versioned.Versioned.{Versioned}
-use Rattle.record.specs.declared.ownership.Owner.{Owner}
-use Rattle.record.specs.declared.ownership.Owner.TheVariants.{Nobody, Owned}
 use Rattle.record.proofs.Basics.{both, eqs→eq, eqs-refl}
 use Rattle.layout.specs.Layout.{variant_name}
 use Rattle.layout.specs.Handles.{family_part, place_part, name_at, type_name}
@@ -31,9 +29,8 @@ use Rattle.layout.specs.declared.names.TypeName.{TypeName}
 use Rattle.layout.proofs.NameLaws.{stretches-read}
 use Rattle.definition.specs.Coverage.{owning, stands_alone}
 use Rattle.compare.specs.CoverTable.{colons_first, one_family, cover_in, stretch_in, cover_meant, Packed, Owners, Knows}
-use Rattle.compare.specs.declared.coverage.Last.{Last}
-use Rattle.compare.specs.declared.coverage.Last.TheVariants.{Entry}
 use Rattle.compare.proofs.LayoutLaws.{read_back}
+use Rattle.record.specs.Lists.{opt_of}
 
 -- the name before its first two colons ------------------------------------------------------------------------------------
 
@@ -153,28 +150,28 @@ module _ (s p n : Str) (roots : Versioned) (marks index leads : List ℕ) (o : O
   unfolding cover_meant cover_in
   entry-alone t = rw (← e, t)
 
-  module _ (t : b ≡ false) (r : Owner) (a : Known s p marks index → InSlots s p roots → LeadTable s p marks leads → IsOwner s p n r) where
-    owner-is : owner_meant p r ≡ owner_of (types_at s p) n
+  module _ (t : b ≡ false) (r : Option Text) (a : Known s p marks index → InSlots s p roots → LeadTable s p marks leads → IsOwner s p n r) where
+    owner-is : opt_of p r ≡ owner_of (types_at s p) n
     owner-is = (a o.known o.slots o.leads).owner
 
-    pub entry-nobody : r ≡ Nobody → cover_meant p 1 ≡ cover_in (types_at s p) n
+    pub entry-nobody : r ≡ None → cover_meant p 1 ≡ cover_in (types_at s p) n
     unfolding cover_meant cover_in
-    entry-nobody m = rw (← e, t) (ap some (ap (owner_meant p) (sym m) ∙ owner-is))
+    entry-nobody m = rw (← e, t) (ap Some (ap (opt_of p) (sym m) ∙ owner-is))
 
-    pub entry-owned : (x : Text) (k : ℕ) → r ≡ Owned x → Packed x k → cover_meant p k ≡ cover_in (types_at s p) n
+    pub entry-owned : (x : Text) (k : ℕ) → r ≡ Some x → Packed x k → cover_meant p k ≡ cover_in (types_at s p) n
     unfolding cover_meant cover_in
-    entry-owned x k m q = rw (← e, t, le-ltb k 2 q.owned, q.stretch) (ap some (ap (owner_meant p) (sym m) ∙ owner-is))
+    entry-owned x k m q = rw (← e, t, le-ltb k 2 q.owned, q.stretch) (ap Some (ap (opt_of p) (sym m) ∙ owner-is))
 
 pub ruleset named-laws = (entry-alone, entry-nobody, entry-owned)
 
-module _ (s p : Str) (last : Last) (h : ℕ) where
+module _ (s p : Str) (last : Option (ℕ × ℕ)) (h : ℕ) where
   pub after-other : (roots : Versioned) (marks index leads : List ℕ) (r : ℕ) → (Owners s p roots marks index leads → cover_meant p r ≡ cover_in (types_at s p) (owning (type_name s p h))) → Owners s p roots marks index leads
       → cover_meant p r ≡ cover_in (types_at s p) (owning (type_name s p h))
   after-other roots marks index leads r f o = f o
 
-  pub after_same : (g n : ℕ) (b : Bool) → last ≡ Entry g n → Knows s p last → b ≡ eqs (owning (type_name s p g)) (owning (type_name s p h)) → b ≡ true
+  pub after_same : (g n : ℕ) (b : Bool) → last ≡ Some (g, n) → Knows s p last → b ≡ eqs (owning (type_name s p g)) (owning (type_name s p h)) → b ≡ true
       → cover_meant p n ≡ cover_in (types_at s p) (owning (type_name s p h))
   after_same g n b m k e t =
-      subst (λ (l : Last). Knows s p l) m k ∙ ap (cover_in (types_at s p)) (eqs→eq (owning (type_name s p g)) (owning (type_name s p h)) (sym e ∙ t))
+      subst (λ (l : Option (ℕ × ℕ)). Knows s p l) m k ∙ ap (cover_in (types_at s p)) (eqs→eq (owning (type_name s p g)) (owning (type_name s p h)) (sym e ∙ t))
 
 pub ruleset after-laws = (after-other, after_same)

@@ -9,6 +9,8 @@ use lib.Dec.{eqb}
 use lib.ListN.{length, get_or, set, drop, drop_of_length-le}
 use lib.Seq.{get_or-set_same, get_or-set_other}
 use borrow.Author.Tests.{eq-eqb, ne_eqb, eqb-true, eqb-false}
+use Rattle.std.specs.Prelude.{Result, Ok, Err, ⊤, replicate, take, ◌++◌, Option, Some, None}
+use Rattle.std.proofs.lemmas.List.{length-take-le, length-replicate, get_or-replicate, get_or_append_left}
 use Rattle.record.specs.Base.{Str, eqs}
 use Rattle.record.specs.Stretch.{text_of}
 use Rattle.record.specs.Scalars.{Scalar}
@@ -26,15 +28,11 @@ use Rattle.layout.specs.Tables.{Tables}
 use Rattle.layout.specs.declared.names.TypeName.{TypeName}
 use Rattle.layout.specs.declared.spots.Spot.{Spot}
 use Rattle.layout.specs.declared.spots.SpotCursor.{SpotCursor}
-use Rattle.layout.specs.declared.spots.SpotStep.{SpotStep}
-use Rattle.layout.specs.declared.spots.SpotStep.TheVariants.{NoSpot, ASpot}
-use Rattle.layout.specs.declared.table.TypeFound.{TypeFound}
-use Rattle.layout.specs.declared.table.TypeFound.TheVariants.{NoType, At}
 use Rattle.layout.proofs.NameLaws.{stretches-read}
 use Rattle.layout.proofs.TableLaws.{own-type, no-type, one_name, found_name}
 use Rattle.layout.proofs.SpotLaws.{spots-over-now, spots-now, spots-sound}
 use Rattle.layout.proofs.LineLaws.{drop-next}
-use Rattle.definition.specs.Verdicts.{moved, resized, uncovered}
+use Rattle.definition.specs.Verdicts.{moved, resized}
 use Rattle.definition.specs.Pass.{◌then◌, ensure, on_found}
 use Rattle.definition.specs.Fields.{place_in, check_kept, check_place, check_places, check_type, check_fields, eq_places, same_as}
 use Rattle.definition.proofs.Same.{eq_places→eq}
@@ -44,30 +42,30 @@ use Rattle.compare.specs.Alike.{AlikePassed}
 use Rattle.compare.specs.Kept.{PlacesKept}
 use Rattle.compare.specs.Fields.{entry_of, Ones, TypeNoted}
 use Rattle.compare.specs.CoverTable.{Changes}
-use Rattle.verdicts.specs.Meaning.{meaning}
+use Rattle.verdicts.specs.Meaning.{violation, meaning}
 use Rattle.verdicts.specs.declared.verdict.Verdict.{Verdict}
-use Rattle.verdicts.specs.declared.verdict.Verdict.TheVariants.{Passed, TypeGone, FieldGone, Moved, Resized, Redescribed}
-use Rattle.verdicts.proofs.VerdictLaws.{Violated, stays}
+use Rattle.verdicts.specs.declared.verdict.Verdict.TheVariants.{TypeGone, FieldGone, Moved, Resized, Redescribed}
+use Rattle.verdicts.proofs.PassLaws.{HandedOn}
 use Rattle.verdicts.proofs.Each.{each-end, each_on, each-stop}
 
 -- a field against the one of its name
 module _ (p q : Str) (o : TypeName) (a x : Spot) where
-  pub kept-moved : (x.offset ≡ a.offset → ⊥) → meaning p q (Moved o a.name a.offset x.offset) ≡ check_kept (name_of q o) (spot_of q a) (spot_of p x)
-  unfolding meaning check_kept ensure ◌then◌ moved
+  pub kept-moved : (x.offset ≡ a.offset → ⊥) → meaning p q (Err (Moved o a.name a.offset x.offset)) ≡ check_kept (name_of q o) (spot_of q a) (spot_of p x)
+  unfolding meaning violation check_kept ensure ◌then◌ moved
   kept-moved h = rw (ne_eqb x.offset a.offset h)
 
   module _ (i : x.offset ≡ a.offset) where
-    pub kept-resized : (x.size ≡ a.size → ⊥) → meaning p q (Resized o a.name a.size x.size) ≡ check_kept (name_of q o) (spot_of q a) (spot_of p x)
-    unfolding meaning check_kept ensure ◌then◌ resized
+    pub kept-resized : (x.size ≡ a.size → ⊥) → meaning p q (Err (Resized o a.name a.size x.size)) ≡ check_kept (name_of q o) (spot_of q a) (spot_of p x)
+    unfolding meaning violation check_kept ensure ◌then◌ resized
     kept-resized h = rw (eq-eqb x.offset a.offset i, ne_eqb x.size a.size h)
 
     module _ (j : x.size ≡ a.size) (t : Bool) (d : t ≡ eqs (described_as p x.described) (described_as q a.described)) where
-      pub kept_same : t ≡ true → meaning p q Passed ≡ check_kept (name_of q o) (spot_of q a) (spot_of p x)
+      pub kept_same : t ≡ true → meaning p q (Ok tt) ≡ check_kept (name_of q o) (spot_of q a) (spot_of p x)
       unfolding meaning check_kept ensure ◌then◌
       kept_same h = rw (eq-eqb x.offset a.offset i, eq-eqb x.size a.size j, ← d, h)
 
-      pub kept-redescribed : t ≡ false → meaning p q (Redescribed o a.name a.described x.described) ≡ check_kept (name_of q o) (spot_of q a) (spot_of p x)
-      unfolding meaning check_kept ensure ◌then◌
+      pub kept-redescribed : t ≡ false → meaning p q (Err (Redescribed o a.name a.described x.described)) ≡ check_kept (name_of q o) (spot_of q a) (spot_of p x)
+      unfolding meaning violation check_kept ensure ◌then◌
       kept-redescribed h = rw (eq-eqb x.offset a.offset i, eq-eqb x.size a.size j, ← d, h)
 
 -- one field
@@ -75,19 +73,19 @@ module _ (s p q : Str) (w : List Scalar) (c : SpotCursor) (o : TypeName) (a : Sp
   abbrev is : List FieldLayout
   is = places_from (rec s p w) c
 
-  pub place-padding : a.padding ≡ true → meaning p q Passed ≡ check_place (name_of q o) is (spot_of q a)
+  pub place-padding : a.padding ≡ true → meaning p q (Ok tt) ≡ check_place (name_of q o) is (spot_of q a)
   unfolding meaning check_place ensure
   place-padding h = rw h
 
-  module _ (n : a.padding ≡ false) (x : Str) (r : SpotStep) (t : x ≡ text_of q a.name) (h : place_in x is ≡ spot_found p r) where
+  module _ (n : a.padding ≡ false) (x : Str) (r : Option (Spot × SpotCursor)) (t : x ≡ text_of q a.name) (h : place_in x is ≡ spot_found p r) where
     named : place_in (text_of q a.name) is ≡ spot_found p r
     named = ap (λ (y : Str). place_in y is) (sym t) ∙ h
 
-    pub place-gone : r ≡ NoSpot → meaning p q (FieldGone o a.name) ≡ check_place (name_of q o) is (spot_of q a)
-    unfolding meaning check_place ensure on_found
+    pub place-gone : r ≡ None → meaning p q (Err (FieldGone o a.name)) ≡ check_place (name_of q o) is (spot_of q a)
+    unfolding meaning violation check_place ensure on_found
     place-gone m = rw (n, named, m)
 
-    pub place-there : (y : Spot) (k : SpotCursor) (v : Verdict) → r ≡ ASpot y k → meaning p q v ≡ check_kept (name_of q o) (spot_of q a) (spot_of p y)
+    pub place-there : (y : Spot) (k : SpotCursor) (v : Result ⊤ Verdict) → r ≡ Some (y, k) → meaning p q v ≡ check_kept (name_of q o) (spot_of q a) (spot_of p y)
         → meaning p q v ≡ check_place (name_of q o) is (spot_of q a)
     unfolding check_kept check_place ensure on_found
     place-there y k v m e = rw (n, named, m) e
@@ -100,13 +98,13 @@ pub record PlacesOn (r : Rec) (z : List ℕ) (n : Str) (is : List FieldLayout) (
 pub places-here : (r : Rec) (z : List ℕ) (n : Str) (is : List FieldLayout) (c : SpotCursor) → SoundCursor r z c → PlacesOn r z n is c c
 places-here r z n is c d = record { sound = d; same = refl }
 
-module _ (p b q : Str) (w : List Scalar) (z : List ℕ) (n : Str) (is : List FieldLayout) (a c : SpotCursor) (i : PlacesOn (rec b q w) z n is a c) (r : SpotStep) (f : SpotsFrom (rec b q w) z c r) where
-  pub places-end : r ≡ NoSpot → meaning p q Passed ≡ check_places n is (places_from (rec b q w) a)
+module _ (p b q : Str) (w : List Scalar) (z : List ℕ) (n : Str) (is : List FieldLayout) (a c : SpotCursor) (i : PlacesOn (rec b q w) z n is a c) (r : Option (Spot × SpotCursor)) (f : SpotsFrom (rec b q w) z c r) where
+  pub places-end : r ≡ None → meaning p q (Ok tt) ≡ check_places n is (places_from (rec b q w) a)
   unfolding check_places
   places-end m = sym (i.same ∙ each-end _ _ p q (spots-over-now b q w z c r f i.sound m))
 
-  module _ (x : Spot) (k : SpotCursor) (v : Verdict) (m : r ≡ ASpot x k) (h : meaning p q v ≡ check_place n is (spot_of q x)) where
-    pub places-on : v ≡ Passed → PlacesOn (rec b q w) z n is a k
+  module _ (x : Spot) (k : SpotCursor) (v : Result ⊤ Verdict) (m : r ≡ Some (x, k)) (h : meaning p q v ≡ check_place n is (spot_of q x)) where
+    pub places-on : v ≡ Ok tt → PlacesOn (rec b q w) z n is a k
     unfolding check_places
     places-on g =
         record {
@@ -114,9 +112,9 @@ module _ (p b q : Str) (w : List Scalar) (z : List ℕ) (n : Str) (is : List Fie
           same = i.same ∙ each_on _ _ p q _ _ v (spots-now b q w z c r f x k m i.sound) h g;
         }
 
-    pub places-stop : Violated v → meaning p q v ≡ check_places n is (places_from (rec b q w) a)
+    pub places-stop : (u : Result ⊤ Verdict) → HandedOn v u → meaning p q u ≡ check_places n is (places_from (rec b q w) a)
     unfolding check_places
-    places-stop g = sym (i.same ∙ each-stop _ _ p q _ _ v (spots-now b q w z c r f x k m i.sound) h g)
+    places-stop u g = sym (i.same ∙ each-stop _ _ p q _ _ v (spots-now b q w z c r f x k m i.sound) h u g)
 
 -- the cursor at the fields of a type is sound
 pub cursor-sound : (s p : Str) (w : List Scalar) (z : List ℕ) (h : ℕ) (c : SpotCursor) → Typed s h → SizesTable (rec s p w) z → Exact (rec s p w) → TypeSpots s h c → SoundCursor (rec s p w) z c
@@ -124,19 +122,17 @@ cursor-sound s p w z h c y x e k = k.sound y p w z x e
 
 -- entries of a table that are put
 
-pub ones-start : (m : List ℕ) → Ones 0 m
-ones-start m = record { one = λ j h. absurd (omega arith) }
+pub ones-filled : (n : ℕ) (m f : List ℕ) → n ≤ length m → f ≡ replicate (length (take n m)) 1 → Ones n (f ++ drop n m)
+ones-filled n m f h e = record { one = λ j k. go j k }
+  where
+    whole : length (take n m) ≡ n
+    whole = length-take-le n m h
 
-module _ (i : ℕ) (m : List ℕ) (b : Ones i m) where
-  pub ones-on : (n : ℕ) → i < n → n ≤ length m → Ones (i + 1) (set m i 1)
-  ones-on n k l = record { one = λ j h. go j h (eqb j i) refl }
-    where
-      go : (j : ℕ) → j < i + 1 → (v : Bool) → eqb j i ≡ v → get_or (set m i 1) j 0 ≡ 1
-      go j h true e = ap (λ (k : ℕ). get_or (set m i 1) k 0) (eqb-true j i e) ∙ get_or-set_same m i 1 0 (omega arith)
-      go j h false e = let a : j ≡ i → ⊥ = eqb-false j i e in get_or-set_other m i j 1 0 a ∙ b.one j (omega arith)
+    long : length f ≡ n
+    long = ap length e ∙ length-replicate _ _ ∙ whole
 
-  pub ones-end : (n : ℕ) → n ≤ i → Ones n m
-  ones-end n h = record { one = λ j k. b.one j (omega arith) }
+    go : (j : ℕ) → j < n → get_or (f ++ drop n m) j 0 ≡ 1
+    go j k = get_or_append_left f (drop n m) 0 j (rw long k) ∙ ap (λ (l : List ℕ). get_or l j 0) e ∙ get_or-replicate _ j 1 0 (rw whole k)
 
 module _ (m : List ℕ) (i : ℕ) (t v : Bool) (e : t ≡ v) where
   pub noted-same : t ≡ true → set m i 0 ≡ set m i (entry_of v)
@@ -156,7 +152,7 @@ pub ruleset note-laws = (noted-bare, noted-same, noted_other)
 
 module _ (s p b q : Str) (w : List Scalar) (z y : List ℕ) (c c₀ d d₀ : SpotCursor) (f : SoundCursor (rec s p w) z c) (f₀ : SoundCursor (rec b q w) y c₀) where
   pub rest-bare : (n : Str) (t : Bool) → PlacesKept s p z c b q y c₀ d₀ → (t ≡ true → (q₀ : Str) (w₀ : List Scalar) → places_from (rec b q₀ w₀) d₀ ≡ []) → t ≡ true
-      → meaning p q Passed ≡ check_places n (places_from (rec s p w) c) (places_from (rec b q w) c₀)
+      → meaning p q (Ok tt) ≡ check_places n (places_from (rec s p w) c) (places_from (rec b q w) c₀)
   unfolding check_places
   rest-bare n t k g e = sym (k.same w f f₀ n ∙ each-end _ _ p q (g e q w))
 
@@ -170,63 +166,52 @@ layout-noted s p b q w h h₀ c c₀ i m n y y₀ k k₀ e = e ∙ ap (λ (x : B
 
 -- a type without fields
 pub bare-passed : (s p b q : Str) (w : List Scalar) (h h₀ : ℕ) (c₀ : SpotCursor) (t : Bool) → Typed b h₀ → TypeSpots b h₀ c₀ → (t ≡ true → (p₀ : Str) (w₀ : List Scalar) → places_from (rec b p₀ w₀) c₀ ≡ [])
-    → t ≡ true → meaning p q Passed ≡ check_places (type_name b q h₀) (layout_of (rec s p w) h).fields (layout_of (rec b q w) h₀).fields
+    → t ≡ true → meaning p q (Ok tt) ≡ check_places (type_name b q h₀) (layout_of (rec s p w) h).fields (layout_of (rec b q w) h₀).fields
 unfolding check_places
 bare-passed s p b q w h h₀ c₀ t y k f e = sym (each-end _ _ p q (sym (k.list y q w) ∙ f e q w))
 
 -- all fields of a type
-pub layout-fields : (s p b q : Str) (w : List Scalar) (h h₀ : ℕ) (c c₀ : SpotCursor) (n : TypeName) (v : Verdict) → Typed s h → Typed b h₀ → TypeSpots s h c → TypeSpots b h₀ c₀
+pub layout-fields : (s p b q : Str) (w : List Scalar) (h h₀ : ℕ) (c c₀ : SpotCursor) (n : TypeName) (v : Result ⊤ Verdict) → Typed s h → Typed b h₀ → TypeSpots s h c → TypeSpots b h₀ c₀
     → n ≡ stretches_of b h₀ → meaning p q v ≡ check_places (name_of q n) (places_from (rec s p w) c) (places_from (rec b q w) c₀)
     → meaning p q v ≡ check_places (type_name b q h₀) (layout_of (rec s p w) h).fields (layout_of (rec b q w) h₀).fields
 layout-fields s p b q w h h₀ c c₀ n v y y₀ k k₀ e g = rw (← k.list y p w, ← k₀.list y₀ q w, ← stretches-read b q h₀, ← e) g
 
 -- a type that is found is in the table
-pub found_inside : (s p n : Str) (t : List ℕ) (r : TypeFound) (i : ℕ) → FoundType s p t n r → r ≡ At i → i < length t
-found_inside s p n t r i f m = let h : suc i ≤ length t = subst (λ (y : TypeFound). found_end y ≤ length t) m f.inside in omega arith
+pub found_inside : (s p n : Str) (t : List ℕ) (r : Option ℕ) (i : ℕ) → FoundType s p t n r → r ≡ Some i → i < length t
+found_inside s p n t r i f m = let h : suc i ≤ length t = subst (λ (y : Option ℕ). found_end y ≤ length t) m f.inside in omega arith
 
-pub found-room : (s p n : Str) (t m : List ℕ) (r : TypeFound) (i : ℕ) → FoundType s p t n r → r ≡ At i → length t ≤ length m → i < length m
+pub found-room : (s p n : Str) (t m : List ℕ) (r : Option ℕ) (i : ℕ) → FoundType s p t n r → r ≡ Some i → length t ≤ length m → i < length m
 found-room s p n t m r i f e l = let h = found_inside s p n t r i f e in omega arith
 
 pub table-typed : (s p : Str) (t : List ℕ) (i : ℕ) → TypesTable s p t → i < length t → Typed s (get_or t i 0)
 table-typed s p t i y h = y.typed i h
 
-pub found-typed : (s p n : Str) (t : List ℕ) (r : TypeFound) (i : ℕ) → TypesTable s p t → FoundType s p t n r → r ≡ At i → Typed s (get_or t i 0)
+pub found-typed : (s p n : Str) (t : List ℕ) (r : Option ℕ) (i : ℕ) → TypesTable s p t → FoundType s p t n r → r ≡ Some i → Typed s (get_or t i 0)
 found-typed s p n t r i y f m = y.typed i (found_inside s p n t r i f m)
 
 -- one type
-module _ (s p b q : Str) (w : List Scalar) (h : ℕ) (t : List ℕ) (r : TypeFound) (y : TypesTable s p t) (f : FoundType s p t (type_name b q h) r) where
+module _ (s p b q : Str) (w : List Scalar) (h : ℕ) (t : List ℕ) (r : Option ℕ) (y : TypesTable s p t) (f : FoundType s p t (type_name b q h) r) where
   abbrev R : Rec
   R = rec s p w
 
   abbrev R₀ : Rec
   R₀ = rec b q w
 
-  pub type-gone : (n : TypeName) → n ≡ stretches_of b h → r ≡ NoType → meaning p q (TypeGone n) ≡ check_type (types_of R) (layout_of R₀ h)
-  unfolding meaning check_type on_found layout_of
+  pub type-gone : (n : TypeName) → n ≡ stretches_of b h → r ≡ None → meaning p q (Err (TypeGone n)) ≡ check_type (types_of R) (layout_of R₀ h)
+  unfolding meaning violation check_type on_found layout_of
   type-gone n e m = rw (f.layout y w, m, e, stretches-read b q h)
 
   laid-name : (layout_of R₀ h).name ≡ type_name b q h
   unfolding layout_of
   laid-name = refl
 
-  module _ (i : ℕ) (m : r ≡ At i) where
-    pub type-there : (v : Verdict) → meaning p q v ≡ check_places (type_name b q h) (layout_of R (get_or t i 0)).fields (layout_of R₀ h).fields → meaning p q v ≡ check_type (types_of R) (layout_of R₀ h)
+  module _ (i : ℕ) (m : r ≡ Some i) where
+    pub type-there : (v : Result ⊤ Verdict) → meaning p q v ≡ check_places (type_name b q h) (layout_of R (get_or t i 0)).fields (layout_of R₀ h).fields → meaning p q v ≡ check_type (types_of R) (layout_of R₀ h)
     unfolding check_type on_found
     type-there v g = rw (laid-name, f.layout y w, m) g
 
--- a violation is not what passes
-pub gone-passed : (n : TypeName) → TypeGone n ≡ Passed → ⊥
-gone-passed n e = let z : ◌≡◌ {A = ℕ} 0 1 = cc in omega arith
-
-pub violated-passed : (v : Verdict) → Violated v → v ≡ Passed → ⊥
-unfolding meaning ◌then◌ uncovered
-violated-passed v h e =
-    let w : (meaning [] [] Passed then uncovered []) ≡ meaning [] [] Passed = stays [] [] Passed (uncovered []) (subst Violated e h) in
-    let z : ◌≡◌ {A = ℕ} 0 1 = cc in
-    omega arith
-
 -- the type has its entry
-pub type-noted : (s p b q : Str) (w : List Scalar) (t : List ℕ) (h : ℕ) (r : TypeFound) (i : ℕ) (m n : List ℕ) → TypesTable s p t → FoundType s p t (type_name b q h) r → r ≡ At i
+pub type-noted : (s p b q : Str) (w : List Scalar) (t : List ℕ) (h : ℕ) (r : Option ℕ) (i : ℕ) (m n : List ℕ) → TypesTable s p t → FoundType s p t (type_name b q h) r → r ≡ Some i
     → n ≡ set m i (entry_of (eq_places (layout_of (rec s p w) (get_or t i 0)).fields (layout_of (rec b q w) h).fields)) → TypeNoted (rec s p w) (rec b q w) t h m n
 type-noted s p b q w t h r i m n y f e g = record { index = i; inside = found_inside s p (type_name b q h) t r i f e; named = found_name s p t y (type_name b q h) r i f e; entry = g }
 
@@ -272,7 +257,7 @@ module _ (s p b q : Str) (w : List Scalar) (t t₀ m : List ℕ) where
         go j (inl e) = e
         go j (inr a) = rw (a.0, no-type b q t₀ y₀ w (type_name s p (get_or t j 0)) (λ i l. a.1 i (omega arith)))
 
-    pub visited-on : (n : List ℕ) (u : Verdict) → TypesTable s p t → k < length t₀ → length t ≤ length m → u ≡ Passed → (u ≡ Passed → TypeNoted (rec s p w) (rec b q w) t (get_or t₀ k 0) m n) → Visited (rec s p w) (rec b q w) t t₀ n (k + 1)
+    pub visited-on : (n : List ℕ) (u : Result ⊤ Verdict) → TypesTable s p t → k < length t₀ → length t ≤ length m → u ≡ Ok tt → (u ≡ Ok tt → TypeNoted (rec s p w) (rec b q w) t (get_or t₀ k 0) m n) → Visited (rec s p w) (rec b q w) t t₀ n (k + 1)
     unfolding same_as same_of
     visited-on n u y l room passed noted = record { state = λ j h. go j h (eqb j at) refl }
       where
@@ -332,15 +317,15 @@ module _ (r : Rec) (t z : List ℕ) (is : List TypeLayout) (tables : Tables r t 
   types-here = record { inside = omega arith; same = ap (check_fields is) (sym (tables.types.layouts r.scalars)) }
 
 module _ (p q : Str) (r : Rec) (t : List ℕ) (is was : List TypeLayout) (i : ℕ) (l : TypesOn r t is was i) where
-  pub types-end : length t ≤ i → meaning p q Passed ≡ check_fields is was
+  pub types-end : length t ≤ i → meaning p q (Ok tt) ≡ check_fields is was
   unfolding check_fields
   types-end h = sym (l.same ∙ each-end _ _ p q (ap (map (layout_of r)) (drop_of_length-le t {i = i} h)))
 
-  module _ (v : Verdict) (g : i < length t) (h : meaning p q v ≡ check_type is (layout_of r (get_or t i 0))) where
-    pub types-on : v ≡ Passed → TypesOn r t is was (i + 1)
+  module _ (v : Result ⊤ Verdict) (g : i < length t) (h : meaning p q v ≡ check_type is (layout_of r (get_or t i 0))) where
+    pub types-on : v ≡ Ok tt → TypesOn r t is was (i + 1)
     unfolding check_fields
     types-on e = record { inside = omega arith; same = l.same ∙ each_on _ _ p q _ _ v (ap (map (layout_of r)) (drop-next t i g)) h e }
 
-    pub types-stop : Violated v → meaning p q v ≡ check_fields is was
+    pub types-stop : (z : Result ⊤ Verdict) → HandedOn v z → meaning p q z ≡ check_fields is was
     unfolding check_fields
-    types-stop e = sym (l.same ∙ each-stop _ _ p q _ _ v (ap (map (layout_of r)) (drop-next t i g)) h e)
+    types-stop z e = sym (l.same ∙ each-stop _ _ p q _ _ v (ap (map (layout_of r)) (drop-next t i g)) h z e)

@@ -1,4 +1,5 @@
 -- A record's head, from a step along its heads. Assumes nothing.
+use Rattle.std.specs.Prelude.{Some, None}
 use mathlib.Core.Path.{◌≡◌, sym, ap, ◌∙◌}
 use mathlib.Core.Bool.{false}
 use mathlib.Core.List.{List}
@@ -9,17 +10,15 @@ use Rattle.record.specs.Steps.{heads_at, heads_of, HeadsFrom}
 use Rattle.record.specs.Reading.{release_of, unreleased_of}
 use Rattle.record.specs.declared.command as D
 use Rattle.record.specs.declared.command.Cursor.{Cursor}
-use Rattle.record.specs.declared.lists.HeadStep.{HeadStep}
-use Rattle.record.specs.declared.lists.HeadStep.TheVariants.{NoHead, AHead}
-use Rattle.record.specs.declared.operands.OptText.TheVariants.{Absent}
 use Rattle.compare.specs.Heads.{HeadRelease, HeadUnreleased}
+use Rattle.record.specs.Commands.{Step}
 
-module _ (s : Str) (f : Cursor) (o : HeadStep) (e : f ≡ start) (h : HeadsFrom s f.at o) where
+module _ (s : Str) (f : Cursor) (o : Step D.Head.Head) (e : f ≡ start) (h : HeadsFrom s f.at o) where
   heads-are : (p : Str) → heads_at s p 0 ≡ heads_of s p o
   heads-are p = ap (λ (c : Cursor). heads_at s p c.at) (sym e) ∙ h.list p
 
-  module _ (m : o ≡ NoHead) where
-    pub no-release : HeadRelease s Absent
+  module _ (m : o ≡ None) where
+    pub no-release : HeadRelease s None
     unfolding release_of first
     no-release = record { this = λ p. sym (ap (λ (l : List Heading). release_of (first l)) (heads-are p ∙ ap (heads_of s p) m)) }
 
@@ -27,7 +26,7 @@ module _ (s : Str) (f : Cursor) (o : HeadStep) (e : f ≡ start) (h : HeadsFrom 
     unfolding unreleased_of first
     not-unreleased = record { this = λ p. sym (ap (λ (l : List Heading). unreleased_of (first l)) (heads-are p ∙ ap (heads_of s p) m)) }
 
-  module _ (d : D.Head.Head) (k : Cursor) (m : o ≡ AHead d k) where
+  module _ (d : D.Head.Head) (k : Cursor) (m : o ≡ Some (d, k)) where
     pub its-release : HeadRelease s d.release
     unfolding release_of first
     its-release = record { this = λ p. sym (ap (λ (l : List Heading). release_of (first l)) (heads-are p ∙ ap (heads_of s p) m)) }

@@ -1,8 +1,8 @@
 -- Released fields that are passed over stand as they were. s and p are the current stream and pool, b and q the released ones. Assumes nothing.
+use Rattle.std.specs.Prelude.{Option, Some}
 use Prim.Native.Nat.{ℕ, ◌+◌, ◌-◌, ◌≤◌, ◌<◌}
 use mathlib.Core.Path.{◌≡◌, refl, sym, ap, subst, ◌∙◌}
 use mathlib.Core.List.{List, ◌∷◌}
-use mathlib.Core.Option.{some}
 use mathlib.Core.Bool.{Bool, true, false}
 use native.Mathlib.Omega.{arith}
 use lib.Dec.{eqb}
@@ -15,7 +15,6 @@ use Rattle.record.specs.Commands.{place}
 use Rattle.record.specs.Shapes.{FieldLayout, capped}
 use Rattle.record.specs.Reading.{rec}
 use Rattle.record.specs.declared.command.Cursor.{Cursor}
-use Rattle.record.specs.declared.seek.Sought.TheVariants.{At}
 use Rattle.record.proofs.Basics.{eqs-refl, eqs→eq}
 use Rattle.record.proofs.ListLaws.{find-hit}
 use Rattle.layout.specs.Handles.{name_at}
@@ -31,8 +30,6 @@ use Rattle.compare.proofs.AlikeLaws.{alike-here, alike-so-far, alike-on, alike-n
 use Rattle.compare.specs.Near.{key_of}
 use Rattle.compare.specs.Alike.{AlikePassed, AlikeNext, AlikeFrom}
 use Rattle.compare.specs.Kept.{PlacesKept, Noted, Noting, KeptNext, KeptFrom}
-use Rattle.compare.specs.declared.alike.AlikeStep.{AlikeStep}
-use Rattle.compare.specs.declared.alike.AlikeStep.TheVariants.{Alike}
 
 -- one field --------------------------------------------------------------------------------------------------------------------
 
@@ -47,11 +44,11 @@ ensure-passed true v e = refl
 ensure-passed false v e = e
 
 -- a field that is the first of its name
-first-kept : (n : Str) (is : List FieldLayout) (x : FieldLayout) → place_in x.name is ≡ some x → check_place n is x ≡ pass
+first-kept : (n : Str) (is : List FieldLayout) (x : FieldLayout) → place_in x.name is ≡ Some x → check_place n is x ≡ pass
 unfolding check_place on_found
 first-kept n is x e = ensure-passed x.padding _ (rw e (kept_self n x))
 
-field-kept : (n : Str) (is l m : List FieldLayout) (x : FieldLayout) → l ≡ x ∷ m → place_in x.name is ≡ some x → check_places n is l ≡ check_places n is m
+field-kept : (n : Str) (is l m : List FieldLayout) (x : FieldLayout) → l ≡ x ∷ m → place_in x.name is ≡ Some x → check_places n is l ≡ check_places n is m
 unfolding check_places each ◌then◌
 field-kept n is l m x e f = ap (each (check_place n is)) e ∙ ap (λ (v : Verdict). v then each (check_place n is) m) (first-kept n is x f)
 
@@ -97,7 +94,7 @@ module _ (s p : Str) (z : List ℕ) (c : SpotCursor) (t : List ℕ) (at : ℕ) (
         others = λ m h.
             let d : (key_of m ≡ key_of n) → ⊥ = λ x. j.noted (ap (λ (o : ℕ). get_or u o 0) (sym x) ∙ h) in
             let o = i.others m (sym (j.others (key_of m) d) ∙ h) in
-            others-on s p z m c at offset o (At a k) f.sought a k refl n (eqs n m) size e g refl (differ m d (eqs n m) refl) f.sized v;
+            others-on s p z m c at offset o (Some (a, k)) f.sought a k refl n (eqs n m) size e g refl (differ m d (eqs n m) refl) f.sized v;
       }
     where
       differ : (m : Str) → (key_of m ≡ key_of n → ⊥) → (same : Bool) → eqs n m ≡ same → same ≡ false
@@ -118,11 +115,11 @@ module _ (s p : Str) (z : List ℕ) (c : SpotCursor) (t : List ℕ) (at : ℕ) (
           sound = λ w d d₀. (f.passed w offset e v (o.sound w d) d₀).sound₀;
         }
 
-pub kept_next : (s p : Str) (z : List ℕ) (c : SpotCursor) (t : List ℕ) (at : ℕ) (b q : Str) (y : List ℕ) (to offset a k l size : ℕ) (r : AlikeStep) (n : Str) (u : List ℕ) (v : Bool)
-    → Noted s p z c t at offset → AlikeFrom s p z at b q y to r → r ≡ Alike a k l size → n ≡ name_at s p a → Noting t n u → (v ≡ true → OthersPassed s p z n c (cursor_at (Body (place at)) offset)) → v ≡ true
+pub kept_next : (s p : Str) (z : List ℕ) (c : SpotCursor) (t : List ℕ) (at : ℕ) (b q : Str) (y : List ℕ) (to offset a k l size : ℕ) (r : Option (ℕ × ℕ × ℕ × ℕ)) (n : Str) (u : List ℕ) (v : Bool)
+    → Noted s p z c t at offset → AlikeFrom s p z at b q y to r → r ≡ Some (a, k, l, size) → n ≡ name_at s p a → Noting t n u → (v ≡ true → OthersPassed s p z n c (cursor_at (Body (place at)) offset)) → v ≡ true
     → KeptNext s p z c u at b q y to offset a k l size
 kept_next s p z c t at b q y to offset a k l size r n u v i f m g j o e =
-    let h = subst (λ (x : AlikeStep). AlikeFrom s p z at b q y to x) m f in
+    let h = subst (λ (x : Option (ℕ × ℕ × ℕ × ℕ)). AlikeFrom s p z at b q y to x) m f in
     record {
       kept = kept_on s p z c t at b q y to offset a k l size i h n g u j (o e);
       noted = noted-on s p z c t at b q y to offset a k l size i h n g u j;
@@ -157,9 +154,9 @@ module _ (s p : Str) (z : List ℕ) (c : SpotCursor) (o t : List ℕ) (v : SpotC
   pub keeping-alike : (g e : SpotCursor) → g ≡ cursor_at (Body (place at)) offset → e ≡ cursor_at (Body (place to)) offset → AlikePassed s p z b q y v d g e
   keeping-alike g e h m = alike-so-far s p z b q y v d at to offset i.alike g e h m
 
-  module _ (u : List ℕ) (r : AlikeStep) (a k l size : ℕ) (f : KeptFrom s p z c u at b q y to offset r) (m : r ≡ Alike a k l size) where
+  module _ (u : List ℕ) (r : Option (ℕ × ℕ × ℕ × ℕ)) (a k l size : ℕ) (f : KeptFrom s p z c u at b q y to offset r) (m : r ≡ Some (a, k, l, size)) where
     here : KeptNext s p z c u at b q y to offset a k l size
-    here = subst (λ (x : AlikeStep). KeptFrom s p z c u at b q y to offset x) m f
+    here = subst (λ (x : Option (ℕ × ℕ × ℕ × ℕ)). KeptFrom s p z c u at b q y to offset x) m f
 
     pub keeping-on : (e : ℕ) → e ≡ capped (offset + size) → length u ≡ length t → Keeping s p z c o u v k b q y d l e
     keeping-on e x0 j =
@@ -172,11 +169,11 @@ module _ (s p : Str) (z : List ℕ) (c : SpotCursor) (o t : List ℕ) (v : SpotC
             same = λ w g h n. i.kept.same w g h n ∙ x.same w g (i.kept.sound w g h) n;
             sound = λ w g h. x.sound w g (i.kept.sound w g h);
           };
-          alike = alike-on s p z b q y v d at to offset i.alike (Alike a k l size) a k l size e here.alike refl x0;
+          alike = alike-on s p z b q y v d at to offset i.alike (Some (a, k, l, size)) a k l size e here.alike refl x0;
         }
 
     pub keeping-nearer : length s - k < length s - at
-    keeping-nearer = alike-nearer s p z at b q y to (Alike a k l size) a k l size here.alike refl
+    keeping-nearer = alike-nearer s p z at b q y to (Some (a, k, l, size)) a k l size here.alike refl
 
 -- of a cursor at the record's fields only the place counts
 pub kept-body : (s p : Str) (z : List ℕ) (c : SpotCursor) (b q : Str) (y : List ℕ) (d e : SpotCursor) (l : Cursor) → d.ahead ≡ Body l → c.offset ≡ d.offset

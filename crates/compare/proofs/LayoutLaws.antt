@@ -1,11 +1,11 @@
 -- The fields of types compared with one another, and looked up by name. p is the first pool and q the second. Assumes nothing.
+use Rattle.std.specs.Prelude.{Option, Some, None}
 use Prim.Native.Nat.{ℕ, suc, ◌+◌, ◌≤◌, ◌<◌}
 use mathlib.Core.Path.{◌≡◌, refl, sym, ap, ap₂, subst, ◌∙◌}
 use mathlib.Core.List.{List, [], ◌∷◌, ◌++◌}
-use mathlib.Core.Option.{Option, some}
 use mathlib.Core.Bool.{Bool, true, false, ◌&&◌, not, and-true, and-false, false≢true, beq}
 use native.Mathlib.Omega.{arith}
-use borrow.Author.Tests.{eq-eqb}
+use borrow.Author.Tests.{eq-eqb, not-true, not-false}
 use lib.ListN.{length, take, drop}
 use lib.Seq.{take_at}
 use Rattle.record.specs.Base.{Str, bytes, eqs, or_else, decimal}
@@ -19,15 +19,10 @@ use Rattle.record.specs.Lists.{opt_of}
 use Rattle.record.specs.Describe.{described_as}
 use Rattle.record.specs.Reading.{Rec, rec, schema_of}
 use Rattle.record.specs.declared.text.Text.{Text}
-use Rattle.record.specs.declared.operands.OptText.{OptText}
-use Rattle.record.specs.declared.operands.OptText.TheVariants.{Absent, Given}
 use Rattle.record.specs.declared.describe.Description.{Description}
 use Rattle.record.specs.declared.describe.Description.TheVariants.{Named, Array}
 use Rattle.record.specs.declared.command.Cursor.{Cursor}
 use Rattle.record.specs.declared.seek.Between.TheVariants.{Keys}
-use Rattle.record.specs.declared.seek.Sought.{Sought}
-use Rattle.record.specs.declared.seek.Sought.TheVariants.{Nowhere}
-use Rattle.record.specs.declared.lists.FieldStep.TheVariants.{NoField}
 use Rattle.record.proofs.Basics.{eqs→eq, eqs-refl}
 use Rattle.record.proofs.ListLaws.{find_none, find-hit, find-miss}
 use Rattle.record.proofs.StepLaws.{fields-none, fields-over-now}
@@ -39,8 +34,6 @@ use Rattle.layout.specs.declared.spots.Spot.{Spot}
 use Rattle.layout.specs.declared.spots.Ahead.{Ahead}
 use Rattle.layout.specs.declared.spots.Ahead.TheVariants.{Body}
 use Rattle.layout.specs.declared.spots.SpotCursor.{SpotCursor}
-use Rattle.layout.specs.declared.spots.SpotStep.{SpotStep}
-use Rattle.layout.specs.declared.spots.SpotStep.TheVariants.{NoSpot, ASpot}
 use Rattle.layout.proofs.SpotLaws.{spots-over-now, spots-now, spots-sound}
 use Rattle.definition.specs.Fields.{place_in, eq_place, eq_places}
 use Rattle.compare.specs.Layouts.{spot_found}
@@ -65,12 +58,12 @@ pub same_word : (x y u v : Str) (b : Bool) → x ≡ u → y ≡ v → b ≡ eqs
 same_word x y u v b f g h e = sym f ∙ eqs→eq x y (sym h ∙ e) ∙ g
 
 module _ (p q : Str) where
-  module _ (a b : OptText) where
-    pub words-absent : a ≡ Absent → b ≡ Absent → opt_of p a ≡ opt_of q b
+  module _ (a b : Option Text) where
+    pub words-absent : a ≡ None → b ≡ None → opt_of p a ≡ opt_of q b
     words-absent m n = rw (m, n)
 
-    pub words-given : (t u : Text) (x y : Str) (r : Bool) → a ≡ Given t → b ≡ Given u → x ≡ text_of p t → y ≡ text_of q u → r ≡ eqs x y → r ≡ true → opt_of p a ≡ opt_of q b
-    words-given t u x y r m n f g h e = rw (m, n) (ap some (same_word x y (text_of p t) (text_of q u) r f g h e))
+    pub words-given : (t u : Text) (x y : Str) (r : Bool) → a ≡ Some t → b ≡ Some u → x ≡ text_of p t → y ≡ text_of q u → r ≡ eqs x y → r ≡ true → opt_of p a ≡ opt_of q b
+    words-given t u x y r m n f g h e = rw (m, n) (ap Some (same_word x y (text_of p t) (text_of q u) r f g h e))
 
   module _ (d e : Description) where
     pub named-alike : (k n l m : Text) (x y u v : Str) (b c : Bool) → d ≡ Named k n → e ≡ Named l m → x ≡ text_of p k → y ≡ text_of q l → b ≡ eqs x y → b ≡ true
@@ -78,7 +71,7 @@ module _ (p q : Str) where
     named-alike k n l m x y u v b c i j f g h t f2 g2 h2 t2 =
         rw (i, j) (ap₂ (λ (z w : Str). z ++ (32 ∷ w)) (same_word x y (text_of p k) (text_of q l) b f g h t) (same_word u v (text_of p n) (text_of q m) c f2 g2 h2 t2))
 
-    pub array-alike : (k l : Text) (a b : OptText) (n m : ℕ) (x y : Str) (r c : Bool) → d ≡ Array k a n → e ≡ Array l b m → n ≡ m → x ≡ text_of p k → y ≡ text_of q l → r ≡ eqs x y → r ≡ true
+    pub array-alike : (k l : Text) (a b : Option Text) (n m : ℕ) (x y : Str) (r c : Bool) → d ≡ Array k a n → e ≡ Array l b m → n ≡ m → x ≡ text_of p k → y ≡ text_of q l → r ≡ eqs x y → r ≡ true
         → (c ≡ true → opt_of p a ≡ opt_of q b) → c ≡ true → described_as p d ≡ described_as q e
     array-alike k l a b n m x y r c i j o f g h t z t2 =
         rw (i, j, o) (ap₂ (λ (v : Str) (w : Option Str). v ++ (32 ∷ or_else w (bytes "u8") ++ bytes " x " ++ decimal m)) (same_word x y (text_of p k) (text_of q l) r f g h t) (z t2))
@@ -96,9 +89,9 @@ not-self : (t u : Bool) → not t ≡ u → t ≡ not u
 not-self true u h = ap not h
 not-self false u h = ap not h
 
-not-true : (t : Bool) → (t ≡ true → ⊥) → false ≡ t
-not-true true h = absurd (h refl)
-not-true false h = refl
+other-true : (t : Bool) → (t ≡ true → ⊥) → false ≡ t
+other-true true h = absurd (h refl)
+other-true false h = refl
 
 module _ (p q : Str) (x y : Spot) where
   abbrev is : FieldLayout
@@ -108,7 +101,7 @@ module _ (p q : Str) (x y : Spot) where
   was = spot_of q y
 
   other : (is ≡ was → ⊥) → false ≡ eq_place is was
-  other h = not-true (eq_place is was) (λ e. h (eq_place→eq is was e))
+  other h = other-true (eq_place is was) (λ e. h (eq_place→eq is was e))
 
   pub spot-moved : (x.offset ≡ y.offset → ⊥) → false ≡ eq_place is was
   spot-moved h = other (λ e. h (ap (λ (a : FieldLayout). a.offset) e))
@@ -148,39 +141,39 @@ module _ (s p b q : Str) (w : List Scalar) (z z₀ : List ℕ) (v v₀ c c₀ : 
   abbrev R₀ : Rec
   R₀ = rec b q w
 
-  module _ (a : Agreed R R₀ z z₀ v v₀ c c₀) (o o₀ : SpotStep) (f : SpotsFrom R z c o) (f₀ : SpotsFrom R₀ z₀ c₀ o₀) where
+  module _ (a : Agreed R R₀ z z₀ v v₀ c c₀) (o o₀ : Option (Spot × SpotCursor)) (f : SpotsFrom R z c o) (f₀ : SpotsFrom R₀ z₀ c₀ o₀) where
     abbrev all : Bool
     all = eq_places (places_from R v) (places_from R₀ v₀)
 
-    pub agreed-end : o ≡ NoSpot → o₀ ≡ NoSpot → true ≡ all
+    pub agreed-end : o ≡ None → o₀ ≡ None → true ≡ all
     unfolding eq_places
     agreed-end m m₀ = sym (a.same ∙ ap₂ eq_places (spots-over-now s p w z c o f a.sound m) (spots-over-now b q w z₀ c₀ o₀ f₀ a.sound₀ m₀))
 
-    pub agreed-fewer : (y : Spot) (k₀ : SpotCursor) → o ≡ NoSpot → o₀ ≡ ASpot y k₀ → false ≡ all
+    pub agreed-fewer : (y : Spot) (k₀ : SpotCursor) → o ≡ None → o₀ ≡ Some (y, k₀) → false ≡ all
     unfolding eq_places
     agreed-fewer y k₀ m m₀ = sym (a.same ∙ ap₂ eq_places (spots-over-now s p w z c o f a.sound m) (spots-now b q w z₀ c₀ o₀ f₀ y k₀ m₀ a.sound₀))
 
-    module _ (x : Spot) (k : SpotCursor) (m : o ≡ ASpot x k) where
-      pub agreed-more : o₀ ≡ NoSpot → false ≡ all
+    module _ (x : Spot) (k : SpotCursor) (m : o ≡ Some (x, k)) where
+      pub agreed-more : o₀ ≡ None → false ≡ all
       unfolding eq_places
       agreed-more m₀ = sym (a.same ∙ ap₂ eq_places (spots-now s p w z c o f x k m a.sound) (spots-over-now b q w z₀ c₀ o₀ f₀ a.sound₀ m₀))
 
-      module _ (y : Spot) (k₀ : SpotCursor) (m₀ : o₀ ≡ ASpot y k₀) (t : Bool) (e : t ≡ eq_place (spot_of p x) (spot_of q y)) where
+      module _ (y : Spot) (k₀ : SpotCursor) (m₀ : o₀ ≡ Some (y, k₀)) (t : Bool) (e : t ≡ eq_place (spot_of p x) (spot_of q y)) where
         next : all ≡ (t && eq_places (places_from R k) (places_from R₀ k₀))
         unfolding eq_places
         next =
             a.same ∙ ap₂ eq_places (spots-now s p w z c o f x k m a.sound) (spots-now b q w z₀ c₀ o₀ f₀ y k₀ m₀ a.sound₀)
             ∙ ap (λ (i : Bool). i && eq_places (places_from R k) (places_from R₀ k₀)) (sym e)
 
-        pub agreed-other : t ≡ false → false ≡ all
-        agreed-other g = sym (next ∙ ap (λ (i : Bool). i && eq_places (places_from R k) (places_from R₀ k₀)) g)
+        pub agreed-other : not t ≡ true → false ≡ all
+        agreed-other g = sym (next ∙ ap (λ (i : Bool). i && eq_places (places_from R k) (places_from R₀ k₀)) (not-true t g))
 
-        pub agreed-on : t ≡ true → Agreed R R₀ z z₀ v v₀ k k₀
+        pub agreed-on : not t ≡ false → Agreed R R₀ z z₀ v v₀ k k₀
         agreed-on g =
             record {
               sound = spots-sound s p w z c o f x k m a.sound;
               sound₀ = spots-sound b q w z₀ c₀ o₀ f₀ y k₀ m₀ a.sound₀;
-              same = next ∙ ap (λ (i : Bool). i && eq_places (places_from R k) (places_from R₀ k₀)) g;
+              same = next ∙ ap (λ (i : Bool). i && eq_places (places_from R k) (places_from R₀ k₀)) (not-false t g);
             }
 
 -- all fields of two types, by their handles
@@ -190,11 +183,11 @@ fields-same s p b q w h h₀ c c₀ t y y₀ k k₀ e = e ∙ ap₂ eq_places (k
 
 -- types without fields ------------------------------------------------------------------------------------------------------
 
-pub bare-is : (s : Str) (c : SpotCursor) (k : Cursor) (r : Sought) → c.ahead ≡ Body k → SoughtFrom s Keys 11 k.at r → r ≡ Nowhere → (p : Str) (w : List Scalar) → places_from (rec s p w) c ≡ []
+pub bare-is : (s : Str) (c : SpotCursor) (k : Cursor) (r : Option (ℕ × ℕ)) → c.ahead ≡ Body k → SoughtFrom s Keys 11 k.at r → r ≡ None → (p : Str) (w : List Scalar) → places_from (rec s p w) c ≡ []
 unfolding places_from places
 bare-is s c k r m i n p w =
     ap (λ (a : Ahead). places (schema_of (rec s p w)) c.offset (fields_ahead s p a)) m
-    ∙ ap (places (schema_of (rec s p w)) c.offset) (fields-over-now s k.at NoField (fields-none s k.at r i n) p refl)
+    ∙ ap (places (schema_of (rec s p w)) c.offset) (fields-over-now s k.at None (fields-none s k.at r i n) p refl)
 
 pub bare-both : (s b : Str) (c c₀ : SpotCursor) (t u : Bool) → (t ≡ true → (p : Str) (w : List Scalar) → places_from (rec s p w) c ≡ []) → t ≡ true
     → (u ≡ true → (p : Str) (w : List Scalar) → places_from (rec b p w) c₀ ≡ []) → u ≡ true → (p q : Str) (w : List Scalar) → eq_places (places_from (rec s p w) c) (places_from (rec b q w) c₀) ≡ true
@@ -216,20 +209,20 @@ pub record PlaceOn (r : Rec) (z : List ℕ) (n : Str) (a c : SpotCursor) : Type 
 pub place_here : (r : Rec) (z : List ℕ) (n : Str) (c : SpotCursor) → SoundCursor r z c → PlaceOn r z n c c
 place_here r z n c d = record { sound = d; same = refl }
 
-module _ (s p : Str) (w : List Scalar) (z : List ℕ) (n : Str) (a l c : SpotCursor) (j : PlaceOn (rec s p w) z n a l) (v : OthersPassed s p z n l c) (o : SpotStep) (f : SpotsFrom (rec s p w) z c o) where
+module _ (s p : Str) (w : List Scalar) (z : List ℕ) (n : Str) (a l c : SpotCursor) (j : PlaceOn (rec s p w) z n a l) (v : OthersPassed s p z n l c) (o : Option (Spot × SpotCursor)) (f : SpotsFrom (rec s p w) z c o) where
   i : PlaceOn (rec s p w) z n a c
   unfolding place_in
   i = record { sound = v.sound w j.sound; same = j.same ∙ v.same w j.sound }
 
-  pub place-nearer : (x : Spot) (k : SpotCursor) → o ≡ ASpot x k → spots_left s k < spots_left s l
-  place-nearer x k m = let h : suc (spots_left s k) ≤ spots_left s c = subst (λ (y : SpotStep). step_left s y ≤ spots_left s c) m f.left in let g = v.left in omega arith
+  pub place-nearer : (x : Spot) (k : SpotCursor) → o ≡ Some (x, k) → spots_left s k < spots_left s l
+  place-nearer x k m = let h : suc (spots_left s k) ≤ spots_left s c = subst (λ (y : Option (Spot × SpotCursor)). step_left s y ≤ spots_left s c) m f.left in let g = v.left in omega arith
 
-  pub place_none : o ≡ NoSpot → place_in n (places_from (rec s p w) a) ≡ spot_found p NoSpot
+  pub place_none : o ≡ None → place_in n (places_from (rec s p w) a) ≡ spot_found p None
   unfolding place_in
   place_none m = i.same ∙ find_none (λ (g : FieldLayout). eqs g.name n) _ (spots-over-now s p w z c o f i.sound m)
 
-  module _ (x : Spot) (k : SpotCursor) (m : o ≡ ASpot x k) (u : Str) (b : Bool) (g : u ≡ text_of p x.name) (h : b ≡ eqs u n) where
-    pub place-hit : b ≡ true → place_in n (places_from (rec s p w) a) ≡ spot_found p (ASpot x k)
+  module _ (x : Spot) (k : SpotCursor) (m : o ≡ Some (x, k)) (u : Str) (b : Bool) (g : u ≡ text_of p x.name) (h : b ≡ eqs u n) where
+    pub place-hit : b ≡ true → place_in n (places_from (rec s p w) a) ≡ spot_found p (Some (x, k))
     unfolding place_in
     place-hit e = i.same ∙ find-hit (λ (g : FieldLayout). eqs g.name n) _ _ _ (spots-now s p w z c o f x k m i.sound) (ap (λ (y : Str). eqs y n) (sym g) ∙ sym h ∙ e)
 

@@ -1,4 +1,5 @@
 -- The table of where to look for the fields of a type: while it is filled, and what it says of a name. Assumes nothing.
+use Rattle.std.specs.Prelude.{Option, Some}
 use Prim.Native.Nat.{ℕ, ◌+◌, ◌-◌, ◌*◌, ◌/◌, ◌%◌, ◌≤◌, ◌<◌}
 use mathlib.Core.Path.{◌≡◌, refl, sym, ap, subst, ◌∙◌}
 use mathlib.Core.List.{List}
@@ -17,18 +18,16 @@ use Rattle.record.specs.Reading.{rec}
 use Rattle.record.specs.Seek.{SoughtFrom}
 use Rattle.record.specs.declared.command.Cursor.{Cursor}
 use Rattle.record.specs.declared.seek.Between.TheVariants.{Keys}
-use Rattle.record.specs.declared.seek.Sought.{Sought}
-use Rattle.record.specs.declared.seek.Sought.TheVariants.{At}
 use Rattle.record.proofs.Basics.{eqs→eq}
 use Rattle.layout.specs.Handles.{name_at}
 use Rattle.layout.specs.Spots.{cursor_at, places_from, SoundCursor, OthersPassed}
 use Rattle.layout.specs.declared.spots.Ahead.TheVariants.{Body}
 use Rattle.layout.specs.declared.spots.SpotCursor.{SpotCursor}
-use Rattle.layout.specs.declared.spots.SpotStep.{SpotStep}
 use Rattle.layout.proofs.SpotLaws.{others-here, others-body, others-on}
 use Rattle.definition.specs.Fields.{place_in}
 use Rattle.compare.specs.Layouts.{spot_found}
 use Rattle.compare.specs.Near.{key_of, cursor_in, Near, NearPut, NearSpot}
+use Rattle.layout.specs.declared.spots.Spot.{Spot}
 
 -- the number of a name --------------------------------------------------------------------------------------------------------
 
@@ -109,7 +108,7 @@ module _ (s p : Str) (z : List ℕ) (c : SpotCursor) (w t : List ℕ) (at offset
       go n true e g = new n (eqb-true (key_of n) k e) (eqb (get_or t (key_of n) 0) 0) refl g
       go n false e g = old n (f.others (key_of n) (eqb-false (key_of n) k e)) g
 
-  module _ (r : Sought) (j : SoughtFrom s Keys 11 at r) (a o : ℕ) (m : r ≡ At a o) (x : Str) (v : x ≡ name_at s p a) (y : k ≡ key_of x) where
+  module _ (r : Option (ℕ × ℕ)) (j : SoughtFrom s Keys 11 at r) (a o : ℕ) (m : r ≡ Some (a, o)) (x : Str) (v : x ≡ name_at s p a) (y : k ≡ key_of x) where
     -- a name without an entry is another than the field's
     other : b ≡ true → (n : Str) → get_or u (key_of n) 0 ≡ 0 → (same : Bool) → eqs x n ≡ same → same ≡ false
     other d n g false e = refl
@@ -150,6 +149,6 @@ module _ (s p : Str) (w : List Scalar) (z : List ℕ) (c : SpotCursor) (t : List
   pub near-sound : SoundCursor (rec s p w) z d
   near-sound = (h.passed s p z g).sound w f
 
-  pub near-found : (r : SpotStep) → place_in n (places_from (rec s p w) d) ≡ spot_found p r → place_in n (places_from (rec s p w) c) ≡ spot_found p r
+  pub near-found : (r : Option (Spot × SpotCursor)) → place_in n (places_from (rec s p w) d) ≡ spot_found p r → place_in n (places_from (rec s p w) c) ≡ spot_found p r
   unfolding place_in
   near-found r e = (h.passed s p z g).same w f ∙ e

@@ -1,23 +1,20 @@
 -- Fields of two types that are alike: what the code passes over where it compares the fields of two types. Assumes nothing.
-use Rattle.std.specs.Prelude.{◌≡◌, List, ◌∷◌, ℕ, ◌+◌, ◌/◌, get_or}
+use Rattle.std.specs.Prelude.{◌≡◌, List, ◌∷◌, ℕ, ◌+◌, ◌/◌, get_or, Option, Some, None}
 use Rattle.record.specs.Base.{Str}
 use Rattle.record.specs.Stretch.{text_of}
 use Rattle.record.specs.Scalars.{Scalar}
 use Rattle.record.specs.Commands.{place}
-use Rattle.record.specs.Lists.{opt_of, number_of}
+use Rattle.record.specs.Lists.{opt_of}
 use Rattle.record.specs.Seek.{SoughtFrom}
 use Rattle.record.specs.Shapes.{FieldLayout, capped}
 use Rattle.record.specs.Reading.{Rec, rec}
 use Rattle.record.specs.declared.command as C
 use Rattle.record.specs.declared.seek.Between.TheVariants.{Keys}
-use Rattle.record.specs.declared.seek.Sought.TheVariants.{At}
 use Rattle.layout.specs.Handles.{name_at}
 use Rattle.layout.specs.Spots.{cursor_at, places_from, SoundCursor}
 use Rattle.layout.specs.declared.spots.Ahead.TheVariants.{Body}
 use Rattle.layout.specs.declared.spots.SpotCursor.{SpotCursor}
 use Rattle.definition.specs.Fields.{eq_places}
-use Rattle.compare.specs.declared.alike.AlikeStep.{AlikeStep}
-use Rattle.compare.specs.declared.alike.AlikeStep.TheVariants.{Differ, Alike}
 
 -- the fields of a record from a place on, at an offset
 abbrev pub body_at : ℕ → ℕ → SpotCursor
@@ -25,10 +22,10 @@ body_at at offset = cursor_at (Body (place at)) offset
 
 -- the numbers of two fields
 pub record SameNumbers (f g : C.Field.Field) : Type 0 where
-  pub count : number_of f.count ≡ number_of g.count
-  pub rows : number_of f.rows ≡ number_of g.rows
-  pub cols : number_of f.cols ≡ number_of g.cols
-  pub size : number_of f.size ≡ number_of g.size
+  pub count : f.count ≡ g.count
+  pub rows : f.rows ≡ g.rows
+  pub cols : f.cols ≡ g.cols
+  pub size : f.size ≡ g.size
 
 -- the texts of two fields
 pub record SameTexts (p q : Str) (f g : C.Field.Field) : Type 0 where
@@ -59,9 +56,9 @@ pub record AlikeNext (s p : Str) (z : List ℕ) (at : ℕ) (b q : Str) (y : List
       → SoundCursor (rec s p w) z (body_at at offset)
       → SoundCursor (rec b q w) y (body_at to offset)
       → Begins (rec s p w) z (rec b q w) y (name_at s p a) (body_at at offset) (body_at to offset) (body_at k e) (body_at l e)
-  pub sought : SoughtFrom s Keys 11 at (At a k)
+  pub sought : SoughtFrom s Keys 11 at (Some (a, k))
   pub sized : size ≡ get_or z (k / 33) 0
 
-abbrev pub AlikeFrom : Str → Str → List ℕ → ℕ → Str → Str → List ℕ → ℕ → AlikeStep → Type 0
-AlikeFrom s p z at b q y to Differ = Unit
-AlikeFrom s p z at b q y to (Alike a k l size) = AlikeNext s p z at b q y to a k l size
+abbrev pub AlikeFrom : Str → Str → List ℕ → ℕ → Str → Str → List ℕ → ℕ → Option (ℕ × ℕ × ℕ × ℕ) → Type 0
+AlikeFrom s p z at b q y to None = Unit
+AlikeFrom s p z at b q y to (Some (a, k, l, size)) = AlikeNext s p z at b q y to a k l size

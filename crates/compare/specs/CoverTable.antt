@@ -1,7 +1,6 @@
 -- The table of what covers each type, as the code fills it and reads it: its way to Coverage of definition, check_generations of layout.rs.
 -- Assumes nothing.
-use Rattle.std.specs.Prelude.{◌≡◌, List, [], ◌∷◌, Bool, false, ◌&&◌, not, cond, ℕ, ◌-◌, ◌≤◌, ◌<◌, ◌/◌, ◌%◌, eqb, ltb, length, get_or, drop}
-use Rattle.std.proofs.Math.Option.{Option, none, some}
+use Rattle.std.specs.Prelude.{◌≡◌, Result, Ok, Err, ⊤, List, [], ◌∷◌, Bool, false, ◌&&◌, not, cond, ℕ, ◌-◌, ◌≤◌, ◌<◌, ◌/◌, ◌%◌, eqb, ltb, length, get_or, drop, Option, Some, None}
 use Rattle.record.specs.Base.{Str, eqs}
 use Rattle.record.specs.Stretch.{text_of}
 use Rattle.record.specs.Owner.{Types, owner_of}
@@ -18,11 +17,7 @@ use Rattle.layout.specs.Names.{stretches_of}
 use Rattle.definition.specs.Fields.{same_as, changed}
 use Rattle.definition.specs.Coverage.{owning, stands_alone}
 use Rattle.verdicts.specs.declared.verdict.Verdict.{Verdict}
-use Rattle.verdicts.specs.declared.verdict.Verdict.TheVariants.{Passed, Uncovered}
-use Rattle.compare.specs.declared.coverage.Last.{Last}
-use Rattle.compare.specs.declared.coverage.Last.TheVariants.{NoLast, Entry}
-use Rattle.compare.specs.declared.cover_table.Touched.{Touched}
-use Rattle.compare.specs.declared.cover_table.Touched.TheVariants.{Untouched, Changed}
+use Rattle.verdicts.specs.declared.verdict.Verdict.TheVariants.{Uncovered}
 
 -- names ------------------------------------------------------------------------------------------------------------------
 
@@ -38,11 +33,11 @@ one_family g h = not (eqb (family_part g) 0) && eqb (family_part g) (family_part
 
 -- nothing has to cover what stands alone; else the owner does, if there is one
 unfoldable pub cover_in : Types → Str → Option (Option Str)
-cover_in ts n = cond (stands_alone ts.families n) none (some (owner_of ts n))
+cover_in ts n = cond (stands_alone ts.families n) None (Some (owner_of ts n))
 
 -- nothing has to cover a type that is as it was
 unfoldable pub cover_for : Types → List TypeLayout → TypeLayout → Option (Option Str)
-cover_for ts was t = cond (same_as (type_in t.name was) t) none (cover_in ts (owning t.name))
+cover_for ts was t = cond (same_as (type_in t.name was) t) None (cover_in ts (owning t.name))
 
 -- entries -----------------------------------------------------------------------------------------------------------------
 
@@ -52,7 +47,7 @@ stretch_in n = record { start = (n - 2) / 256 % 65536; len = (n - 2) % 256 }
 
 -- an entry is 0 where nothing has to cover the type, 1 where nothing covers it, else two more than a stretch as a number
 unfoldable pub cover_meant : Str → ℕ → Option (Option Str)
-cover_meant p n = cond (ltb n 2) (cond (eqb n 0) none (some none)) (some (some (text_of p (stretch_in n))))
+cover_meant p n = cond (ltb n 2) (cond (eqb n 0) None (Some None)) (Some (Some (text_of p (stretch_in n))))
 
 -- the entry of an owner
 pub record Packed (t : Text) (n : ℕ) : Type 0 where
@@ -66,9 +61,9 @@ pub record Owners (s p : Str) (roots : Versioned) (m x t : List ℕ) : Type 0 wh
   pub leads : LeadTable s p m t
 
 -- an entry that was found is that of its type's name
-abbrev pub Knows : Str → Str → Last → Type 0
-Knows s p NoLast = Unit
-Knows s p (Entry h n) = cover_meant p n ≡ cover_in (types_at s p) (owning (type_name s p h))
+abbrev pub Knows : Str → Str → Option (ℕ × ℕ) → Type 0
+Knows s p None = Unit
+Knows s p (Some (h, n)) = cover_meant p n ≡ cover_in (types_at s p) (owning (type_name s p h))
 
 -- the table ---------------------------------------------------------------------------------------------------------------
 
@@ -93,22 +88,22 @@ pub record CoverTable (r r₀ : Rec) (t m : List ℕ) : Type 0 where
       → cover_meant r.pool (get_or m i 0) ≡ cover_for (types_at r.stream r.pool) (types (schema_of r₀)) (layout_of r (get_or t i 0))
 
 -- the first type whose entry says that nothing covers it
-unfoldable pub first_uncovered : Str → List ℕ → List ℕ → Verdict
-first_uncovered s [] m = Passed
-first_uncovered s (h ∷ t) m = cond (eqb (get_or m 0 0) 1) (Uncovered (stretches_of s h)) (first_uncovered s t (drop 1 m))
+unfoldable pub first_uncovered : Str → List ℕ → List ℕ → Result ⊤ Verdict
+first_uncovered s [] m = Ok tt
+first_uncovered s (h ∷ t) m = cond (eqb (get_or m 0 0) 1) (Err (Uncovered (stretches_of s h))) (first_uncovered s t (drop 1 m))
 
 -- an entry says that the type is under this root
 unfoldable pub is_under : Str → Str → ℕ → Bool
 is_under p root n = cond (ltb n 2) false (eqs (text_of p (stretch_in n)) root)
 
 -- the first type whose entry does
-unfoldable pub first_touched : Str → List ℕ → List ℕ → Str → Touched
-first_touched p [] m root = Untouched
-first_touched p (h ∷ t) m root = cond (is_under p root (get_or m 0 0)) (Changed h) (first_touched p t (drop 1 m) root)
+unfoldable pub first_touched : Str → List ℕ → List ℕ → Str → Option ℕ
+first_touched p [] m root = None
+first_touched p (h ∷ t) m root = cond (is_under p root (get_or m 0 0)) (Some h) (first_touched p t (drop 1 m) root)
 
-abbrev pub touched_name : Str → Str → Touched → Option Str
-touched_name s p Untouched = none
-touched_name s p (Changed h) = some (type_name s p h)
+abbrev pub touched_name : Str → Str → Option ℕ → Option Str
+touched_name s p None = None
+touched_name s p (Some h) = Some (type_name s p h)
 
 -- its name
 unfoldable pub touched_by : Str → Str → List ℕ → List ℕ → Str → Option Str

@@ -1,5 +1,5 @@
 -- What the pass over the fields notes of the current types, in the table that CoverTable reads. Assumes nothing.
-use Rattle.std.specs.Prelude.{◌≡◌, List, Bool, cond, ℕ, ◌<◌, length, get_or, set}
+use Rattle.std.specs.Prelude.{◌≡◌, Result, ⊤, List, Bool, cond, ℕ, ◌<◌, length, get_or, set}
 use Rattle.record.specs.Base.{Str}
 use Rattle.record.specs.Shapes.{FieldLayout}
 use Rattle.record.specs.Reading.{Rec}
@@ -17,7 +17,7 @@ pub record Ones (n : ℕ) (m : List ℕ) : Type 0 where
   pub one : (i : ℕ) → i < n → get_or m i 0 ≡ 1
 
 -- the fields of a released type were held to those of a current one: the verdict, and the table before and after its entry was put
-pub record FieldsHeld (cur rel : Rec) (owner : Str) (is was : List FieldLayout) (i : ℕ) (before after : List ℕ) (r : Verdict) : Type 0 where
+pub record FieldsHeld (cur rel : Rec) (owner : Str) (is was : List FieldLayout) (i : ℕ) (before after : List ℕ) (r : Result ⊤ Verdict) : Type 0 where
   pub verdict : meaning cur.pool rel.pool r ≡ check_places owner is was
   pub entry : after ≡ set before i (entry_of (eq_places is was))
 

@@ -1,5 +1,5 @@
 -- Released fields that stand as they were: what the code passes over where it holds the fields of a type to those that were. Assumes nothing.
-use Rattle.std.specs.Prelude.{◌≡◌, List, ℕ, ◌+◌, get_or}
+use Rattle.std.specs.Prelude.{◌≡◌, List, ℕ, ◌+◌, get_or, Option, Some, None}
 use Rattle.record.specs.Base.{Str}
 use Rattle.record.specs.Scalars.{Scalar}
 use Rattle.record.specs.Shapes.{capped}
@@ -10,8 +10,6 @@ use Rattle.definition.specs.Fields.{check_places}
 use Rattle.compare.specs.Near.{key_of}
 use Rattle.compare.specs.Alike.{body_at, AlikePassed, AlikeNext}
 use Rattle.compare.specs.declared.alike.Both.{Both}
-use Rattle.compare.specs.declared.alike.AlikeStep.{AlikeStep}
-use Rattle.compare.specs.declared.alike.AlikeStep.TheVariants.{Differ, Alike}
 
 -- the released fields from one cursor on stand as they were where those from another on do; c is at the front of the current type
 pub record PlacesKept (s p : Str) (z : List ℕ) (c : SpotCursor) (b q : Str) (y : List ℕ) (d e : SpotCursor) : Type 0 where
@@ -40,6 +38,6 @@ pub record KeptNext (s p : Str) (z : List ℕ) (c : SpotCursor) (u : List ℕ) (
   pub noted : (e : ℕ) → e ≡ capped (offset + size) → Noted s p z c u k e
   pub alike : AlikeNext s p z at b q y to a k l size
 
-abbrev pub KeptFrom : Str → Str → List ℕ → SpotCursor → List ℕ → ℕ → Str → Str → List ℕ → ℕ → ℕ → AlikeStep → Type 0
-KeptFrom s p z c u at b q y to offset Differ = Unit
-KeptFrom s p z c u at b q y to offset (Alike a k l size) = KeptNext s p z c u at b q y to offset a k l size
+abbrev pub KeptFrom : Str → Str → List ℕ → SpotCursor → List ℕ → ℕ → Str → Str → List ℕ → ℕ → ℕ → Option (ℕ × ℕ × ℕ × ℕ) → Type 0
+KeptFrom s p z c u at b q y to offset None = Unit
+KeptFrom s p z c u at b q y to offset (Some (a, k, l, size)) = KeptNext s p z c u at b q y to offset a k l size

@@ -1,5 +1,5 @@
 -- What the code has at hand when it runs the passes of a comparison. Assumes nothing.
-use Rattle.std.specs.Prelude.{◌≡◌, List, ℕ, ◌+◌, ◌≤◌, ◌<◌, length, take}
+use Rattle.std.specs.Prelude.{◌≡◌, List, ℕ, ◌≤◌, length, take, Option}
 use Rattle.record.specs.Base.{Str}
 use Rattle.record.specs.Stretch.{text_of}
 use Rattle.record.specs.Lists.{opt_of}
@@ -7,15 +7,9 @@ use Rattle.record.specs.Ends.{IndexedTo}
 use Rattle.record.specs.Reading.{Rec, schema_of}
 use Rattle.record.specs.Read.{Exact}
 use Rattle.record.specs.declared.text.Text.{Text}
-use Rattle.record.specs.declared.operands.OptText.{OptText}
 use Rattle.layout.specs.Room.{Room, SizesRoom}
 use Rattle.layout.specs.Tables.{Tables}
 use Rattle.definition.specs.Pass.{required}
-use Rattle.definition.specs.Compare.{pass_at}
-use Rattle.verdicts.specs.Meaning.{meaning}
-use Rattle.verdicts.specs.declared.verdict.Verdict.{Verdict}
-use Rattle.verdicts.specs.declared.verdict.Verdict.TheVariants.{Passed}
-use Rattle.compare.specs.CoverTable.{Changes}
 use Rattle.compare.specs.declared.compare.Facts.{Facts}
 use Rattle.compare.specs.declared.compare.Counts.{Counts}
 
@@ -27,7 +21,7 @@ pub record Legible (r : Rec) : Type 0 where
   pub exact : Exact r
 
 -- the releases of both records, as stretches
-pub record Releases (cur rel : Rec) (current : Text) (copy : OptText) : Type 0 where
+pub record Releases (cur rel : Rec) (current : Text) (copy : Option Text) : Type 0 where
   pub current-is : text_of cur.pool current ≡ required (schema_of cur).release
   pub copy_is : opt_of rel.pool copy ≡ (schema_of rel).release
 
@@ -48,15 +42,6 @@ pub record LaidOut (cur rel : Rec) (types sizes old-types old-sizes scratch : Li
   pub types-inside : n.types ≤ length types
   pub shipped-inside : n.shipped ≤ length old-types
   pub cover-room : length (take n.types types) ≤ length scratch
-
--- before the pass of a number: from that over the fields to the last, the table says which types changed
-pub record ChangesNoted (k : ℕ) (cur rel : Rec) (types cover : List ℕ) : Type 0 where
-  pub changes : 7 < k → k < 10 → Changes cur rel types cover
-
--- a pass over the layouts was run: its verdict, and the table before and after
-pub record Ran (k : ℕ) (cur rel : Rec) (types before after : List ℕ) (r : Verdict) : Type 0 where
-  pub verdict : meaning cur.pool rel.pool r ≡ pass_at k (schema_of cur) (schema_of rel)
-  pub noted : r ≡ Passed → ChangesNoted k cur rel types before → ChangesNoted (k + 1) cur rel types after
 
 -- the lent tables are long enough for both streams
 pub record TableRooms (s b : Str) (types old-types sizes old-sizes marks scratch : List ℕ) : Type 0 where

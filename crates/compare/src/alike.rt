@@ -1,6 +1,5 @@
 // Fields of two types that are alike in all that their commands say: most are, and this is seen without their offsets and descriptions.
-ghost use Rattle.std.specs.Prelude.{◌+◌, ◌≤◌, ◌≡◌, true, [], length, drop};
-ghost use Rattle.std.proofs.Math.Option.{none};
+ghost use Rattle.std.specs.Prelude.{◌+◌, ◌≤◌, ◌≡◌, true, [], length, drop, None};
 ghost use Rattle.record.specs.Commands.{field_at};
 ghost use Rattle.record.specs.Lists.{field_of};
 ghost use Rattle.record.specs.Reading.{Rec, rec};
@@ -12,7 +11,7 @@ use layout::spots::{Ahead, SpotCursor};
 use record::command::Cursor;
 use record::cut;
 use record::operands::{opt_text_at, text_at};
-use record::seek::{Between, Sought, seek};
+use record::seek::{Between, seek};
 use record::sizes::sum;
 use record::text::{bytes_of, same};
 
@@ -30,15 +29,12 @@ fn alike_texts(pool: &[u8], s: &[u8], old_pool: &[u8], t: &[u8]) -> bool
     if same(
         bytes_of(pool, text_at(s, 1)),
         bytes_of(old_pool, text_at(t, 1)),
-    ) {
-        if same(
-            bytes_of(pool, text_at(s, 4)),
-            bytes_of(old_pool, text_at(t, 4)),
-        ) {
-            if alike_words(pool, opt_text_at(s, 7), old_pool, opt_text_at(t, 7)) {
-                return alike_words(pool, opt_text_at(s, 10), old_pool, opt_text_at(t, 10));
-            }
-        }
+    ) && same(
+        bytes_of(pool, text_at(s, 4)),
+        bytes_of(old_pool, text_at(t, 4)),
+    ) && alike_words(pool, opt_text_at(s, 7), old_pool, opt_text_at(t, 7))
+    {
+        return alike_words(pool, opt_text_at(s, 10), old_pool, opt_text_at(t, 10));
     }
     false
 }
@@ -55,26 +51,16 @@ fn alike_at(
     requires { (a + 33 ≤ length stream.now) × (b + 33 ≤ length old_stream.now) }
     ensures { let cur : Rec = rec stream.now pool.now [] in
         let rel : Rec = rec old_stream.now old_pool.now [] in
-        (result ≡ true → field_of cur.pool (field_at (drop a cur.stream)) none ≡ field_of rel.pool (field_at (drop b rel.stream)) none) }
+        (result ≡ true → field_of cur.pool (field_at (drop a cur.stream)) None ≡ field_of rel.pool (field_at (drop b rel.stream)) None) }
 {
     let end = a + 33;
     let s = &stream[a..end];
     let last = b + 33;
     let t = &old_stream[b..last];
-    if alike_numbers(s, t) {
-        return alike_texts(pool, s, old_pool, t);
-    }
-    false
+    alike_numbers(s, t) && alike_texts(pool, s, old_pool, t)
 }
 
-// The next fields of two types, where they are alike and of one size: the place of the first, the places after them and the size.
-#[derive(Clone, Copy)]
-pub enum AlikeStep {
-    Differ,
-    Alike(usize, usize, usize, u64),
-}
-
-// The next fields from two places on, at one offset.
+// The next fields from two places on, where they are alike and of one size: the place of the first, the places after them and the size.
 pub(crate) fn next_alike(
     stream: &[u8],
     pool: &[u8],
@@ -84,25 +70,25 @@ pub(crate) fn next_alike(
     old_pool: &[u8],
     old_sizes: &[u64],
     to: usize,
-) -> AlikeStep
+) -> Option<(usize, usize, usize, u64)>
     ensures { let cur : Rec = rec stream.now pool.now [] in
         let rel : Rec = rec old_stream.now old_pool.now [] in
         AlikeFrom cur.stream cur.pool sizes.now at rel.stream rel.pool old_sizes.now to result }
 {
-    let Sought::At(a, after) = seek(stream, at, 11, Between::Keys) else {
-        return AlikeStep::Differ;
+    let Some((a, after)) = seek(stream, at, 11, Between::Keys) else {
+        return None;
     };
-    let Sought::At(b, next) = seek(old_stream, to, 11, Between::Keys) else {
-        return AlikeStep::Differ;
+    let Some((b, next)) = seek(old_stream, to, 11, Between::Keys) else {
+        return None;
     };
     let size = size_before(sizes, after);
     if size != size_before(old_sizes, next) {
-        return AlikeStep::Differ;
+        return None;
     }
     if alike_at(stream, pool, a, old_stream, old_pool, b) {
-        return AlikeStep::Alike(a, after, next, size);
+        return Some((a, after, next, size));
     }
-    AlikeStep::Differ
+    None
 }
 
 // The fields of a record from a place on, at an offset.
@@ -152,16 +138,14 @@ fn pass_places(
     let mut at = from;
     let mut to = other;
     let mut offset = start;
-    loop {
-        let AlikeStep::Alike(_, after, next, size) = next_alike(
-            stream, pool, sizes, at, old_stream, old_pool, old_sizes, to,
-        ) else {
-            return bodies_at(at, to, offset);
-        };
+    while let Some((_, after, next, size)) = next_alike(
+        stream, pool, sizes, at, old_stream, old_pool, old_sizes, to,
+    ) {
         offset = sum(offset, size);
         at = after;
         to = next;
     }
+    bodies_at(at, to, offset)
 }
 
 // The fields from two cursors on without those at their fronts that are alike; before the front of a family none is passed over.
@@ -179,12 +163,10 @@ pub(crate) fn pass_alike(
         let rel : Rec = rec old_stream.now old_pool.now [] in
         AlikePassed cur.stream cur.pool sizes.now rel.stream rel.pool old_sizes.now is was result.is result.was }
 {
-    let ahead = is.ahead;
-    let Ahead::Body(k) = ahead else {
+    let Ahead::Body(k) = is.ahead else {
         return Both { is, was };
     };
-    let other = was.ahead;
-    let Ahead::Body(l) = other else {
+    let Ahead::Body(l) = was.ahead else {
         return Both { is, was };
     };
     if is.offset != was.offset {

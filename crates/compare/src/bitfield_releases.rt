@@ -16,41 +16,35 @@ ghost use Rattle.verdicts.specs.Meaning.{meaning};
 
 use crate::required::required_text;
 use crate::shipped::{Shipped, shipped_with};
-use record::command::{Bitfield, Cursor, Member};
+use record::command::{Bitfield, Cursor, Member, Step};
 use record::dates::member_release;
-use record::lists::{
-    BitfieldStep, MemberStep, find_bitfield, find_member, next_bitfield, next_member,
-};
-use record::operands::OptText;
+use record::lists::{find_bitfield, find_member, next_bitfield, next_member};
 use record::text::{Text, bytes_of, same};
 use verdicts::arguments::Item;
 use verdicts::verdict::Verdict;
 
 // What the copy says of a bit field.
-fn bitfield_shipped(was: BitfieldStep) -> Shipped
+fn bitfield_shipped(was: Step<Bitfield>) -> Shipped
     ensures { BitfieldShipped was result }
 {
-    let BitfieldStep::ABitfield(b, _) = was else {
+    let Some((b, _)) = was else {
         return Shipped::Absent;
     };
-    let release = b.first_release;
-    shipped_with(release)
+    shipped_with(b.first_release)
 }
 
 // What the copy says of a member of a bit field.
-fn member_shipped(old_stream: &[u8], old_pool: &[u8], was: BitfieldStep, name: &[u8]) -> Shipped
+fn member_shipped(old_stream: &[u8], old_pool: &[u8], was: Step<Bitfield>, name: &[u8]) -> Shipped
     ensures { let rel : Rec = rec old_stream.now old_pool.now [] in
         shipped_of rel.pool result ≡ member_release (bitfield_found rel.stream rel.pool was) name.now }
 {
-    let BitfieldStep::ABitfield(b, from) = was else {
+    let Some((b, from)) = was else {
         return Shipped::Absent;
     };
-    let MemberStep::AMember(m, _) = find_member(old_stream, old_pool, from, name) else {
+    let Some((m, _)) = find_member(old_stream, old_pool, from, name) else {
         return Shipped::Absent;
     };
-    let own = m.first_release;
-    let parent = b.first_release;
-    shipped_with(member_release(own, parent))
+    shipped_with(member_release(m.first_release, b.first_release))
 }
 
 // What there is now, with its release, against what the copy says of it.
@@ -61,7 +55,7 @@ fn check_arrived(
     what: Item,
     release: Text,
     shipped: Shipped,
-) -> Verdict
+) -> Result<(), Verdict>
     ensures { let p : Str = pool.now in
         let q : Str = old_pool.now in
         meaning p q result ≡ check_arrived (text_of p current) (item_of p what) (text_of p release) (shipped_of q shipped) }
@@ -69,21 +63,21 @@ fn check_arrived(
     match shipped {
         Shipped::Absent => {
             if same(bytes_of(pool, release), bytes_of(pool, current)) {
-                return Verdict::Passed;
+                return Ok(());
             }
-            Verdict::BitsLate {
+            Err(Verdict::BitsLate {
                 what,
                 current,
                 release,
-            }
+            })
         }
         Shipped::Named(was) => {
             if same(bytes_of(pool, release), bytes_of(old_pool, was)) {
-                return Verdict::Passed;
+                return Ok(());
             }
-            Verdict::BitsRedated { what, was, release }
+            Err(Verdict::BitsRedated { what, was, release })
         }
-        Shipped::Unstated => Verdict::Passed,
+        Shipped::Unstated => Ok(()),
     }
 }
 
@@ -94,10 +88,10 @@ fn check_member_arrived(
     old_pool: &[u8],
     current: Text,
     owner: Text,
-    since: OptText,
-    was: BitfieldStep,
+    since: Option<Text>,
+    was: Step<Bitfield>,
     m: Member,
-) -> Verdict
+) -> Result<(), Verdict>
     ensures { let p : Str = pool.now in
         let rel : Rec = rec old_stream.now old_pool.now [] in
         meaning p rel.pool result
@@ -105,8 +99,7 @@ fn check_member_arrived(
         (member_of p m) }
 {
     let name = m.name;
-    let own = m.first_release;
-    let release = required_text(member_release(own, since));
+    let release = required_text(member_release(m.first_release, since));
     let shipped = member_shipped(old_stream, old_pool, was, bytes_of(pool, name));
     check_arrived(
         pool,
@@ -126,10 +119,10 @@ fn check_members_arrived(
     old_pool: &[u8],
     current: Text,
     owner: Text,
-    since: OptText,
-    was: BitfieldStep,
+    since: Option<Text>,
+    was: Step<Bitfield>,
     from: Cursor,
-) -> Verdict
+) -> Result<(), Verdict>
     ensures { let cur : Rec = rec stream.now pool.now [] in
         let rel : Rec = rec old_stream.now old_pool.now [] in
         meaning cur.pool rel.pool result
@@ -137,19 +130,11 @@ fn check_members_arrived(
         (bitfield_found rel.stream rel.pool was) (members_at cur.stream cur.pool from.at) }
 {
     let mut cursor = from;
-    loop {
-        let MemberStep::AMember(m, after) = next_member(stream, cursor) else {
-            return Verdict::Passed;
-        };
-        let verdict = check_member_arrived(
-            pool, old_stream, old_pool, current, owner, since, was, m,
-        );
-        if let Verdict::Passed = verdict {
-            cursor = after;
-        } else {
-            return verdict;
-        }
+    while let Some((m, after)) = next_member(stream, cursor) {
+        check_member_arrived(pool, old_stream, old_pool, current, owner, since, was, m)?;
+        cursor = after;
     }
+    Ok(())
 }
 
 // One current bit field, whose members begin at a cursor.
@@ -161,7 +146,7 @@ fn check_bitfield_arrived(
     current: Text,
     is: Bitfield,
     from: Cursor,
-) -> Verdict
+) -> Result<(), Verdict>
     ensures { let cur : Rec = rec stream.now pool.now [] in
         let rel : Rec = rec old_stream.now old_pool.now [] in
         meaning cur.pool rel.pool result ≡ check_bitfield_arrived (text_of cur.pool current) (bitfield_list rel)
@@ -172,20 +157,17 @@ fn check_bitfield_arrived(
     let was = find_bitfield(old_stream, old_pool, Cursor::new(), bytes_of(pool, name));
     let release = required_text(since);
     let shipped = bitfield_shipped(was);
-    let verdict = check_arrived(
+    check_arrived(
         pool,
         old_pool,
         current,
         Item::Bitfield(name),
         release,
         shipped,
-    );
-    if let Verdict::Passed = verdict {
-        return check_members_arrived(
-            stream, pool, old_stream, old_pool, current, name, since, was, from,
-        );
-    }
-    verdict
+    )?;
+    check_members_arrived(
+        stream, pool, old_stream, old_pool, current, name, since, was, from,
+    )
 }
 
 // The first bit field or member whose release is not the one that it arrived in.
@@ -195,23 +177,15 @@ pub fn check_bitfield_releases(
     old_stream: &[u8],
     old_pool: &[u8],
     current: Text,
-) -> Verdict
+) -> Result<(), Verdict>
     ensures { let cur : Rec = rec stream.now pool.now [] in
         let rel : Rec = rec old_stream.now old_pool.now [] in
         meaning cur.pool rel.pool result ≡ check_bitfield_releases (text_of cur.pool current) (bitfield_list cur) (bitfield_list rel) }
 {
     let mut cursor = Cursor::new();
-    loop {
-        let BitfieldStep::ABitfield(is, after) = next_bitfield(stream, cursor) else {
-            return Verdict::Passed;
-        };
-        let verdict = check_bitfield_arrived(
-            stream, pool, old_stream, old_pool, current, is, after,
-        );
-        if let Verdict::Passed = verdict {
-            cursor = after;
-        } else {
-            return verdict;
-        }
+    while let Some((is, after)) = next_bitfield(stream, cursor) {
+        check_bitfield_arrived(stream, pool, old_stream, old_pool, current, is, after)?;
+        cursor = after;
     }
+    Ok(())
 }

@@ -2,7 +2,7 @@
 ghost use Rattle.std.specs.Prelude.{◌≡◌, []};
 ghost use Rattle.record.specs.Base.{Str, or_else};
 ghost use Rattle.record.specs.Stretch.{text_of};
-ghost use Rattle.record.specs.Lists.{number_of, bitfield_of, member_of};
+ghost use Rattle.record.specs.Lists.{bitfield_of, member_of};
 ghost use Rattle.record.specs.Schema as M;
 ghost use Rattle.record.specs.Steps.{members_at};
 ghost use Rattle.record.specs.Reading.{Rec, rec};
@@ -13,21 +13,18 @@ ghost use Rattle.compare.specs.Sought.{spans_of, SpanFrom};
 ghost use Rattle.compare.specs.Records.{bitfield_list};
 ghost use Rattle.verdicts.specs.Meaning.{meaning};
 
-use record::command::{Bitfield, Cursor, Member};
-use record::lists::{
-    BitfieldStep, MemberStep, find_bitfield, find_member, next_bitfield, next_member,
-};
-use record::operands::OptNumber;
+use record::command::{Bitfield, Cursor, Member, Step};
+use record::lists::{find_bitfield, find_member, next_bitfield, next_member};
 use record::text::{Text, bytes_of};
 use verdicts::verdict::Verdict;
 
 // A member's width: one bit where none is given.
-fn width(given: OptNumber) -> u32
-    ensures { result ≡ or_else (number_of given) 1 }
+fn width(given: Option<u32>) -> u32
+    ensures { result ≡ or_else given 1 }
 {
     match given {
-        OptNumber::Missing => 1,
-        OptNumber::Number(n) => n,
+        None => 1,
+        Some(n) => n,
     }
 }
 
@@ -35,44 +32,47 @@ fn width(given: OptNumber) -> u32
 fn spans(m: Member, bit: u32, wide: u32) -> bool
     ensures { result ≡ spans_of m bit wide }
 {
-    let given = m.width;
-    if width(given) != wide {
+    if width(m.width) != wide {
         return false;
     }
     m.bit == bit
 }
 
 // The first member with that bit and width from a cursor on.
-fn find_span(stream: &[u8], from: Cursor, bit: u32, wide: u32) -> MemberStep
+fn find_span(stream: &[u8], from: Cursor, bit: u32, wide: u32) -> Step<Member>
     ensures { SpanFrom bit wide stream.now from.at result }
 {
     let mut cursor = from;
-    loop {
-        let MemberStep::AMember(m, after) = next_member(stream, cursor) else {
-            return MemberStep::NoMember;
-        };
+    while let Some((m, after)) = next_member(stream, cursor) {
         if spans(m, bit, wide) {
-            return MemberStep::AMember(m, after);
+            return Some((m, after));
         }
         cursor = after;
     }
+    None
 }
 
 // A released member that no member has the name of now, from a cursor on: one with its bits tells the new name.
-fn check_unnamed(stream: &[u8], is: Cursor, owner: Text, name: Text, bit: u32, wide: u32) -> Verdict
+fn check_unnamed(
+    stream: &[u8],
+    is: Cursor,
+    owner: Text,
+    name: Text,
+    bit: u32,
+    wide: u32,
+) -> Result<(), Verdict>
     ensures { (p q : Str) → meaning p q result
         ≡ on_found (span_in bit wide (members_at stream.now p is.at)) (member_gone (text_of q owner) (text_of q name))
         (λ (m : M.Member). member_renamed (text_of q owner) (text_of q name) m.name) }
 {
-    let MemberStep::AMember(m, _) = find_span(stream, is, bit, wide) else {
-        return Verdict::MemberGone { owner, name };
+    let Some((m, _)) = find_span(stream, is, bit, wide) else {
+        return Err(Verdict::MemberGone { owner, name });
     };
-    let is_now = m.name;
-    Verdict::MemberRenamed {
+    Err(Verdict::MemberRenamed {
         owner,
         name,
-        is: is_now,
-    }
+        is: m.name,
+    })
 }
 
 // One released member against those that are now, from a cursor on.
@@ -83,37 +83,35 @@ fn check_member(
     is: Cursor,
     owner: Text,
     was: Member,
-) -> Verdict
+) -> Result<(), Verdict>
     ensures { let cur : Rec = rec stream.now pool.now [] in
         let q : Str = old_pool.now in
         meaning cur.pool q result ≡ check_member (text_of q owner) (members_at cur.stream cur.pool is.at) (member_of q was) }
 {
     let name = was.name;
-    let given = was.width;
-    let wide = width(given);
+    let wide = width(was.width);
     let named = find_member(stream, pool, is, bytes_of(old_pool, name));
-    let MemberStep::AMember(m, _) = named else {
+    let Some((m, _)) = named else {
         return check_unnamed(stream, is, owner, name, was.bit, wide);
     };
     if m.bit != was.bit {
-        return Verdict::BitMoved {
+        return Err(Verdict::BitMoved {
             owner,
             name,
             was: was.bit,
             is: m.bit,
-        };
+        });
     }
-    let given_now = m.width;
-    let wide_now = width(given_now);
+    let wide_now = width(m.width);
     if wide_now != wide {
-        return Verdict::WidthChanged {
+        return Err(Verdict::WidthChanged {
             owner,
             name,
             was: wide,
             is: wide_now,
-        };
+        });
     }
-    Verdict::Passed
+    Ok(())
 }
 
 // The released members from a cursor on against those that are now.
@@ -125,24 +123,18 @@ fn check_members(
     is: Cursor,
     owner: Text,
     from: Cursor,
-) -> Verdict
+) -> Result<(), Verdict>
     ensures { let cur : Rec = rec stream.now pool.now [] in
         let rel : Rec = rec old_stream.now old_pool.now [] in
         meaning cur.pool rel.pool result ≡ check_members (text_of rel.pool owner) (members_at cur.stream cur.pool is.at)
         (members_at rel.stream rel.pool from.at) }
 {
     let mut cursor = from;
-    loop {
-        let MemberStep::AMember(was, after) = next_member(old_stream, cursor) else {
-            return Verdict::Passed;
-        };
-        let verdict = check_member(stream, pool, old_pool, is, owner, was);
-        if let Verdict::Passed = verdict {
-            cursor = after;
-        } else {
-            return verdict;
-        }
+    while let Some((was, after)) = next_member(old_stream, cursor) {
+        check_member(stream, pool, old_pool, is, owner, was)?;
+        cursor = after;
     }
+    Ok(())
 }
 
 // One released bit field, whose members begin at a cursor.
@@ -153,40 +145,34 @@ fn check_bitfield(
     old_pool: &[u8],
     was: Bitfield,
     from: Cursor,
-) -> Verdict
+) -> Result<(), Verdict>
     ensures { let cur : Rec = rec stream.now pool.now [] in
         let rel : Rec = rec old_stream.now old_pool.now [] in
         meaning cur.pool rel.pool result
         ≡ check_bitfield (bitfield_list cur) (bitfield_of rel.pool was (members_at rel.stream rel.pool from.at)) }
 {
     let name = was.name;
-    let BitfieldStep::ABitfield(_, is) = find_bitfield(
-        stream,
-        pool,
-        Cursor::new(),
-        bytes_of(old_pool, name),
-    ) else {
-        return Verdict::BitFieldGone { name };
+    let Some((_, is)) = find_bitfield(stream, pool, Cursor::new(), bytes_of(old_pool, name)) else {
+        return Err(Verdict::BitFieldGone { name });
     };
     check_members(stream, pool, old_stream, old_pool, is, name, from)
 }
 
 // The first bit field or member of the release that does not stand as it was.
-pub fn check_bitfields(stream: &[u8], pool: &[u8], old_stream: &[u8], old_pool: &[u8]) -> Verdict
+pub fn check_bitfields(
+    stream: &[u8],
+    pool: &[u8],
+    old_stream: &[u8],
+    old_pool: &[u8],
+) -> Result<(), Verdict>
     ensures { let cur : Rec = rec stream.now pool.now [] in
         let rel : Rec = rec old_stream.now old_pool.now [] in
         meaning cur.pool rel.pool result ≡ check_bitfields (bitfield_list cur) (bitfield_list rel) }
 {
     let mut cursor = Cursor::new();
-    loop {
-        let BitfieldStep::ABitfield(was, after) = next_bitfield(old_stream, cursor) else {
-            return Verdict::Passed;
-        };
-        let verdict = check_bitfield(stream, pool, old_stream, old_pool, was, after);
-        if let Verdict::Passed = verdict {
-            cursor = after;
-        } else {
-            return verdict;
-        }
+    while let Some((was, after)) = next_bitfield(old_stream, cursor) {
+        check_bitfield(stream, pool, old_stream, old_pool, was, after)?;
+        cursor = after;
     }
+    Ok(())
 }

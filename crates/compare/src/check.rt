@@ -8,27 +8,31 @@ ghost use Rattle.definition.specs.Answer.{verdict_of, check};
 
 use crate::compare::compare;
 use layout::answer::{Answer, refused};
-use record::read::{Outcome, read_record};
+use record::read::read_record;
 use record::refusal::Side;
 use record::scalars::built_in;
 use verdicts::messages::write_verdict;
-use verdicts::template::Written;
-use verdicts::verdict::Verdict;
+use verdicts::verdict::{Verdict, number_found};
 
 // Answers a verdict, with its message in the lent buffer.
-fn answer_verdict(out: &mut [u8], v: Verdict, pool: &[u8], old_pool: &[u8]) -> Answer
+fn answer_verdict(
+    out: &mut [u8],
+    found: Result<(), Verdict>,
+    pool: &[u8],
+    old_pool: &[u8],
+) -> Answer
     ensures { Answered out.old out.new
-        (verdict_of (length out.old) (meaning pool.now old_pool.now v)) result }
+        (verdict_of (length out.old) (meaning pool.now old_pool.now found)) result }
 {
-    let number = v.number();
-    match write_verdict(out, v, pool, old_pool) {
-        Written::Whole(n) => Answer {
+    let number = number_found(found);
+    match write_verdict(out, found, pool, old_pool) {
+        Ok(n) => Answer {
             number,
             side: 0,
             place: 0,
             len: n,
         },
-        Written::NoRoom(n) => Answer {
+        Err(n) => Answer {
             number: 10,
             side: 0,
             place: 0,
@@ -50,17 +54,12 @@ pub fn check(
         Answered out.old out.new (check (length out.old) cur rel) result }
 {
     let rows = built_in();
-    if let Outcome::Refused(refusal, place) = read_record(Side::Current, &rows, stream, pool) {
+    if let Err((refusal, place)) = read_record(Side::Current, &rows, stream, pool) {
         return refused(Side::Current, refusal, place);
     }
-    if let Outcome::Refused(refusal, place) = read_record(
-        Side::Released,
-        &rows,
-        old_stream,
-        old_pool,
-    ) {
+    if let Err((refusal, place)) = read_record(Side::Released, &rows, old_stream, old_pool) {
         return refused(Side::Released, refusal, place);
     }
-    let verdict = compare(&rows, stream, pool, old_stream, old_pool);
-    answer_verdict(out, verdict, pool, old_pool)
+    let found = compare(&rows, stream, pool, old_stream, old_pool);
+    answer_verdict(out, found, pool, old_pool)
 }

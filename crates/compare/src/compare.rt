@@ -1,16 +1,15 @@
 // The comparison: the passes in their order, of which the first violation is the verdict. A pass has the number that it has in
 // all_passes of definition: 0 is on the unreleased copy, 1 the release order, 2 to 6 are over what a record declares outside its types,
 // 7 to 9 over its types.
-ghost use Rattle.std.specs.Prelude.{◌≡◌, ◌≤◌, ◌<◌, length, take};
+ghost use Rattle.std.specs.Prelude.{◌≡◌, ◌≤◌, ◌<◌, length, take, ◌+◌, ◌/◌};
 ghost use Rattle.record.specs.Scalars.{scalars_of};
 ghost use Rattle.record.specs.Reading.{Rec, rec, schema_of};
 ghost use Rattle.record.specs.Index.{IndexRoom, Indexed};
 ghost use Rattle.layout.specs.Room.{Room, SizesRoom};
 ghost use Rattle.layout.specs.Tables.{Tables};
-ghost use Rattle.definition.specs.Compare.{compare, pass_at, passes};
+ghost use Rattle.definition.specs.Compare.{compare, passes};
 ghost use Rattle.verdicts.specs.Meaning.{meaning};
-ghost use Rattle.compare.specs.CoverTable.{Changes};
-ghost use Rattle.compare.specs.Passes.{Legible, Releases, Prepared, TypesLaid, LaidOut, Ran, TableRooms};
+ghost use Rattle.compare.specs.Passes.{Legible, Releases, Prepared, TypesLaid, LaidOut, TableRooms};
 
 use crate::bitfield_releases::check_bitfield_releases;
 use crate::bitfields::check_bitfields;
@@ -27,7 +26,6 @@ use crate::unreleased::check_nothing_released;
 use layout::tables::fill_tables;
 use record::cut::upto;
 use record::ends::{Ends, index_with_ends};
-use record::operands::OptText;
 use record::text::Text;
 use verdicts::verdict::Verdict;
 
@@ -36,7 +34,7 @@ use verdicts::verdict::Verdict;
 #[derive(Clone, Copy)]
 pub struct Facts {
     pub current: Text,
-    pub copy: OptText,
+    pub copy: Option<Text>,
     pub is: Ends,
     pub was: Ends,
 }
@@ -58,7 +56,7 @@ fn prepare(
     old_pool: &[u8],
     old_index: &mut [u16],
     current: Text,
-    copy: OptText,
+    copy: Option<Text>,
 ) -> Facts
     requires { let cur : Rec = rec stream.now pool.now (scalars_of rows.now) in
         let rel : Rec = rec old_stream.now old_pool.now (scalars_of rows.now) in
@@ -139,55 +137,7 @@ fn lay(
     }
 }
 
-// Runs the pass of a number over what is declared outside types; a stream is passed only as far as the pass needs it.
-fn run_declared(
-    pass: usize,
-    rows: &[u8],
-    stream: &[u8],
-    pool: &[u8],
-    index: &[u16],
-    old_stream: &[u8],
-    old_pool: &[u8],
-    old_index: &[u16],
-    facts: Facts,
-    table: &mut [u32],
-    scratch: &mut [u32],
-) -> Verdict
-    requires le_pass { (2 ≤ pass) × (pass < 7) × (length old_stream.now ≤ 32768)
-        × Room old_stream.now table.old
-        × Room old_stream.now scratch.old }
-    requires fact { let cur : Rec = rec stream.now pool.now (scalars_of rows.now) in
-        let rel : Rec = rec old_stream.now old_pool.now (scalars_of rows.now) in
-        Prepared cur rel index.now old_index.now facts }
-    ensures { let cur : Rec = rec stream.now pool.now (scalars_of rows.now) in
-        let rel : Rec = rec old_stream.now old_pool.now (scalars_of rows.now) in
-        meaning cur.pool rel.pool result ≡ pass_at pass (schema_of cur) (schema_of rel) }
-{
-    let is = facts.is;
-    let was = facts.was;
-    let current = facts.current;
-    let copy = facts.copy;
-    if pass == 2 {
-        return check_first_releases(
-            stream, pool, is, old_stream, old_pool, old_index, current, copy,
-        );
-    }
-    if pass == 3 {
-        let constants = upto(old_stream, was.constants);
-        return check_constants(stream, pool, index, constants, old_pool, table, scratch);
-    }
-    if pass == 4 {
-        return check_enums(stream, pool, index, upto(old_stream, was.enums), old_pool);
-    }
-    let now_bits = upto(stream, is.bitfields);
-    let old_bits = upto(old_stream, was.bitfields);
-    if pass == 5 {
-        return check_bitfields(now_bits, pool, old_bits, old_pool);
-    }
-    check_bitfield_releases(now_bits, pool, old_bits, old_pool, current)
-}
-
-// Runs the passes over what is declared outside types, in their order.
+// Runs the passes over what is declared outside types, in their order; a stream is passed only as far as a pass needs it.
 fn check_declared(
     rows: &[u8],
     stream: &[u8],
@@ -199,7 +149,7 @@ fn check_declared(
     facts: Facts,
     table: &mut [u32],
     scratch: &mut [u32],
-) -> Verdict
+) -> Result<(), Verdict>
     requires old_stream_len_bound { (length old_stream.now ≤ 32768) × Room old_stream.now table.old × Room old_stream.now scratch.old }
     requires fact { let cur : Rec = rec stream.now pool.now (scalars_of rows.now) in
         let rel : Rec = rec old_stream.now old_pool.now (scalars_of rows.now) in
@@ -208,66 +158,25 @@ fn check_declared(
         let rel : Rec = rec old_stream.now old_pool.now (scalars_of rows.now) in
         meaning cur.pool rel.pool result ≡ passes 2 7 (schema_of cur) (schema_of rel) }
 {
-    let mut pass = 2;
-    while pass < 7 {
-        let verdict = run_declared(
-            pass, rows, stream, pool, index, old_stream, old_pool, old_index, facts, table, scratch,
-        );
-        if let Verdict::Passed = verdict {
-            pass += 1;
-        } else {
-            return verdict;
-        }
-    }
-    Verdict::Passed
+    let Facts {
+        current,
+        copy,
+        is,
+        was,
+    } = facts;
+    check_first_releases(
+        stream, pool, is, old_stream, old_pool, old_index, current, copy,
+    )?;
+    let constants = upto(old_stream, was.constants);
+    check_constants(stream, pool, index, constants, old_pool, table, scratch)?;
+    check_enums(stream, pool, index, upto(old_stream, was.enums), old_pool)?;
+    let now_bits = upto(stream, is.bitfields);
+    let old_bits = upto(old_stream, was.bitfields);
+    check_bitfields(now_bits, pool, old_bits, old_pool)?;
+    check_bitfield_releases(now_bits, pool, old_bits, old_pool, current)
 }
 
-// Runs the pass of a number over the types; that over the generations asks which types changed, which that over the fields notes.
-fn run_laid(
-    pass: usize,
-    rows: &[u8],
-    stream: &[u8],
-    pool: &[u8],
-    index: &[u16],
-    types: &[u32],
-    sizes: &[u64],
-    old_stream: &[u8],
-    old_pool: &[u8],
-    old_index: &[u16],
-    old_types: &[u32],
-    old_sizes: &[u64],
-    facts: Facts,
-    marks: &mut [u8],
-    cover: &mut [u32],
-) -> Verdict
-    requires le_pass { (7 ≤ pass) × (pass < 10) × (length stream.now ≤ length marks.old) × (length types.now ≤ length cover.old) }
-    requires fact { let cur : Rec = rec stream.now pool.now (scalars_of rows.now) in
-        let rel : Rec = rec old_stream.now old_pool.now (scalars_of rows.now) in
-        Prepared cur rel index.now old_index.now facts
-        × TypesLaid cur rel types.now sizes.now old_types.now old_sizes.now
-        × (pass ≡ 9 → Changes cur rel types.now cover.old) }
-    ensures { let cur : Rec = rec stream.now pool.now (scalars_of rows.now) in
-        let rel : Rec = rec old_stream.now old_pool.now (scalars_of rows.now) in
-        Ran pass cur rel types.now cover.old cover.new result }
-{
-    if pass == 7 {
-        return check_fields(
-            rows, stream, pool, types, sizes, old_stream, old_pool, old_types, old_sizes, cover,
-        );
-    }
-    if pass == 8 {
-        return check_standalone(
-            rows, stream, pool, types, sizes, old_stream, old_pool, old_types, old_sizes,
-        );
-    }
-    let current = facts.current;
-    let copy = facts.copy;
-    check_generations(
-        stream, pool, index, types, old_stream, old_pool, old_index, marks, cover, current, copy,
-    )
-}
-
-// Runs the passes over the types, in their order.
+// Runs the passes over the types, in their order; that over the generations asks which types changed, which that over the fields notes.
 fn check_laid(
     rows: &[u8],
     stream: &[u8],
@@ -283,7 +192,7 @@ fn check_laid(
     facts: Facts,
     marks: &mut [u8],
     cover: &mut [u32],
-) -> Verdict
+) -> Result<(), Verdict>
     requires stream_in_bounds { (length stream.now ≤ length marks.old) × (length types.now ≤ length cover.old) }
     requires fact { let cur : Rec = rec stream.now pool.now (scalars_of rows.now) in
         let rel : Rec = rec old_stream.now old_pool.now (scalars_of rows.now) in
@@ -293,19 +202,25 @@ fn check_laid(
         let rel : Rec = rec old_stream.now old_pool.now (scalars_of rows.now) in
         meaning cur.pool rel.pool result ≡ passes 7 10 (schema_of cur) (schema_of rel) }
 {
-    let mut pass = 7;
-    while pass < 10 {
-        let verdict = run_laid(
-            pass, rows, stream, pool, index, types, sizes, old_stream, old_pool, old_index,
-            old_types, old_sizes, facts, marks, cover,
-        );
-        if let Verdict::Passed = verdict {
-            pass += 1;
-        } else {
-            return verdict;
-        }
-    }
-    Verdict::Passed
+    check_fields(
+        rows, stream, pool, types, sizes, old_stream, old_pool, old_types, old_sizes, cover,
+    )?;
+    check_standalone(
+        rows, stream, pool, types, sizes, old_stream, old_pool, old_types, old_sizes,
+    )?;
+    check_generations(
+        stream,
+        pool,
+        index,
+        types,
+        old_stream,
+        old_pool,
+        old_index,
+        marks,
+        cover,
+        facts.current,
+        facts.copy,
+    )
 }
 
 // Fills the tables of types, then runs the passes over the types.
@@ -324,7 +239,7 @@ fn check_types(
     facts: Facts,
     marks: &mut [u8],
     scratch: &mut [u32],
-) -> Verdict
+) -> Result<(), Verdict>
     requires table_rooms { TableRooms stream.now old_stream.now types.old old_types.old sizes.old old_sizes.old marks.old scratch.old }
     requires fact { let cur : Rec = rec stream.now pool.now (scalars_of rows.now) in
         let rel : Rec = rec old_stream.now old_pool.now (scalars_of rows.now) in
@@ -374,7 +289,7 @@ fn check_prepared(
     facts: Facts,
     marks: &mut [u8],
     scratch: &mut [u32],
-) -> Verdict
+) -> Result<(), Verdict>
     requires table_rooms { TableRooms stream.now old_stream.now types.old old_types.old sizes.old old_sizes.old marks.old scratch.old }
     requires fact { let cur : Rec = rec stream.now pool.now (scalars_of rows.now) in
         let rel : Rec = rec old_stream.now old_pool.now (scalars_of rows.now) in
@@ -383,12 +298,9 @@ fn check_prepared(
         let rel : Rec = rec old_stream.now old_pool.now (scalars_of rows.now) in
         meaning cur.pool rel.pool result ≡ passes 2 10 (schema_of cur) (schema_of rel) }
 {
-    let declared = check_declared(
+    check_declared(
         rows, stream, pool, index, old_stream, old_pool, old_index, facts, types, scratch,
-    );
-    let Verdict::Passed = declared else {
-        return declared;
-    };
+    )?;
     check_types(
         rows, stream, pool, index, types, sizes, old_stream, old_pool, old_index, old_types,
         old_sizes, facts, marks, scratch,
@@ -409,10 +321,10 @@ fn check_lent(
     old_types: &mut [u32],
     old_sizes: &mut [u64],
     current: Text,
-    copy: OptText,
+    copy: Option<Text>,
     marks: &mut [u8],
     scratch: &mut [u32],
-) -> Verdict
+) -> Result<(), Verdict>
     requires index_room { IndexRoom stream.now index.old
         × IndexRoom old_stream.now old_index.old
         × TableRooms stream.now old_stream.now types.old old_types.old sizes.old old_sizes.old marks.old scratch.old }
@@ -432,76 +344,35 @@ fn check_lent(
     )
 }
 
-// Lends tables for the longest streams that number 8 lets pass.
-fn check_long(
+// Lends tables for streams of their length, since clearing those for the longest takes longer than the check of short ones.
+fn check_sized<const INDEX: usize, const TYPES: usize, const SIZES: usize, const MARKS: usize>(
     rows: &[u8],
     stream: &[u8],
     pool: &[u8],
     old_stream: &[u8],
     old_pool: &[u8],
     current: Text,
-    copy: OptText,
-) -> Verdict
-    requires { let cur : Rec = rec stream.now pool.now (scalars_of rows.now) in
+    copy: Option<Text>,
+) -> Result<(), Verdict>
+    requires current_room { (256 + length stream.now / 7 < INDEX) × (length stream.now / 4 ≤ TYPES)
+        × (length stream.now / 33 < SIZES) × (length stream.now ≤ MARKS) }
+    requires released_room { (256 + length old_stream.now / 7 < INDEX) × (length old_stream.now / 4 ≤ TYPES) × (length old_stream.now / 33 < SIZES) }
+    requires most { (INDEX ≤ 4938) × (TYPES ≤ 8192) × (SIZES ≤ 993) × (MARKS ≤ 32768) }
+    requires legible { let cur : Rec = rec stream.now pool.now (scalars_of rows.now) in
         let rel : Rec = rec old_stream.now old_pool.now (scalars_of rows.now) in
         Legible cur × Legible rel × Releases cur rel current copy }
     ensures { let cur : Rec = rec stream.now pool.now (scalars_of rows.now) in
         let rel : Rec = rec old_stream.now old_pool.now (scalars_of rows.now) in
         meaning cur.pool rel.pool result ≡ passes 2 10 (schema_of cur) (schema_of rel) }
 {
-    let mut index = [0u16; 4938];
-    let mut old_index = [0u16; 4938];
-    let mut types = [0u32; 8192];
-    let mut sizes = [0u64; 993];
-    let mut old_types = [0u32; 8192];
-    let mut old_sizes = [0u64; 993];
-    let mut marks = [0u8; 32768];
-    let mut scratch = [0u32; 8192];
-    check_lent(
-        rows,
-        stream,
-        pool,
-        &mut index,
-        &mut types,
-        &mut sizes,
-        old_stream,
-        old_pool,
-        &mut old_index,
-        &mut old_types,
-        &mut old_sizes,
-        current,
-        copy,
-        &mut marks,
-        &mut scratch,
-    )
-}
-
-// Lends short tables for short streams, since clearing those for long ones takes longer than their check.
-fn check_short(
-    rows: &[u8],
-    stream: &[u8],
-    pool: &[u8],
-    old_stream: &[u8],
-    old_pool: &[u8],
-    current: Text,
-    copy: OptText,
-) -> Verdict
-    requires stream_len_bound { (length stream.now ≤ 2048) × (length old_stream.now ≤ 2048) }
-    requires fact { let cur : Rec = rec stream.now pool.now (scalars_of rows.now) in
-        let rel : Rec = rec old_stream.now old_pool.now (scalars_of rows.now) in
-        Legible cur × Legible rel × Releases cur rel current copy }
-    ensures { let cur : Rec = rec stream.now pool.now (scalars_of rows.now) in
-        let rel : Rec = rec old_stream.now old_pool.now (scalars_of rows.now) in
-        meaning cur.pool rel.pool result ≡ passes 2 10 (schema_of cur) (schema_of rel) }
-{
-    let mut index = [0u16; 549];
-    let mut old_index = [0u16; 549];
-    let mut types = [0u32; 512];
-    let mut sizes = [0u64; 63];
-    let mut old_types = [0u32; 512];
-    let mut old_sizes = [0u64; 63];
-    let mut marks = [0u8; 2048];
-    let mut scratch = [0u32; 512];
+    let mut index = [0u16; INDEX];
+    let mut old_index = [0u16; INDEX];
+    let mut types = [0u32; TYPES];
+    let mut sizes = [0u64; SIZES];
+    let mut old_types = [0u32; TYPES];
+    let mut old_sizes = [0u64; SIZES];
+    let mut marks = [0u8; MARKS];
+    let mut scratch = [0u32; TYPES];
     check_lent(
         rows,
         stream,
@@ -529,8 +400,8 @@ fn check_passes(
     old_stream: &[u8],
     old_pool: &[u8],
     current: Text,
-    copy: OptText,
-) -> Verdict
+    copy: Option<Text>,
+) -> Result<(), Verdict>
     requires { let cur : Rec = rec stream.now pool.now (scalars_of rows.now) in
         let rel : Rec = rec old_stream.now old_pool.now (scalars_of rows.now) in
         Legible cur × Legible rel × Releases cur rel current copy }
@@ -538,16 +409,13 @@ fn check_passes(
         let rel : Rec = rec old_stream.now old_pool.now (scalars_of rows.now) in
         meaning cur.pool rel.pool result ≡ passes 1 10 (schema_of cur) (schema_of rel) }
 {
-    let order = check_release_order(pool, old_pool, current, copy);
-    let Verdict::Passed = order else {
-        return order;
-    };
-    if stream.len() <= 2048 {
-        if old_stream.len() <= 2048 {
-            return check_short(rows, stream, pool, old_stream, old_pool, current, copy);
-        }
+    check_release_order(pool, old_pool, current, copy)?;
+    if stream.len() <= 2048 && old_stream.len() <= 2048 {
+        return check_sized::<549, 512, 63, 2048>(
+            rows, stream, pool, old_stream, old_pool, current, copy,
+        );
     }
-    check_long(rows, stream, pool, old_stream, old_pool, current, copy)
+    check_sized::<4938, 8192, 993, 32768>(rows, stream, pool, old_stream, old_pool, current, copy)
 }
 
 // The whole comparison of two records that can be read.
@@ -557,7 +425,7 @@ pub(crate) fn compare(
     pool: &[u8],
     old_stream: &[u8],
     old_pool: &[u8],
-) -> Verdict
+) -> Result<(), Verdict>
     requires { Legible (rec stream.now pool.now (scalars_of rows.now))
         × Legible (rec old_stream.now old_pool.now (scalars_of rows.now)) }
     ensures { let cur : Rec = rec stream.now pool.now (scalars_of rows.now) in

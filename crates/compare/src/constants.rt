@@ -17,10 +17,9 @@ ghost use Rattle.verdicts.specs.Meaning.{meaning};
 
 use crate::required::required_text;
 use layout::constants::{constant_table, placed_constant};
-use record::command::Constant;
+use record::command::{Constant, Step, Struct};
 use record::cut::upto;
-use record::generation::{Generation, generation_constant};
-use record::lists::{ConstantStep, StructStep};
+use record::generation::generation_constant;
 use record::named::last_constant;
 use record::text::{bytes_of, same};
 use record::versioned::versioned_structs;
@@ -33,8 +32,7 @@ fn value_of(c: Constant) -> ConstantValue
     ensures { HoldsValue c result }
 {
     if c.is_text {
-        let text = c.text;
-        return ConstantValue::Words(text);
+        return ConstantValue::Words(c.text);
     }
     ConstantValue::Integer(c.integer)
 }
@@ -86,17 +84,16 @@ fn same_value(pool: &[u8], is: ConstantValue, old_pool: &[u8], was: ConstantValu
 }
 
 // Whether the structure in a slot keeps its generation in the constant of that name.
-fn slot_holds(stream: &[u8], pool: &[u8], index: &[u16], slot: StructStep, name: &[u8]) -> bool
+fn slot_holds(stream: &[u8], pool: &[u8], index: &[u16], slot: Step<Struct>, name: &[u8]) -> bool
     requires { Indexed stream.now pool.now index.now }
     ensures { let cur : Rec = rec stream.now pool.now [] in
         result ≡ held_by_any (struct_list cur) (constant_list cur) (with_name (struct_found cur.stream cur.pool slot) []) name.now }
 {
-    let StructStep::AStruct(e, _) = slot else {
+    let Some((e, _)) = slot else {
         return false;
     };
-    let root = e.name;
-    let generation = generation_constant(stream, pool, index, bytes_of(pool, root));
-    let Generation::Held(constant, _) = generation else {
+    let generation = generation_constant(stream, pool, index, bytes_of(pool, e.name));
+    let Some((constant, _)) = generation else {
         return false;
     };
     same(bytes_of(pool, constant), name)
@@ -109,16 +106,13 @@ fn is_generation(stream: &[u8], pool: &[u8], index: &[u16], name: &[u8]) -> bool
         result ≡ is_generation (struct_list cur) (constant_list cur) name.now }
 {
     let slots = versioned_structs(stream, pool);
-    let info = slots.info;
-    let metadata = slots.metadata;
-    let runtime = slots.runtime;
-    if slot_holds(stream, pool, index, info, name) {
+    if slot_holds(stream, pool, index, slots.info, name) {
         return true;
     }
-    if slot_holds(stream, pool, index, metadata, name) {
+    if slot_holds(stream, pool, index, slots.metadata, name) {
         return true;
     }
-    slot_holds(stream, pool, index, runtime, name)
+    slot_holds(stream, pool, index, slots.runtime, name)
 }
 
 // One released constant against the last current one of its name; the values come first, since most are the same.
@@ -128,7 +122,7 @@ fn check_constant(
     index: &[u16],
     old_pool: &[u8],
     was: Constant,
-) -> Verdict
+) -> Result<(), Verdict>
     requires { Indexed stream.now pool.now index.now }
     ensures { let cur : Rec = rec stream.now pool.now [] in
         let q : Str = old_pool.now in
@@ -136,22 +130,22 @@ fn check_constant(
 {
     let name = was.name;
     let last = last_constant(stream, pool, index, bytes_of(old_pool, name));
-    let ConstantStep::AConstant(c, _) = last else {
-        return Verdict::ConstantGone { name };
+    let Some((c, _)) = last else {
+        return Err(Verdict::ConstantGone { name });
     };
     let held = value_of(was);
     let holds = value_of(c);
     if same_value(pool, holds, old_pool, held) {
-        return Verdict::Passed;
+        return Ok(());
     }
     if is_generation(stream, pool, index, bytes_of(old_pool, name)) {
-        return Verdict::Passed;
+        return Ok(());
     }
-    Verdict::ConstantChanged {
+    Err(Verdict::ConstantChanged {
         name,
         was: held,
         is: holds,
-    }
+    })
 }
 
 // The released constants at these places, one after the other.
@@ -162,24 +156,23 @@ fn check_placed(
     old_stream: &[u8],
     old_pool: &[u8],
     table: &[u32],
-) -> Verdict
+) -> Result<(), Verdict>
     requires { Indexed stream.now pool.now index.now }
     ensures { let cur : Rec = rec stream.now pool.now [] in
         let rel : Rec = rec old_stream.now old_pool.now [] in
         meaning cur.pool rel.pool result
         ≡ check_constants_in (struct_list cur) (constant_list cur) (map (placed_constant rel.stream rel.pool) table.now) }
 {
-    let mut i = 0;
-    while i < table.len() {
-        let was = placed_constant(old_stream, table[i]);
-        let verdict = check_constant(stream, pool, index, old_pool, was);
-        if let Verdict::Passed = verdict {
-            i += 1;
-        } else {
-            return verdict;
-        }
+    for place in table {
+        check_constant(
+            stream,
+            pool,
+            index,
+            old_pool,
+            placed_constant(old_stream, *place),
+        )?;
     }
-    Verdict::Passed
+    Ok(())
 }
 
 // The first constant of the release, in byte order of the names, that does not stand as it was.
@@ -191,7 +184,7 @@ pub(crate) fn check_constants(
     old_pool: &[u8],
     table: &mut [u32],
     scratch: &mut [u32],
-) -> Verdict
+) -> Result<(), Verdict>
     requires { (length old_stream.now ≤ 32768)
         × Room old_stream.now table.old
         × Room old_stream.now scratch.old

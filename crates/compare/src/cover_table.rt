@@ -1,39 +1,22 @@
 // The table of what covers each type: an entry for each handle of the table of types. The pass over the fields puts which types changed, and what
 // covers those is put here.
-ghost use Rattle.std.specs.Prelude.{◌≤◌, ◌≡◌, length, get_or};
+ghost use Rattle.std.specs.Prelude.{◌≤◌, ◌≡◌, length};
 ghost use Rattle.record.specs.Ownership.{Known};
 ghost use Rattle.record.specs.Versioned.{InSlots};
 ghost use Rattle.compare.specs.CoverTable.{Owners, Entered, first_uncovered, is_under, first_touched};
 
-use crate::coverage::{Last, entry_after};
+use crate::coverage::entry_after;
 use layout::names::type_name;
 use record::leads::fill_leads;
 use record::text::{Text, bytes_of, same};
 use record::versioned::Versioned;
 use verdicts::verdict::Verdict;
 
-// A number of a table; past its end 0.
-fn entry_at(table: &[u32], i: usize) -> u32
-    ensures { result ≡ get_or table.now i 0 }
-{
-    if i < table.len() { table[i] } else { 0 }
-}
-
 // How many types changed. Only the time depends on it, so that no more than a bound is promised.
-fn count_changed(types: &[u32], cover: &[u32]) -> usize
-    ensures { result ≤ length types.now }
+fn count_changed(cover: &[u32]) -> usize
+    ensures { result ≤ length cover.now }
 {
-    let mut n = 0;
-    let mut i = 0;
-    while i < types.len() {
-        if entry_at(cover, i) == 0 {
-            i += 1;
-        } else {
-            n += 1;
-            i += 1;
-        }
-    }
-    n
+    cover.iter().filter(|entry| **entry != 0).count()
 }
 
 // Puts the entry of each type that is not as it was.
@@ -50,18 +33,14 @@ fn fill_entries(
     requires { Owners stream.now pool.now roots marks.now index.now leads.now × (length types.now ≤ length cover.old) }
     ensures { Entered stream.now pool.now types.now cover.old cover.new }
 {
-    let mut last = Last::NoLast;
-    let mut i = 0;
-    while i < types.len() {
+    let mut last = None;
+    for (i, handle) in types.iter().enumerate() {
         if cover[i] == 0 {
-            i += 1;
-        } else {
-            let h = types[i];
-            let entry = entry_after(stream, pool, roots, marks, index, leads, last, h);
-            cover[i] = entry;
-            last = Last::Entry(h, entry);
-            i += 1;
+            continue;
         }
+        let entry = entry_after(stream, pool, roots, marks, index, leads, last, *handle);
+        cover[i] = entry;
+        last = Some((*handle, entry));
     }
 }
 
@@ -128,12 +107,8 @@ pub(crate) fn fill_cover(
         × (length types.now ≤ length cover.old) }
     ensures { Entered stream.now pool.now types.now cover.old cover.new }
 {
-    let n = count_changed(types, cover);
-    if n < 8 {
-        fill_few(stream, pool, types, roots, marks, index, cover);
-        return;
-    }
-    if 32768 < marks.len() {
+    let n = count_changed(&cover[..types.len()]);
+    if n < 8 || 32768 < marks.len() {
         fill_few(stream, pool, types, roots, marks, index, cover);
         return;
     }
@@ -141,18 +116,16 @@ pub(crate) fn fill_cover(
 }
 
 // The first changed type that no number covers.
-pub(crate) fn check_covered(stream: &[u8], types: &[u32], cover: &[u32]) -> Verdict
+pub(crate) fn check_covered(stream: &[u8], types: &[u32], cover: &[u32]) -> Result<(), Verdict>
     ensures { result ≡ first_uncovered stream.now types.now cover.now }
 {
-    let mut i = 0;
-    while i < types.len() {
-        if entry_at(cover, i) == 1 {
-            let name = type_name(stream, types[i]);
-            return Verdict::Uncovered { name };
+    for (handle, entry) in types.iter().zip(cover) {
+        if *entry == 1 {
+            let name = type_name(stream, *handle);
+            return Err(Verdict::Uncovered { name });
         }
-        i += 1;
     }
-    Verdict::Passed
+    Ok(())
 }
 
 // Whether an entry says that the type is under the root of this name.
@@ -170,23 +143,14 @@ fn is_under(pool: &[u8], entry: u32, root: &[u8]) -> bool
     same(bytes_of(pool, name), root)
 }
 
-// A changed type under a root, by its handle.
-#[derive(Clone, Copy)]
-pub enum Touched {
-    Untouched,
-    Changed(u32),
-}
-
-// The first changed type under the root of this name.
-pub(crate) fn first_touched(pool: &[u8], types: &[u32], cover: &[u32], root: &[u8]) -> Touched
+// The first changed type under the root of this name, by its handle.
+pub(crate) fn first_touched(pool: &[u8], types: &[u32], cover: &[u32], root: &[u8]) -> Option<u32>
     ensures { result ≡ first_touched pool.now types.now cover.now root.now }
 {
-    let mut i = 0;
-    while i < types.len() {
-        if is_under(pool, entry_at(cover, i), root) {
-            return Touched::Changed(types[i]);
+    for (handle, entry) in types.iter().zip(cover) {
+        if is_under(pool, *entry, root) {
+            return Some(*handle);
         }
-        i += 1;
     }
-    Touched::Untouched
+    None
 }

@@ -11,7 +11,7 @@ use layout::names::{family_part, put_name, type_name};
 use record::cut::{from, upto};
 use record::index::stands_alone;
 use record::le::byte_at;
-use record::ownership::{Owner, owner_among};
+use record::ownership::owner_among;
 use record::text::{Text, same};
 use record::versioned::Versioned;
 
@@ -32,12 +32,10 @@ fn colons_first(s: &[u8]) -> bool
 fn before_colons(name: &[u8]) -> &[u8]
     ensures { result.now ≡ owning name.now }
 {
-    let mut i = 0;
-    while i < name.len() {
+    for i in 0..name.len() {
         if colons_first(from(name, i)) {
             return upto(name, i);
         }
-        i += 1;
     }
     name
 }
@@ -95,7 +93,7 @@ fn entry_named(
     if stands_alone(stream, pool, index, name) {
         return 0;
     }
-    let Owner::Owned(root) = owner_among(stream, pool, roots, marks, index, leads, name) else {
+    let Some(root) = owner_among(stream, pool, roots, marks, index, leads, name) else {
         return 1;
     };
     packed(root)
@@ -128,14 +126,8 @@ fn entry_of(
     )
 }
 
-// The changed type before, by its handle, and its entry.
-#[derive(Clone, Copy)]
-pub enum Last {
-    NoLast,
-    Entry(u32, u32),
-}
-
-// The entry of a changed type, taken over from the one before where both have one name before the first "::": an owner is seldom sought twice.
+// The entry of a changed type, taken over from the one before, which has its handle and its entry in `last`, where both have one name before
+// the first "::": an owner is seldom sought twice.
 pub(crate) fn entry_after(
     stream: &[u8],
     pool: &[u8],
@@ -143,7 +135,7 @@ pub(crate) fn entry_after(
     marks: &[u8],
     index: &[u16],
     leads: &[u16],
-    last: Last,
+    last: Option<(u32, u32)>,
     handle: u32,
 ) -> u32
     ensures { let cur : Rec = rec stream.now pool.now [] in
@@ -151,7 +143,7 @@ pub(crate) fn entry_after(
         → Knows cur.stream cur.pool last
         → cover_meant cur.pool result ≡ cover_in (type_lists cur) (owning (type_name cur.stream cur.pool handle))) }
 {
-    let Last::Entry(before, entry) = last else {
+    let Some((before, entry)) = last else {
         return entry_of(stream, pool, roots, marks, index, leads, handle);
     };
     if same_owning(stream, pool, before, handle) {

@@ -11,26 +11,24 @@ ghost use Rattle.compare.specs.Sought.{NumberFrom};
 ghost use Rattle.compare.specs.Records.{enum_list};
 ghost use Rattle.verdicts.specs.Meaning.{meaning};
 
-use record::command::{Cursor, Enum, Value};
-use record::lists::{EnumStep, ValueStep, find_value, next_enum, next_value};
+use record::command::{Cursor, Enum, Step, Value};
+use record::lists::{find_value, next_enum, next_value};
 use record::named::first_enum;
 use record::text::{Text, bytes_of};
 use verdicts::verdict::Verdict;
 
 // The first value with that number from a cursor on.
-fn find_number(stream: &[u8], from: Cursor, number: u64) -> ValueStep
+fn find_number(stream: &[u8], from: Cursor, number: u64) -> Step<Value>
     ensures { NumberFrom number stream.now from.at result }
 {
     let mut cursor = from;
-    loop {
-        let ValueStep::AValue(v, after) = next_value(stream, cursor) else {
-            return ValueStep::NoValue;
-        };
+    while let Some((v, after)) = next_value(stream, cursor) {
         if v.value == number {
-            return ValueStep::AValue(v, after);
+            return Some((v, after));
         }
         cursor = after;
     }
+    None
 }
 
 // One released value against the values that are now, from a cursor on.
@@ -41,33 +39,32 @@ fn check_value(
     is: Cursor,
     owner: Text,
     was: Value,
-) -> Verdict
+) -> Result<(), Verdict>
     ensures { let cur : Rec = rec stream.now pool.now [] in
         let q : Str = old_pool.now in
         meaning cur.pool q result ≡ check_value (text_of q owner) (values_at cur.stream cur.pool is.at) (value_of q was) }
 {
     let name = was.name;
     let named = find_value(stream, pool, is, bytes_of(old_pool, name));
-    if let ValueStep::AValue(v, _) = named {
+    if let Some((v, _)) = named {
         if v.value == was.value {
-            return Verdict::Passed;
+            return Ok(());
         }
-        return Verdict::Renumbered {
+        return Err(Verdict::Renumbered {
             owner,
             name,
             was: was.value,
             is: v.value,
-        };
+        });
     }
-    let ValueStep::AValue(v, _) = find_number(stream, is, was.value) else {
-        return Verdict::ValueGone { owner, name };
+    let Some((v, _)) = find_number(stream, is, was.value) else {
+        return Err(Verdict::ValueGone { owner, name });
     };
-    let is_now = v.name;
-    Verdict::Renamed {
+    Err(Verdict::Renamed {
         owner,
         name,
-        is: is_now,
-    }
+        is: v.name,
+    })
 }
 
 // The released values from a cursor on against those that are now.
@@ -79,24 +76,18 @@ fn check_values(
     is: Cursor,
     owner: Text,
     from: Cursor,
-) -> Verdict
+) -> Result<(), Verdict>
     ensures { let cur : Rec = rec stream.now pool.now [] in
         let rel : Rec = rec old_stream.now old_pool.now [] in
         meaning cur.pool rel.pool result ≡ check_values (text_of rel.pool owner) (values_at cur.stream cur.pool is.at)
         (values_at rel.stream rel.pool from.at) }
 {
     let mut cursor = from;
-    loop {
-        let ValueStep::AValue(was, after) = next_value(old_stream, cursor) else {
-            return Verdict::Passed;
-        };
-        let verdict = check_value(stream, pool, old_pool, is, owner, was);
-        if let Verdict::Passed = verdict {
-            cursor = after;
-        } else {
-            return verdict;
-        }
+    while let Some((was, after)) = next_value(old_stream, cursor) {
+        check_value(stream, pool, old_pool, is, owner, was)?;
+        cursor = after;
     }
+    Ok(())
 }
 
 // One released enum, whose values begin at a cursor.
@@ -108,19 +99,19 @@ fn check_enum(
     old_pool: &[u8],
     was: Enum,
     from: Cursor,
-) -> Verdict
+) -> Result<(), Verdict>
     requires { Indexed stream.now pool.now index.now }
     ensures { let cur : Rec = rec stream.now pool.now [] in
         let rel : Rec = rec old_stream.now old_pool.now [] in
         meaning cur.pool rel.pool result
         ≡ check_enum (enum_list cur) (enum_of rel.pool was (values_at rel.stream rel.pool from.at)) }
 {
-    let ValueStep::AValue(_, _) = next_value(old_stream, from) else {
-        return Verdict::Passed;
+    let Some((_, _)) = next_value(old_stream, from) else {
+        return Ok(());
     };
     let name = was.name;
-    let EnumStep::AnEnum(_, is) = first_enum(stream, pool, index, bytes_of(old_pool, name)) else {
-        return Verdict::EnumGone { name };
+    let Some((_, is)) = first_enum(stream, pool, index, bytes_of(old_pool, name)) else {
+        return Err(Verdict::EnumGone { name });
     };
     check_values(stream, pool, old_stream, old_pool, is, name, from)
 }
@@ -132,22 +123,16 @@ pub(crate) fn check_enums(
     index: &[u16],
     old_stream: &[u8],
     old_pool: &[u8],
-) -> Verdict
+) -> Result<(), Verdict>
     requires { Indexed stream.now pool.now index.now }
     ensures { let cur : Rec = rec stream.now pool.now [] in
         let rel : Rec = rec old_stream.now old_pool.now [] in
         meaning cur.pool rel.pool result ≡ check_enums (enum_list cur) (enum_list rel) }
 {
     let mut cursor = Cursor::new();
-    loop {
-        let EnumStep::AnEnum(was, after) = next_enum(old_stream, cursor) else {
-            return Verdict::Passed;
-        };
-        let verdict = check_enum(stream, pool, index, old_stream, old_pool, was, after);
-        if let Verdict::Passed = verdict {
-            cursor = after;
-        } else {
-            return verdict;
-        }
+    while let Some((was, after)) = next_enum(old_stream, cursor) {
+        check_enum(stream, pool, index, old_stream, old_pool, was, after)?;
+        cursor = after;
     }
+    Ok(())
 }

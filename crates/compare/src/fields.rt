@@ -1,6 +1,6 @@
 // The pass over the fields: a released field keeps its place, its size and how it reads. It also notes which current types are
 // as they were.
-ghost use Rattle.std.specs.Prelude.{◌≤◌, ◌<◌, ◌≡◌, length, set};
+ghost use Rattle.std.specs.Prelude.{◌≤◌, ◌<◌, ◌≡◌, Ok, length, set};
 ghost use Rattle.record.specs.Scalars.{scalars_of};
 ghost use Rattle.record.specs.Marks.{Clear};
 ghost use Rattle.record.specs.Reading.{Rec, rec};
@@ -24,45 +24,51 @@ use crate::kept::pass_kept;
 use crate::layouts::{both_bare, find_spot, is_bare, same_description, same_rest};
 use crate::near::{are_many, fill_near, near_spot};
 use layout::names::{TypeName, type_name};
-use layout::spots::{Spot, SpotCursor, SpotStep, first_spot, next_spot};
-use layout::table::{TypeFound, find_same};
+use layout::spots::{Spot, SpotCursor, first_spot, next_spot};
+use layout::table::find_same;
 use record::text::bytes_of;
 use verdicts::verdict::Verdict;
 
 // A released field against the one of its name.
-fn check_kept(pool: &[u8], old_pool: &[u8], owner: TypeName, was: Spot, is: Spot) -> Verdict
+fn check_kept(
+    pool: &[u8],
+    old_pool: &[u8],
+    owner: TypeName,
+    was: Spot,
+    is: Spot,
+) -> Result<(), Verdict>
     ensures { let p : Str = pool.now in
         let q : Str = old_pool.now in
         meaning p q result ≡ check_kept (name_of q owner) (spot_of q was) (spot_of p is) }
 {
     let name = was.name;
     if is.offset != was.offset {
-        return Verdict::Moved {
+        return Err(Verdict::Moved {
             owner,
             name,
             was: was.offset,
             is: is.offset,
-        };
+        });
     }
     if is.size != was.size {
-        return Verdict::Resized {
+        return Err(Verdict::Resized {
             owner,
             name,
             was: was.size,
             is: is.size,
-        };
+        });
     }
     let reads = is.described;
     let read = was.described;
     if same_description(pool, reads, old_pool, read) {
-        return Verdict::Passed;
+        return Ok(());
     }
-    Verdict::Redescribed {
+    Err(Verdict::Redescribed {
         owner,
         name,
         was: read,
         is: reads,
-    }
+    })
 }
 
 // The first field of that name from a cursor on, by the table of where to look.
@@ -74,7 +80,7 @@ fn find_near(
     from: SpotCursor,
     table: &[u64],
     name: &[u8],
-) -> SpotStep
+) -> Option<(Spot, SpotCursor)>
     requires { let cur : Rec = rec stream.now pool.now (scalars_of rows.now) in
         SoundCursor cur sizes.now from × Near cur.stream cur.pool sizes.now from table.now }
     ensures { let cur : Rec = rec stream.now pool.now (scalars_of rows.now) in
@@ -95,7 +101,7 @@ fn check_place(
     old_pool: &[u8],
     owner: TypeName,
     was: Spot,
-) -> Verdict
+) -> Result<(), Verdict>
     requires { let cur : Rec = rec stream.now pool.now (scalars_of rows.now) in
         SoundCursor cur sizes.now is × Near cur.stream cur.pool sizes.now is table.now }
     ensures { let cur : Rec = rec stream.now pool.now (scalars_of rows.now) in
@@ -103,7 +109,7 @@ fn check_place(
         meaning cur.pool q result ≡ check_place (name_of q owner) (places_from cur is) (spot_of q was) }
 {
     if was.padding {
-        return Verdict::Passed;
+        return Ok(());
     }
     let name = was.name;
     let found = find_near(
@@ -115,8 +121,8 @@ fn check_place(
         table,
         bytes_of(old_pool, name),
     );
-    let SpotStep::ASpot(x, _) = found else {
-        return Verdict::FieldGone { owner, name };
+    let Some((x, _)) = found else {
+        return Err(Verdict::FieldGone { owner, name });
     };
     check_kept(pool, old_pool, owner, was, x)
 }
@@ -141,7 +147,7 @@ fn check_places(
     old_sizes: &[u64],
     table: &[u64],
     pair: Pairing,
-) -> Verdict
+) -> Result<(), Verdict>
     requires { let cur : Rec = rec stream.now pool.now (scalars_of rows.now) in
         let rel : Rec = rec old_stream.now old_pool.now (scalars_of rows.now) in
         SoundCursor cur sizes.now pair.is
@@ -153,20 +159,13 @@ fn check_places(
         ≡ check_places (name_of rel.pool pair.owner) (places_from cur pair.is) (places_from rel pair.was) }
 {
     let mut cursor = pair.was;
-    loop {
-        let SpotStep::ASpot(was, after) = next_spot(rows, old_stream, old_pool, old_sizes, cursor)
-        else {
-            return Verdict::Passed;
-        };
-        let is = pair.is;
-        let owner = pair.owner;
-        let verdict = check_place(rows, stream, pool, sizes, is, table, old_pool, owner, was);
-        if let Verdict::Passed = verdict {
-            cursor = after;
-        } else {
-            return verdict;
-        }
+    while let Some((was, after)) = next_spot(rows, old_stream, old_pool, old_sizes, cursor) {
+        check_place(
+            rows, stream, pool, sizes, pair.is, table, old_pool, pair.owner, was,
+        )?;
+        cursor = after;
     }
+    Ok(())
 }
 
 // Fills an empty table that is lent, and holds the released fields to it.
@@ -180,7 +179,7 @@ fn check_near(
     old_sizes: &[u64],
     table: &mut [u64],
     pair: Pairing,
-) -> Verdict
+) -> Result<(), Verdict>
     requires { let cur : Rec = rec stream.now pool.now (scalars_of rows.now) in
         let rel : Rec = rec old_stream.now old_pool.now (scalars_of rows.now) in
         SoundCursor cur sizes.now pair.is × SoundCursor rel old_sizes.now pair.was × Clear table.old × (1024 ≤ length table.old) }
@@ -189,8 +188,7 @@ fn check_near(
         meaning cur.pool rel.pool result
         ≡ check_places (name_of rel.pool pair.owner) (places_from cur pair.is) (places_from rel pair.was) }
 {
-    let is = pair.is;
-    fill_near(stream, pool, sizes, is, table);
+    fill_near(stream, pool, sizes, pair.is, table);
     check_places(
         rows, stream, pool, sizes, old_stream, old_pool, old_sizes, table, pair,
     )
@@ -206,7 +204,7 @@ fn check_many(
     old_pool: &[u8],
     old_sizes: &[u64],
     pair: Pairing,
-) -> Verdict
+) -> Result<(), Verdict>
     requires { let cur : Rec = rec stream.now pool.now (scalars_of rows.now) in
         let rel : Rec = rec old_stream.now old_pool.now (scalars_of rows.now) in
         SoundCursor cur sizes.now pair.is × SoundCursor rel old_sizes.now pair.was }
@@ -231,7 +229,7 @@ fn check_any(
     old_pool: &[u8],
     old_sizes: &[u64],
     pair: Pairing,
-) -> Verdict
+) -> Result<(), Verdict>
     requires { let cur : Rec = rec stream.now pool.now (scalars_of rows.now) in
         let rel : Rec = rec old_stream.now old_pool.now (scalars_of rows.now) in
         SoundCursor cur sizes.now pair.is × SoundCursor rel old_sizes.now pair.was }
@@ -240,8 +238,7 @@ fn check_any(
         meaning cur.pool rel.pool result
         ≡ check_places (name_of rel.pool pair.owner) (places_from cur pair.is) (places_from rel pair.was) }
 {
-    let was = pair.was;
-    if are_many(old_stream, was) {
+    if are_many(old_stream, pair.was) {
         return check_many(
             rows, stream, pool, sizes, old_stream, old_pool, old_sizes, pair,
         );
@@ -305,7 +302,7 @@ fn check_changed(
     old_sizes: &[u64],
     pair: Pairing,
     cover: &mut [u32],
-) -> Verdict
+) -> Result<(), Verdict>
     requires { let cur : Rec = rec stream.now pool.now (scalars_of rows.now) in
         let rel : Rec = rec old_stream.now old_pool.now (scalars_of rows.now) in
         SoundCursor cur sizes.now pair.is × SoundCursor rel old_sizes.now pair.was × (pair.index < length cover.old) }
@@ -315,20 +312,18 @@ fn check_changed(
         cover.old cover.new result }
 {
     let is = pair.is;
-    let was = pair.was;
     let both = pass_kept(
-        stream, pool, sizes, is, old_stream, old_pool, old_sizes, was,
+        stream, pool, sizes, is, old_stream, old_pool, old_sizes, pair.was,
     );
     note_rest(
         rows, stream, pool, sizes, old_stream, old_pool, old_sizes, both, cover, pair.index,
     );
     let rest = both.was;
     if is_bare(old_stream, rest) {
-        return Verdict::Passed;
+        return Ok(());
     }
-    let owner = pair.owner;
     let left = Pairing {
-        owner,
+        owner: pair.owner,
         is,
         was: rest,
         index: pair.index,
@@ -357,7 +352,7 @@ fn check_layout(
     old_sizes: &[u64],
     types: Handles,
     cover: &mut [u32],
-) -> Verdict
+) -> Result<(), Verdict>
     requires { let cur : Rec = rec stream.now pool.now (scalars_of rows.now) in
         let rel : Rec = rec old_stream.now old_pool.now (scalars_of rows.now) in
         (Typed cur.stream types.is × SizesTable cur sizes.now × Exact cur)
@@ -384,7 +379,7 @@ fn check_layout(
             cover,
             types.index,
         );
-        return Verdict::Passed;
+        return Ok(());
     }
     let owner = type_name(old_stream, types.was);
     let pair = Pairing {
@@ -411,7 +406,7 @@ fn check_type(
     other: u32,
     near: usize,
     cover: &mut [u32],
-) -> Verdict
+) -> Result<(), Verdict>
     requires { let cur : Rec = rec stream.now pool.now (scalars_of rows.now) in
         let rel : Rec = rec old_stream.now old_pool.now (scalars_of rows.now) in
         Tables cur types.now sizes.now
@@ -420,13 +415,13 @@ fn check_type(
     ensures { let cur : Rec = rec stream.now pool.now (scalars_of rows.now) in
         let rel : Rec = rec old_stream.now old_pool.now (scalars_of rows.now) in
         (meaning cur.pool rel.pool result ≡ check_type (types_of cur) (layout_of rel other))
-        × (result ≡ Verdict.Passed → TypeNoted cur rel types.now other cover.old cover.new) }
+        × (result ≡ Ok tt → TypeNoted cur rel types.now other cover.old cover.new) }
 {
     let found = find_same(stream, pool, types, old_stream, old_pool, other, near);
-    let TypeFound::At(i) = found else {
-        return Verdict::TypeGone {
+    let Some(i) = found else {
+        return Err(Verdict::TypeGone {
             name: type_name(old_stream, other),
-        };
+        });
     };
     let handle = types[i];
     let both = Handles {
@@ -444,11 +439,7 @@ fn fill_ones(table: &mut [u32], n: usize)
     requires { n ≤ length table.old }
     ensures { Ones n table.new }
 {
-    let mut i = 0;
-    while i < n {
-        table[i] = 1;
-        i += 1;
-    }
+    table[..n].fill(1);
 }
 
 // The first type or field of the release that does not stand as it was, types in byte order of their names. Where there is none, each current type
@@ -464,36 +455,20 @@ pub(crate) fn check_fields(
     old_types: &[u32],
     old_sizes: &[u64],
     cover: &mut [u32],
-) -> Verdict
+) -> Result<(), Verdict>
     requires { let cur : Rec = rec stream.now pool.now (scalars_of rows.now) in
         let rel : Rec = rec old_stream.now old_pool.now (scalars_of rows.now) in
         Tables cur types.now sizes.now × Tables rel old_types.now old_sizes.now × (length types.now ≤ length cover.old) }
     ensures { let cur : Rec = rec stream.now pool.now (scalars_of rows.now) in
         let rel : Rec = rec old_stream.now old_pool.now (scalars_of rows.now) in
         (meaning cur.pool rel.pool result ≡ check_fields (types_of cur) (types_of rel))
-        × (result ≡ Verdict.Passed → Changes cur rel types.now cover.new) }
+        × (result ≡ Ok tt → Changes cur rel types.now cover.new) }
 {
     fill_ones(cover, types.len());
-    let mut i = 0;
-    while i < old_types.len() {
-        let verdict = check_type(
-            rows,
-            stream,
-            pool,
-            types,
-            sizes,
-            old_stream,
-            old_pool,
-            old_sizes,
-            old_types[i],
-            i,
-            cover,
-        );
-        if let Verdict::Passed = verdict {
-            i += 1;
-        } else {
-            return verdict;
-        }
+    for (i, other) in old_types.iter().enumerate() {
+        check_type(
+            rows, stream, pool, types, sizes, old_stream, old_pool, old_sizes, *other, i, cover,
+        )?;
     }
-    Verdict::Passed
+    Ok(())
 }

@@ -18,26 +18,25 @@ ghost use Rattle.verdicts.specs.Meaning.{meaning};
 
 use crate::required::required_text;
 use crate::shipped::{Shipped, constant_release, enum_release, key_release, value_release};
-use record::command::{Constant, Cursor, Enum, PluginKey, Value};
+use record::command::{Constant, Cursor, Enum, PluginKey, Step, Value};
 use record::cut::upto;
 use record::dates::member_release;
 use record::ends::Ends;
-use record::keys::{PluginKeyStep, first_key, next_plugin_key};
-use record::lists::{ConstantStep, EnumStep, ValueStep, next_constant, next_enum, next_value};
+use record::keys::{first_key, next_plugin_key};
+use record::lists::{next_constant, next_enum, next_value};
 use record::named::api_enum;
-use record::operands::OptText;
 use record::text::{Text, bytes_of, same};
 use verdicts::arguments::Item;
 use verdicts::verdict::Verdict;
 
-// Nothing where the test holds, else this verdict.
-fn passed_if(holds: bool, otherwise: Verdict) -> Verdict
+// Nothing where the test holds, else this violation.
+fn passed_if(holds: bool, otherwise: Verdict) -> Result<(), Verdict>
     ensures { PassedIf holds otherwise result }
 {
     if holds {
-        return Verdict::Passed;
+        return Ok(());
     }
-    otherwise
+    Err(otherwise)
 }
 
 // One item, the release that it names, and what the copy says of it.
@@ -45,11 +44,11 @@ fn check_arrival(
     pool: &[u8],
     old_pool: &[u8],
     current: Text,
-    copy: OptText,
+    copy: Option<Text>,
     what: Item,
     names: Text,
     was: Shipped,
-) -> Verdict
+) -> Result<(), Verdict>
     ensures { let p : Str = pool.now in
         let q : Str = old_pool.now in
         meaning p q result ≡ check_arrival (text_of p current) (opt_of q copy) (item_of p what) (text_of p names) (shipped_of q was) }
@@ -89,20 +88,19 @@ fn check_constant_arrival(
     old_pool: &[u8],
     old_index: &[u16],
     current: Text,
-    copy: OptText,
+    copy: Option<Text>,
     is: Constant,
-) -> Verdict
+) -> Result<(), Verdict>
     requires { Indexed old_stream.now old_pool.now old_index.now }
     ensures { let p : Str = pool.now in
         let rel : Rec = rec old_stream.now old_pool.now [] in
         meaning p rel.pool result ≡ check_constant_arrival (text_of p current) (opt_of rel.pool copy) (constant_list rel) (constant_of p is) }
 {
     if !is.ora_api {
-        return Verdict::Passed;
+        return Ok(());
     }
-    let first = is.first_release;
-    let OptText::Given(names) = first else {
-        return Verdict::Passed;
+    let Some(names) = is.first_release else {
+        return Ok(());
     };
     let name = is.name;
     let was = constant_release(old_stream, old_pool, old_index, bytes_of(pool, name));
@@ -125,8 +123,8 @@ fn check_constant_arrivals(
     old_pool: &[u8],
     old_index: &[u16],
     current: Text,
-    copy: OptText,
-) -> Verdict
+    copy: Option<Text>,
+) -> Result<(), Verdict>
     requires { Indexed old_stream.now old_pool.now old_index.now }
     ensures { let cur : Rec = rec stream.now pool.now [] in
         let rel : Rec = rec old_stream.now old_pool.now [] in
@@ -134,28 +132,20 @@ fn check_constant_arrivals(
         ≡ check_constant_arrivals (text_of cur.pool current) (opt_of rel.pool copy) (constant_list cur) (constant_list rel) }
 {
     let mut cursor = Cursor::new();
-    loop {
-        let ConstantStep::AConstant(is, after) = next_constant(stream, cursor) else {
-            return Verdict::Passed;
-        };
-        let verdict = check_constant_arrival(
-            pool, old_stream, old_pool, old_index, current, copy, is,
-        );
-        if let Verdict::Passed = verdict {
-            cursor = after;
-        } else {
-            return verdict;
-        }
+    while let Some((is, after)) = next_constant(stream, cursor) {
+        check_constant_arrival(pool, old_stream, old_pool, old_index, current, copy, is)?;
+        cursor = after;
     }
+    Ok(())
 }
 
 // Whether a value is dated: the copy has it, or it names its own release, or its release is the current one.
-fn is_dated(pool: &[u8], current: Text, was: Shipped, own: OptText, release: Text) -> bool
+fn is_dated(pool: &[u8], current: Text, was: Shipped, own: Option<Text>, release: Text) -> bool
     ensures { ValueDated pool.now current was own release result }
 {
     match was {
         Shipped::Absent => {
-            if let OptText::Given(_) = own {
+            if let Some(_) = own {
                 return true;
             }
             same(bytes_of(pool, release), bytes_of(pool, current))
@@ -171,11 +161,11 @@ fn check_value_arrival(
     old_stream: &[u8],
     old_pool: &[u8],
     current: Text,
-    copy: OptText,
+    copy: Option<Text>,
     parent: Enum,
-    was: EnumStep,
+    was: Step<Enum>,
     is: Value,
-) -> Verdict
+) -> Result<(), Verdict>
     ensures { let p : Str = pool.now in
         let rel : Rec = rec old_stream.now old_pool.now [] in
         meaning p rel.pool result
@@ -183,9 +173,8 @@ fn check_value_arrival(
         (enum_found rel.stream rel.pool was) (value_of p is) }
 {
     let own = is.first_release;
-    let since = parent.first_release;
-    let OptText::Given(release) = member_release(own, since) else {
-        return Verdict::Passed;
+    let Some(release) = member_release(own, parent.first_release) else {
+        return Ok(());
     };
     let owner = parent.name;
     let name = is.name;
@@ -201,12 +190,12 @@ fn check_value_arrival(
             then,
         );
     }
-    Verdict::ValueUndated {
+    Err(Verdict::ValueUndated {
         owner,
         name,
         current,
         release,
-    }
+    })
 }
 
 // The values of an enum from a cursor on.
@@ -216,11 +205,11 @@ fn check_value_arrivals(
     old_stream: &[u8],
     old_pool: &[u8],
     current: Text,
-    copy: OptText,
+    copy: Option<Text>,
     parent: Enum,
-    was: EnumStep,
+    was: Step<Enum>,
     from: Cursor,
-) -> Verdict
+) -> Result<(), Verdict>
     ensures { let cur : Rec = rec stream.now pool.now [] in
         let rel : Rec = rec old_stream.now old_pool.now [] in
         meaning cur.pool rel.pool result
@@ -229,19 +218,11 @@ fn check_value_arrivals(
         (values_at cur.stream cur.pool from.at) }
 {
     let mut cursor = from;
-    loop {
-        let ValueStep::AValue(is, after) = next_value(stream, cursor) else {
-            return Verdict::Passed;
-        };
-        let verdict = check_value_arrival(
-            pool, old_stream, old_pool, current, copy, parent, was, is,
-        );
-        if let Verdict::Passed = verdict {
-            cursor = after;
-        } else {
-            return verdict;
-        }
+    while let Some((is, after)) = next_value(stream, cursor) {
+        check_value_arrival(pool, old_stream, old_pool, current, copy, parent, was, is)?;
+        cursor = after;
     }
+    Ok(())
 }
 
 // One enum, whose values begin at a cursor. One outside the plugin API or without a first release is passed over with its values.
@@ -252,10 +233,10 @@ fn check_enum_arrival(
     old_pool: &[u8],
     old_index: &[u16],
     current: Text,
-    copy: OptText,
+    copy: Option<Text>,
     is: Enum,
     from: Cursor,
-) -> Verdict
+) -> Result<(), Verdict>
     requires { Indexed old_stream.now old_pool.now old_index.now }
     ensures { let cur : Rec = rec stream.now pool.now [] in
         let rel : Rec = rec old_stream.now old_pool.now [] in
@@ -263,15 +244,14 @@ fn check_enum_arrival(
         (enum_of cur.pool is (values_at cur.stream cur.pool from.at)) }
 {
     if !is.ora_api {
-        return Verdict::Passed;
+        return Ok(());
     }
-    let first = is.first_release;
-    let OptText::Given(names) = first else {
-        return Verdict::Passed;
+    let Some(names) = is.first_release else {
+        return Ok(());
     };
     let name = is.name;
     let was = api_enum(old_stream, old_pool, old_index, bytes_of(pool, name));
-    let verdict = check_arrival(
+    check_arrival(
         pool,
         old_pool,
         current,
@@ -279,13 +259,10 @@ fn check_enum_arrival(
         Item::Enum(name),
         names,
         enum_release(was),
-    );
-    if let Verdict::Passed = verdict {
-        return check_value_arrivals(
-            stream, pool, old_stream, old_pool, current, copy, is, was, from,
-        );
-    }
-    verdict
+    )?;
+    check_value_arrivals(
+        stream, pool, old_stream, old_pool, current, copy, is, was, from,
+    )
 }
 
 // The current enums with their values.
@@ -296,8 +273,8 @@ fn check_enum_arrivals(
     old_pool: &[u8],
     old_index: &[u16],
     current: Text,
-    copy: OptText,
-) -> Verdict
+    copy: Option<Text>,
+) -> Result<(), Verdict>
     requires { Indexed old_stream.now old_pool.now old_index.now }
     ensures { let cur : Rec = rec stream.now pool.now [] in
         let rel : Rec = rec old_stream.now old_pool.now [] in
@@ -305,19 +282,13 @@ fn check_enum_arrivals(
         ≡ check_enum_arrivals (text_of cur.pool current) (opt_of rel.pool copy) (enum_list cur) (enum_list rel) }
 {
     let mut cursor = Cursor::new();
-    loop {
-        let EnumStep::AnEnum(is, after) = next_enum(stream, cursor) else {
-            return Verdict::Passed;
-        };
-        let verdict = check_enum_arrival(
+    while let Some((is, after)) = next_enum(stream, cursor) {
+        check_enum_arrival(
             stream, pool, old_stream, old_pool, old_index, current, copy, is, after,
-        );
-        if let Verdict::Passed = verdict {
-            cursor = after;
-        } else {
-            return verdict;
-        }
+        )?;
+        cursor = after;
     }
+    Ok(())
 }
 
 // One plugin key.
@@ -327,16 +298,15 @@ fn check_key_arrival(
     old_pool: &[u8],
     old_index: &[u16],
     current: Text,
-    copy: OptText,
+    copy: Option<Text>,
     is: PluginKey,
-) -> Verdict
+) -> Result<(), Verdict>
     requires { Indexed old_stream.now old_pool.now old_index.now }
     ensures { let p : Str = pool.now in
         let rel : Rec = rec old_stream.now old_pool.now [] in
         meaning p rel.pool result ≡ check_key_arrival (text_of p current) (opt_of rel.pool copy) (key_list rel) (key_of p is) }
 {
-    let first = is.first_release;
-    let names = required_text(first);
+    let names = required_text(is.first_release);
     let name = is.name;
     let was = key_release(old_stream, old_pool, old_index, bytes_of(pool, name));
     check_arrival(pool, old_pool, current, copy, Item::Key(name), names, was)
@@ -350,8 +320,8 @@ fn check_key_arrivals(
     old_pool: &[u8],
     old_index: &[u16],
     current: Text,
-    copy: OptText,
-) -> Verdict
+    copy: Option<Text>,
+) -> Result<(), Verdict>
     requires { Indexed old_stream.now old_pool.now old_index.now }
     ensures { let cur : Rec = rec stream.now pool.now [] in
         let rel : Rec = rec old_stream.now old_pool.now [] in
@@ -359,17 +329,11 @@ fn check_key_arrivals(
         ≡ check_key_arrivals (text_of cur.pool current) (opt_of rel.pool copy) (key_list cur) (key_list rel) }
 {
     let mut at = first_key();
-    loop {
-        let PluginKeyStep::APluginKey(is, rest) = next_plugin_key(stream, at) else {
-            return Verdict::Passed;
-        };
-        let verdict = check_key_arrival(pool, old_stream, old_pool, old_index, current, copy, is);
-        if let Verdict::Passed = verdict {
-            at = rest;
-        } else {
-            return verdict;
-        }
+    while let Some((is, rest)) = next_plugin_key(stream, at) {
+        check_key_arrival(pool, old_stream, old_pool, old_index, current, copy, is)?;
+        at = rest;
     }
+    Ok(())
 }
 
 // The constants, then the enums with their values, then the plugin keys; the stream is passed only as far as each of them goes.
@@ -381,8 +345,8 @@ pub(crate) fn check_first_releases(
     old_pool: &[u8],
     old_index: &[u16],
     current: Text,
-    copy: OptText,
-) -> Verdict
+    copy: Option<Text>,
+) -> Result<(), Verdict>
     requires { EndsOf stream.now ends × Indexed old_stream.now old_pool.now old_index.now }
     ensures { let cur : Rec = rec stream.now pool.now [] in
         let rel : Rec = rec old_stream.now old_pool.now [] in
@@ -391,17 +355,9 @@ pub(crate) fn check_first_releases(
         (enum_list rel) (key_list cur) (key_list rel) }
 {
     let first = upto(stream, ends.constants);
-    let constants = check_constant_arrivals(
-        first, pool, old_stream, old_pool, old_index, current, copy,
-    );
-    let Verdict::Passed = constants else {
-        return constants;
-    };
+    check_constant_arrivals(first, pool, old_stream, old_pool, old_index, current, copy)?;
     let second = upto(stream, ends.enums);
-    let enums = check_enum_arrivals(second, pool, old_stream, old_pool, old_index, current, copy);
-    let Verdict::Passed = enums else {
-        return enums;
-    };
+    check_enum_arrivals(second, pool, old_stream, old_pool, old_index, current, copy)?;
     let third = upto(stream, ends.keys);
     check_key_arrivals(third, pool, old_stream, old_pool, old_index, current, copy)
 }

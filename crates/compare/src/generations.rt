@@ -1,6 +1,5 @@
 // The pass over the generations: a root's number stays where nothing under it changed, or rises by one.
-ghost use Rattle.std.specs.Prelude.{◌≤◌, ◌≡◌, List, [], ◌&&◌, eqb, length};
-ghost use Rattle.std.proofs.Math.Option.{Option};
+ghost use Rattle.std.specs.Prelude.{◌≤◌, ◌≡◌, List, [], ◌&&◌, eqb, length, Option};
 ghost use Rattle.record.specs.Base.{Str, eqs};
 ghost use Rattle.record.specs.Stretch.{text_of};
 ghost use Rattle.record.specs.Scalars.{Scalar};
@@ -18,14 +17,13 @@ ghost use Rattle.compare.specs.CoverTable.{changed_types, Changes, first_uncover
 ghost use Rattle.compare.specs.Records.{constant_list, struct_list, version_list, type_lists};
 ghost use Rattle.verdicts.specs.Meaning.{meaning};
 
-use crate::cover_table::{Touched, check_covered, fill_cover, first_touched};
+use crate::cover_table::{check_covered, fill_cover, first_touched};
 use layout::names::type_name;
-use record::command::{Constant, Cursor, Version};
-use record::generation::{Generation, generation_constant};
-use record::lists::{ConstantStep, StructStep, VersionStep, next_version};
+use record::command::{Constant, Cursor, Step, Struct, Version};
+use record::generation::generation_constant;
+use record::lists::next_version;
 use record::marks::mark_owners;
 use record::named::first_constant;
-use record::operands::OptText;
 use record::sizes::wide;
 use record::text::{Text, bytes_of, same};
 use record::versioned::{Versioned, versioned_structs};
@@ -38,8 +36,7 @@ fn is_entry(pool: &[u8], v: Version, root: &[u8], number: u32) -> bool
     if v.version != number {
         return false;
     }
-    let name = v.struct_name;
-    same(bytes_of(pool, name), root)
+    same(bytes_of(pool, v.struct_name), root)
 }
 
 // Whether there is such an entry.
@@ -47,15 +44,13 @@ fn is_listed(stream: &[u8], pool: &[u8], root: &[u8], number: u32) -> bool
     ensures { result ≡ is_listed root.now number (versions_at stream.now pool.now 0) }
 {
     let mut cursor = Cursor::new();
-    loop {
-        let VersionStep::AVersion(v, after) = next_version(stream, cursor) else {
-            return false;
-        };
+    while let Some((v, after)) = next_version(stream, cursor) {
         if is_entry(pool, v, root, number) {
             return true;
         }
         cursor = after;
     }
+    false
 }
 
 // A number that stays.
@@ -67,24 +62,24 @@ fn check_still(
     root: Text,
     constant: Text,
     was: u32,
-) -> Verdict
+) -> Result<(), Verdict>
     ensures { let cur : Rec = rec stream.now pool.now [] in
         let touched : Str → Option Str = touched_by cur.stream cur.pool types.now cover.now in
         ((q : Str) → meaning cur.pool q result
         ≡ check_still (touched (text_of cur.pool root)) (text_of cur.pool root) (text_of cur.pool constant) was) }
 {
     let touched = first_touched(pool, types, cover, bytes_of(pool, root));
-    let Touched::Changed(handle) = touched else {
-        return Verdict::Passed;
+    let Some(handle) = touched else {
+        return Ok(());
     };
     let what = type_name(stream, handle);
-    Verdict::Unraised {
+    Err(Verdict::Unraised {
         name: root,
         was,
         what,
         constant,
         next: wide(was) + 1,
-    }
+    })
 }
 
 // A root with its number now, and the releases that a verdict on it names.
@@ -94,7 +89,7 @@ pub struct Numbered {
     pub constant: Text,
     pub is: u32,
     pub current: Text,
-    pub copy: OptText,
+    pub copy: Option<Text>,
 }
 
 // The number of a root before and now.
@@ -105,7 +100,7 @@ fn check_rise(
     cover: &[u32],
     n: Numbered,
     was: u32,
-) -> Verdict
+) -> Result<(), Verdict>
     ensures { let cur : Rec = rec stream.now pool.now [] in
         let name : Str = text_of cur.pool n.root in
         let touched : Option Str = touched_by cur.stream cur.pool types.now cover.now name in
@@ -117,30 +112,28 @@ fn check_rise(
     let root = n.root;
     let is = n.is;
     if is < was {
-        return Verdict::Fell { constant, was, is };
+        return Err(Verdict::Fell { constant, was, is });
     }
     if is == was {
         return check_still(stream, pool, types, cover, root, constant, was);
     }
     if is - was != 1 {
-        let copy = n.copy;
-        let current = n.current;
-        return Verdict::Leapt {
+        return Err(Verdict::Leapt {
             constant,
             was,
             is,
-            copy,
-            current,
-        };
+            copy: n.copy,
+            current: n.current,
+        });
     }
     if is_listed(stream, pool, bytes_of(pool, root), is) {
-        return Verdict::Passed;
+        return Ok(());
     }
-    Verdict::Unlisted {
+    Err(Verdict::Unlisted {
         constant,
         is,
         name: root,
-    }
+    })
 }
 
 // The number of a root against the released constant: a text is skipped, and 2 ^ 32 or more is no number of a generation.
@@ -151,7 +144,7 @@ fn check_from(
     cover: &[u32],
     n: Numbered,
     was: Constant,
-) -> Verdict
+) -> Result<(), Verdict>
     ensures { let cur : Rec = rec stream.now pool.now [] in
         let name : Str = text_of cur.pool n.root in
         let touched : Option Str = touched_by cur.stream cur.pool types.now cover.now name in
@@ -160,14 +153,13 @@ fn check_from(
         (text_of cur.pool n.constant) n.is (constant_of q was).value) }
 {
     if was.is_text {
-        return Verdict::Passed;
+        return Ok(());
     }
     if 4294967296 <= was.integer {
-        let constant = n.constant;
-        return Verdict::NoGeneration {
-            constant,
+        return Err(Verdict::NoGeneration {
+            constant: n.constant,
             was: was.integer,
-        };
+        });
     }
     check_rise(stream, pool, types, cover, n, was.integer as u32)
 }
@@ -182,7 +174,7 @@ fn check_against(
     old_index: &[u16],
     cover: &[u32],
     n: Numbered,
-) -> Verdict
+) -> Result<(), Verdict>
     requires { Indexed old_stream.now old_pool.now old_index.now }
     ensures { let p : Str = pool.now in
         let q : Str = old_pool.now in
@@ -191,10 +183,9 @@ fn check_against(
         (touched_by stream.now p types.now cover.now name) name
         (text_of p n.constant) n.is (constant_in (text_of p n.constant) (constants_at old_stream.now q 0)) }
 {
-    let constant = n.constant;
-    let found = first_constant(old_stream, old_pool, old_index, bytes_of(pool, constant));
-    let ConstantStep::AConstant(was, _) = found else {
-        return Verdict::Passed;
+    let found = first_constant(old_stream, old_pool, old_index, bytes_of(pool, n.constant));
+    let Some((was, _)) = found else {
+        return Ok(());
     };
     check_from(stream, pool, types, cover, n, was)
 }
@@ -202,9 +193,9 @@ fn check_against(
 // A slot for a root, and the releases that a verdict on its number names.
 #[derive(Clone, Copy)]
 pub struct Slot {
-    pub root: StructStep,
+    pub root: Step<Struct>,
     pub current: Text,
-    pub copy: OptText,
+    pub copy: Option<Text>,
 }
 
 // The root in a slot, if one fills it.
@@ -218,30 +209,27 @@ fn check_slot(
     old_index: &[u16],
     cover: &[u32],
     slot: Slot,
-) -> Verdict
+) -> Result<(), Verdict>
     requires { Indexed stream.now pool.now index.now × Indexed old_stream.now old_pool.now old_index.now }
     ensures { let cur : Rec = rec stream.now pool.now [] in
         let rel : Rec = rec old_stream.now old_pool.now [] in
         meaning cur.pool rel.pool result ≡ roots_checked cur rel slot.current slot.copy types.now cover.now
         (with_name (struct_found cur.stream cur.pool slot.root) []) }
 {
-    let filled = slot.root;
-    let StructStep::AStruct(root, _) = filled else {
-        return Verdict::Passed;
+    let Some((root, _)) = slot.root else {
+        return Ok(());
     };
     let name = root.name;
     let held = generation_constant(stream, pool, index, bytes_of(pool, name));
-    let Generation::Held(constant, is) = held else {
-        return Verdict::NoConstant { name };
+    let Some((constant, is)) = held else {
+        return Err(Verdict::NoConstant { name });
     };
-    let current = slot.current;
-    let copy = slot.copy;
     let n = Numbered {
         root: name,
         constant,
         is,
-        current,
-        copy,
+        current: slot.current,
+        copy: slot.copy,
     };
     check_against(
         stream, pool, types, old_stream, old_pool, old_index, cover, n,
@@ -253,7 +241,7 @@ fn check_slot(
 pub struct Roots {
     pub slots: Versioned,
     pub current: Text,
-    pub copy: OptText,
+    pub copy: Option<Text>,
 }
 
 // The roots in the order of their slots.
@@ -267,7 +255,7 @@ fn check_roots(
     old_index: &[u16],
     cover: &[u32],
     roots: Roots,
-) -> Verdict
+) -> Result<(), Verdict>
     requires { InSlots stream.now pool.now roots.slots
         × Indexed stream.now pool.now index.now
         × Indexed old_stream.now old_pool.now old_index.now }
@@ -287,23 +275,17 @@ fn check_roots(
         current,
         copy,
     };
-    let info = check_slot(
+    check_slot(
         stream, pool, index, types, old_stream, old_pool, old_index, cover, slot,
-    );
-    let Verdict::Passed = info else {
-        return info;
-    };
+    )?;
     let slot = Slot {
         root: second,
         current,
         copy,
     };
-    let metadata = check_slot(
+    check_slot(
         stream, pool, index, types, old_stream, old_pool, old_index, cover, slot,
-    );
-    let Verdict::Passed = metadata else {
-        return metadata;
-    };
+    )?;
     let slot = Slot {
         root: third,
         current,
@@ -325,7 +307,7 @@ fn check_filled(
     old_index: &[u16],
     cover: &[u32],
     roots: Roots,
-) -> Verdict
+) -> Result<(), Verdict>
     requires { InSlots stream.now pool.now roots.slots
         × Indexed stream.now pool.now index.now
         × Indexed old_stream.now old_pool.now old_index.now }
@@ -335,10 +317,7 @@ fn check_filled(
         ≡ (meaning cur.pool rel.pool (first_uncovered cur.stream types.now cover.now)
         then roots_checked cur rel roots.current roots.copy types.now cover.now (versioned (struct_list cur))) }
 {
-    let covered = check_covered(stream, types, cover);
-    let Verdict::Passed = covered else {
-        return covered;
-    };
+    check_covered(stream, types, cover)?;
     check_roots(
         stream, pool, index, types, old_stream, old_pool, old_index, cover, roots,
     )
@@ -357,8 +336,8 @@ pub(crate) fn check_generations(
     marks: &mut [u8],
     cover: &mut [u32],
     current: Text,
-    copy: OptText,
-) -> Verdict
+    copy: Option<Text>,
+) -> Result<(), Verdict>
     requires { TypesTable stream.now pool.now types.now
         × (length stream.now ≤ length marks.old)
         × (length types.now ≤ length cover.old)

@@ -7,7 +7,7 @@ ghost use Rattle.compare.specs.Near.{key_of};
 ghost use Rattle.compare.specs.Alike.{body_at};
 ghost use Rattle.compare.specs.Kept.{KeptPassed, Noted, Noting, KeptFrom};
 
-use crate::alike::{AlikeStep, Both, bodies_at, next_alike};
+use crate::alike::{Both, bodies_at, next_alike};
 use crate::near::key_of;
 use layout::names::name_at;
 use layout::spots::{Ahead, SpotCursor, pass_others};
@@ -42,8 +42,7 @@ fn leads(
         → OthersPassed cur.stream cur.pool sizes.now name.now front (body_at at offset)) }
 {
     let c = pass_others(stream, pool, sizes, front, name);
-    let ahead = c.ahead;
-    let Ahead::Body(k) = ahead else {
+    let Ahead::Body(k) = c.ahead else {
         return false;
     };
     if k.at != at {
@@ -94,7 +93,7 @@ fn next_kept(
     old_pool: &[u8],
     old_sizes: &[u64],
     walk: Walk,
-) -> AlikeStep
+) -> Option<(usize, usize, usize, u64)>
     requires { Noted stream.now pool.now sizes.now walk.front seen.old walk.at walk.offset × (1024 ≤ length seen.old) }
     ensures { let cur : Rec = rec stream.now pool.now [] in
         let rel : Rec = rec old_stream.now old_pool.now [] in
@@ -104,15 +103,23 @@ fn next_kept(
     let step = next_alike(
         stream, pool, sizes, walk.at, old_stream, old_pool, old_sizes, walk.to,
     );
-    let AlikeStep::Alike(place, after, next, size) = step else {
-        return AlikeStep::Differ;
+    let Some((place, after, next, size)) = step else {
+        return None;
     };
     let name = name_at(stream, pool, place);
-    let front = walk.front;
-    if is_first(stream, pool, sizes, front, seen, name, walk.at, walk.offset) {
-        return AlikeStep::Alike(place, after, next, size);
+    if is_first(
+        stream,
+        pool,
+        sizes,
+        walk.front,
+        seen,
+        name,
+        walk.at,
+        walk.offset,
+    ) {
+        return Some((place, after, next, size));
     }
-    AlikeStep::Differ
+    None
 }
 
 // What is ahead of two types without the fields at their fronts that are alike and kept, from two places on; seen has room for the numbers of names.
@@ -135,24 +142,26 @@ fn pass_kept_fields(
     let mut at = from.at;
     let mut to = from.to;
     let mut offset = from.offset;
-    loop {
-        let front = from.front;
-        let walk = Walk {
-            front,
+    while let Some((_, after, next, size)) = next_kept(
+        stream,
+        pool,
+        sizes,
+        seen,
+        old_stream,
+        old_pool,
+        old_sizes,
+        Walk {
+            front: from.front,
             at,
             to,
             offset,
-        };
-        let step = next_kept(
-            stream, pool, sizes, seen, old_stream, old_pool, old_sizes, walk,
-        );
-        let AlikeStep::Alike(_, after, next, size) = step else {
-            return bodies_at(at, to, offset);
-        };
+        },
+    ) {
         offset = sum(offset, size);
         at = after;
         to = next;
     }
+    bodies_at(at, to, offset)
 }
 
 // What is ahead of two types without those fields, from two cursors on; before the front of a family none is passed over.
@@ -170,12 +179,10 @@ pub(crate) fn pass_kept(
         let rel : Rec = rec old_stream.now old_pool.now [] in
         KeptPassed cur.stream cur.pool sizes.now rel.stream rel.pool old_sizes.now is is was result }
 {
-    let ahead = is.ahead;
-    let Ahead::Body(k) = ahead else {
+    let Ahead::Body(k) = is.ahead else {
         return Both { is, was };
     };
-    let other = was.ahead;
-    let Ahead::Body(l) = other else {
+    let Ahead::Body(l) = was.ahead else {
         return Both { is, was };
     };
     if is.offset != was.offset {

@@ -14,23 +14,22 @@ ghost use Rattle.definition.specs.Fields.{place_in, eq_place, eq_places};
 ghost use Rattle.compare.specs.Layouts.{spot_found};
 
 use crate::alike::pass_alike;
-use layout::spots::{Ahead, Spot, SpotCursor, SpotStep, first_spot, next_spot, pass_others};
+use layout::spots::{Ahead, Spot, SpotCursor, first_spot, next_spot, pass_others};
 use record::describe::{Description, put_description};
-use record::operands::OptText;
-use record::seek::{Between, Sought, seek};
-use record::text::{bytes_of, same};
+use record::seek::{Between, seek};
+use record::text::{Text, bytes_of, same};
 
 // Whether two texts that may be absent are alike, each in its pool.
-pub(crate) fn alike_words(pool: &[u8], a: OptText, old_pool: &[u8], b: OptText) -> bool
+pub(crate) fn alike_words(pool: &[u8], a: Option<Text>, old_pool: &[u8], b: Option<Text>) -> bool
     ensures { result ≡ true → opt_of pool.now a ≡ opt_of old_pool.now b }
 {
-    let OptText::Given(x) = a else {
-        let OptText::Given(_) = b else {
+    let Some(x) = a else {
+        let Some(_) = b else {
             return true;
         };
         return false;
     };
-    let OptText::Given(y) = b else {
+    let Some(y) = b else {
         return false;
     };
     same(bytes_of(pool, x), bytes_of(old_pool, y))
@@ -98,12 +97,8 @@ pub fn same_spot(pool: &[u8], x: Spot, old_pool: &[u8], y: Spot) -> bool
     if x.padding != y.padding {
         return false;
     }
-    let name = x.name;
-    let other = y.name;
-    if same(bytes_of(pool, name), bytes_of(old_pool, other)) {
-        let d = x.described;
-        let e = y.described;
-        return same_description(pool, d, old_pool, e);
+    if same(bytes_of(pool, x.name), bytes_of(old_pool, y.name)) {
+        return same_description(pool, x.described, old_pool, y.described);
     }
     false
 }
@@ -129,25 +124,20 @@ pub(crate) fn same_rest(
 {
     let mut is = from;
     let mut was = other;
-    loop {
-        let step = next_spot(rows, stream, pool, sizes, is);
-        let second = next_spot(rows, old_stream, old_pool, old_sizes, was);
-        let SpotStep::ASpot(x, after) = step else {
-            let SpotStep::ASpot(_, _) = second else {
-                return true;
-            };
+    while let Some((x, after)) = next_spot(rows, stream, pool, sizes, is) {
+        let Some((y, next)) = next_spot(rows, old_stream, old_pool, old_sizes, was) else {
             return false;
         };
-        let SpotStep::ASpot(y, next) = second else {
-            return false;
-        };
-        if same_spot(pool, x, old_pool, y) {
-            is = after;
-            was = next;
-        } else {
+        if !same_spot(pool, x, old_pool, y) {
             return false;
         }
+        is = after;
+        was = next;
     }
+    let Some((_, _)) = next_spot(rows, old_stream, old_pool, old_sizes, was) else {
+        return true;
+    };
+    false
 }
 
 // Whether the fields from two cursors on are the same, those at their fronts that are alike first.
@@ -172,10 +162,8 @@ fn same_ahead(
     let both = pass_alike(
         stream, pool, sizes, from, old_stream, old_pool, old_sizes, other,
     );
-    let is = both.is;
-    let was = both.was;
     same_rest(
-        rows, stream, pool, sizes, is, old_stream, old_pool, old_sizes, was,
+        rows, stream, pool, sizes, both.is, old_stream, old_pool, old_sizes, both.was,
     )
 }
 
@@ -183,11 +171,10 @@ fn same_ahead(
 pub(crate) fn is_bare(stream: &[u8], c: SpotCursor) -> bool
     ensures { result ≡ true → (p : Str) (w : List Scalar) → places_from (rec stream.now p w) c ≡ [] }
 {
-    let ahead = c.ahead;
-    let Ahead::Body(k) = ahead else {
+    let Ahead::Body(k) = c.ahead else {
         return false;
     };
-    let Sought::At(_, _) = seek(stream, k.at, 11, Between::Keys) else {
+    let Some((_, _)) = seek(stream, k.at, 11, Between::Keys) else {
         return true;
     };
     false
@@ -198,10 +185,7 @@ pub(crate) fn both_bare(stream: &[u8], is: SpotCursor, old_stream: &[u8], was: S
     ensures { result ≡ true → (p q : Str) (w : List Scalar)
         → eq_places (places_from (rec stream.now p w) is) (places_from (rec old_stream.now q w) was) ≡ true }
 {
-    if is_bare(stream, is) {
-        return is_bare(old_stream, was);
-    }
-    false
+    is_bare(stream, is) && is_bare(old_stream, was)
 }
 
 // Whether two types have the same fields in the same order, padding included.
@@ -242,22 +226,24 @@ pub(crate) fn find_spot(
     sizes: &[u64],
     from: SpotCursor,
     name: &[u8],
-) -> SpotStep
+) -> Option<(Spot, SpotCursor)>
     requires { let cur : Rec = rec stream.now pool.now (scalars_of rows.now) in
         SoundCursor cur sizes.now from }
     ensures { let cur : Rec = rec stream.now pool.now (scalars_of rows.now) in
         place_in name.now (places_from cur from) ≡ spot_found cur.pool result }
 {
     let mut cursor = from;
-    loop {
-        let here = pass_others(stream, pool, sizes, cursor, name);
-        let SpotStep::ASpot(x, after) = next_spot(rows, stream, pool, sizes, here) else {
-            return SpotStep::NoSpot;
-        };
-        let own = x.name;
-        if same(bytes_of(pool, own), name) {
-            return SpotStep::ASpot(x, after);
+    while let Some((x, after)) = next_spot(
+        rows,
+        stream,
+        pool,
+        sizes,
+        pass_others(stream, pool, sizes, cursor, name),
+    ) {
+        if same(bytes_of(pool, x.name), name) {
+            return Some((x, after));
         }
         cursor = after;
     }
+    None
 }

@@ -11,7 +11,7 @@ use layout::field_sizes::size_before;
 use layout::names::name_at;
 use layout::spots::{Ahead, SpotCursor};
 use record::le::byte_at;
-use record::seek::{Between, Sought, seek};
+use record::seek::{Between, seek};
 use record::sizes::sum;
 
 // A byte as a larger number.
@@ -94,17 +94,13 @@ fn fill_fields(
 {
     let mut at = from;
     let mut offset = start;
-    loop {
-        let Sought::At(here, after) = seek(stream, at, 11, Between::Keys) else {
-            return;
-        };
+    while let Some((here, after)) = seek(stream, at, 11, Between::Keys) {
         let key = key_of(name_at(stream, pool, here));
-        if put_near(table, key, at, offset) {
-            offset = sum(offset, size_before(sizes, after));
-            at = after;
-        } else {
+        if !put_near(table, key, at, offset) {
             return;
         }
+        offset = sum(offset, size_before(sizes, after));
+        at = after;
     }
 }
 
@@ -113,8 +109,7 @@ pub(crate) fn fill_near(stream: &[u8], pool: &[u8], sizes: &[u64], c: SpotCursor
     requires { Clear table.old × (1024 ≤ length table.old) }
     ensures { Near stream.now pool.now sizes.now c table.new }
 {
-    let ahead = c.ahead;
-    let Ahead::Body(k) = ahead else {
+    let Ahead::Body(k) = c.ahead else {
         return;
     };
     fill_fields(stream, pool, sizes, k.at, c.offset, table);
@@ -122,8 +117,7 @@ pub(crate) fn fill_near(stream: &[u8], pool: &[u8], sizes: &[u64], c: SpotCursor
 
 // Whether a table pays: whether more than sixteen fields may be ahead.
 pub(crate) fn are_many(stream: &[u8], c: SpotCursor) -> bool {
-    let ahead = c.ahead;
-    let Ahead::Body(k) = ahead else {
+    let Ahead::Body(k) = c.ahead else {
         return false;
     };
     if 65536 <= k.at {

@@ -7,8 +7,7 @@ ghost use Rattle.record.specs.Base.{Str};
 ghost use Rattle.definition.specs.ReleaseOrder.{check_earlier, check_release_order};
 ghost use Rattle.verdicts.specs.Meaning.{meaning};
 
-use record::operands::OptText;
-use record::release::{Release, ReleaseParts, earlier, release_parts};
+use record::release::{Release, earlier, release_parts};
 use record::text::{Text, bytes_of};
 use verdicts::verdict::Verdict;
 
@@ -24,34 +23,45 @@ fn first_naming() -> Release
 }
 
 // The copy's release against the current one, whose numbers are known.
-fn check_earlier(pool: &[u8], old_pool: &[u8], current: Text, is: Release, was: Text) -> Verdict
+fn check_earlier(
+    pool: &[u8],
+    old_pool: &[u8],
+    current: Text,
+    is: Release,
+    was: Text,
+) -> Result<(), Verdict>
     ensures { let p : Str = pool.now in
         let q : Str = old_pool.now in
         meaning p q result ≡ check_earlier (text_of p current) is (text_of q was) (release_parts (text_of q was)) }
 {
-    let ReleaseParts::Parts(then) = release_parts(bytes_of(old_pool, was)) else {
-        return Verdict::WasUnreadable { was };
+    let Some(then) = release_parts(bytes_of(old_pool, was)) else {
+        return Err(Verdict::WasUnreadable { was });
     };
     if earlier(then, is) {
-        return Verdict::Passed;
+        return Ok(());
     }
-    Verdict::NotLater { was, current }
+    Err(Verdict::NotLater { was, current })
 }
 
 // The current record's release, and the copy's if it names one.
-pub fn check_release_order(pool: &[u8], old_pool: &[u8], current: Text, copy: OptText) -> Verdict
+pub fn check_release_order(
+    pool: &[u8],
+    old_pool: &[u8],
+    current: Text,
+    copy: Option<Text>,
+) -> Result<(), Verdict>
     ensures { let p : Str = pool.now in
         let q : Str = old_pool.now in
         meaning p q result ≡ check_release_order (text_of p current) (opt_of q copy) }
 {
-    let ReleaseParts::Parts(is) = release_parts(bytes_of(pool, current)) else {
-        return Verdict::NowUnreadable { current };
+    let Some(is) = release_parts(bytes_of(pool, current)) else {
+        return Err(Verdict::NowUnreadable { current });
     };
-    if let OptText::Given(was) = copy {
+    if let Some(was) = copy {
         return check_earlier(pool, old_pool, current, is, was);
     }
     if earlier(is, first_naming()) {
-        return Verdict::BeforeNaming { current };
+        return Err(Verdict::BeforeNaming { current });
     }
-    Verdict::Passed
+    Ok(())
 }

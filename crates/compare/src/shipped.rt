@@ -8,11 +8,11 @@ ghost use Rattle.definition.specs.FirstReleases.{constant_release, value_release
 ghost use Rattle.compare.specs.Shipped.{shipped_of, ShippedWith, EnumShipped};
 ghost use Rattle.compare.specs.Records.{constant_list, struct_list, key_list};
 
+use record::command::{Enum, Step};
 use record::dates::member_release;
-use record::keys::{StoredStep, first_stored, next_stored_key};
-use record::lists::{ConstantStep, EnumStep, UnstoredStep, ValueStep, find_value};
+use record::keys::{first_stored, next_stored_key};
+use record::lists::find_value;
 use record::named::{api_constant, last_unstored};
-use record::operands::OptText;
 use record::text::{Text, bytes_of, same};
 
 #[derive(Clone, Copy)]
@@ -26,12 +26,12 @@ pub enum Shipped {
 }
 
 // What the copy says of an item that it has, by the release that it gives or does not.
-pub fn shipped_with(release: OptText) -> Shipped
+pub fn shipped_with(release: Option<Text>) -> Shipped
     ensures { ShippedWith release result }
 {
     match release {
-        OptText::Absent => Shipped::Unstated,
-        OptText::Given(t) => Shipped::Named(t),
+        None => Shipped::Unstated,
+        Some(t) => Shipped::Named(t),
     }
 }
 
@@ -46,38 +46,34 @@ pub(crate) fn constant_release(
     ensures { let rel : Rec = rec old_stream.now old_pool.now [] in
         shipped_of rel.pool result ≡ constant_release name.now (constant_list rel) }
 {
-    let ConstantStep::AConstant(c, _) = api_constant(old_stream, old_pool, old_index, name) else {
+    let Some((c, _)) = api_constant(old_stream, old_pool, old_index, name) else {
         return Shipped::Absent;
     };
-    let release = c.first_release;
-    shipped_with(release)
+    shipped_with(c.first_release)
 }
 
 // What the copy says of an enum that was looked up there.
-pub fn enum_release(was: EnumStep) -> Shipped
+pub fn enum_release(was: Step<Enum>) -> Shipped
     ensures { EnumShipped was result }
 {
-    let EnumStep::AnEnum(e, _) = was else {
+    let Some((e, _)) = was else {
         return Shipped::Absent;
     };
-    let release = e.first_release;
-    shipped_with(release)
+    shipped_with(e.first_release)
 }
 
 // What the copy says of a value of an enum that was looked up there: the value's own release, else its enum's.
-pub fn value_release(old_stream: &[u8], old_pool: &[u8], was: EnumStep, name: &[u8]) -> Shipped
+pub fn value_release(old_stream: &[u8], old_pool: &[u8], was: Step<Enum>, name: &[u8]) -> Shipped
     ensures { let rel : Rec = rec old_stream.now old_pool.now [] in
         shipped_of rel.pool result ≡ value_release (enum_found rel.stream rel.pool was) name.now }
 {
-    let EnumStep::AnEnum(e, from) = was else {
+    let Some((e, from)) = was else {
         return Shipped::Absent;
     };
-    let ValueStep::AValue(v, _) = find_value(old_stream, old_pool, from, name) else {
+    let Some((v, _)) = find_value(old_stream, old_pool, from, name) else {
         return Shipped::Absent;
     };
-    let own = v.first_release;
-    let parent = e.first_release;
-    shipped_with(member_release(own, parent))
+    shipped_with(member_release(v.first_release, e.first_release))
 }
 
 // What the copy says of a plugin key by structures' fields alone.
@@ -87,17 +83,13 @@ fn stored_release(old_stream: &[u8], old_pool: &[u8], name: &[u8]) -> Shipped
 {
     let mut found = Shipped::Absent;
     let mut at = first_stored();
-    loop {
-        let StoredStep::AStored(k, rest) = next_stored_key(old_stream, at) else {
-            return found;
-        };
+    while let Some((k, rest)) = next_stored_key(old_stream, at) {
         at = rest;
-        let own = k.name;
-        let release = k.first_release;
-        if same(bytes_of(old_pool, own), name) {
-            found = shipped_with(release);
+        if same(bytes_of(old_pool, k.name), name) {
+            found = shipped_with(k.first_release);
         }
     }
+    found
 }
 
 // What the copy says of a plugin key: the unstored ones come after those of fields, so the last of them counts first.
@@ -111,9 +103,8 @@ pub(crate) fn key_release(
     ensures { let rel : Rec = rec old_stream.now old_pool.now [] in
         shipped_of rel.pool result ≡ key_release name.now (key_list rel) }
 {
-    if let UnstoredStep::AnUnstored(k, _) = last_unstored(old_stream, old_pool, old_index, name) {
-        let release = k.first_release;
-        return shipped_with(release);
+    if let Some((k, _)) = last_unstored(old_stream, old_pool, old_index, name) {
+        return shipped_with(k.first_release);
     }
     stored_release(old_stream, old_pool, name)
 }

@@ -20,11 +20,10 @@ ghost use Rattle.verdicts.specs.Meaning.{meaning};
 
 use crate::layouts::{find_spot, same_fields};
 use layout::names::TypeName;
-use layout::spots::{SpotCursor, SpotStep, first_spot, next_spot};
-use layout::table::{TypeFound, find_named};
+use layout::spots::{SpotCursor, first_spot, next_spot};
+use layout::table::find_named;
 use record::command::{Cursor, Family};
-use record::lists::{FamilyStep, VariantStep, find_family, next_family, next_variant};
-use record::operands::OptText;
+use record::lists::{find_family, next_family, next_variant};
 use record::text::{Text, bytes_of};
 use verdicts::verdict::Verdict;
 
@@ -39,7 +38,7 @@ fn gained(
     old_pool: &[u8],
     old_sizes: &[u64],
     was: SpotCursor,
-) -> OptText
+) -> Option<Text>
     requires { let cur : Rec = rec stream.now pool.now (scalars_of rows.now) in
         let rel : Rec = rec old_stream.now old_pool.now (scalars_of rows.now) in
         SoundCursor cur sizes.now is × SoundCursor rel old_sizes.now was }
@@ -48,10 +47,7 @@ fn gained(
         opt_of cur.pool result ≡ gained (places_from cur is) (places_from rel was) }
 {
     let mut cursor = is;
-    loop {
-        let SpotStep::ASpot(x, after) = next_spot(rows, stream, pool, sizes, cursor) else {
-            return OptText::Absent;
-        };
+    while let Some((x, after)) = next_spot(rows, stream, pool, sizes, cursor) {
         let name = x.name;
         let found = find_spot(
             rows,
@@ -61,21 +57,15 @@ fn gained(
             was,
             bytes_of(pool, name),
         );
-        let SpotStep::ASpot(_, _) = found else {
-            return OptText::Given(name);
+        let Some((_, _)) = found else {
+            return Some(name);
         };
         cursor = after;
     }
+    None
 }
 
-// The handles of a layout now and before.
-#[derive(Clone, Copy)]
-pub enum Pair {
-    NoPair,
-    Both(u32, u32),
-}
-
-// The layout of a name in both records; one that is new, or gone, is passed over.
+// The handles of the layout of a name now and before; one that is new, or gone, is passed over.
 fn find_both(
     stream: &[u8],
     pool: &[u8],
@@ -84,23 +74,23 @@ fn find_both(
     old_pool: &[u8],
     old_types: &[u32],
     name: TypeName,
-) -> Pair
+) -> Option<(u32, u32)>
     requires { TypesTable stream.now pool.now types.now × TypesTable old_stream.now old_pool.now old_types.now }
     ensures { let cur : Rec = rec stream.now pool.now [] in
         let rel : Rec = rec old_stream.now old_pool.now [] in
         PairFound cur.stream cur.pool rel.stream rel.pool (name_of cur.pool name) result }
 {
     let was = find_named(old_stream, old_pool, old_types, pool, name);
-    let TypeFound::At(j) = was else {
-        return Pair::NoPair;
+    let Some(j) = was else {
+        return None;
     };
     let other = old_types[j];
     let is = find_named(stream, pool, types, pool, name);
-    let TypeFound::At(i) = is else {
-        return Pair::NoPair;
+    let Some(i) = is else {
+        return None;
     };
     let handle = types[i];
-    Pair::Both(handle, other)
+    Some((handle, other))
 }
 
 // A layout of a standalone family now and before.
@@ -113,8 +103,8 @@ fn check_pair(
     old_pool: &[u8],
     old_sizes: &[u64],
     name: TypeName,
-    pair: Pair,
-) -> Verdict
+    pair: Option<(u32, u32)>,
+) -> Result<(), Verdict>
     requires { let cur : Rec = rec stream.now pool.now (scalars_of rows.now) in
         let rel : Rec = rec old_stream.now old_pool.now (scalars_of rows.now) in
         PairTyped cur.stream rel.stream pair × (SizesTable cur sizes.now × Exact cur) × (SizesTable rel old_sizes.now × Exact rel) }
@@ -122,20 +112,20 @@ fn check_pair(
         let rel : Rec = rec old_stream.now old_pool.now (scalars_of rows.now) in
         meaning cur.pool rel.pool result ≡ check_pair cur rel (name_of cur.pool name) pair }
 {
-    let Pair::Both(is, was) = pair else {
-        return Verdict::Passed;
+    let Some((is, was)) = pair else {
+        return Ok(());
     };
     if same_fields(
         rows, stream, pool, sizes, is, old_stream, old_pool, old_sizes, was,
     ) {
-        return Verdict::Passed;
+        return Ok(());
     }
     let from = first_spot(stream, is);
     let before = first_spot(old_stream, was);
     let change = gained(
         rows, stream, pool, sizes, from, old_stream, old_pool, old_sizes, before,
     );
-    Verdict::ShippedFamilyChanged { name, change }
+    Err(Verdict::ShippedFamilyChanged { name, change })
 }
 
 // The layouts of a family's variants from a cursor on.
@@ -151,7 +141,7 @@ fn check_variants(
     old_sizes: &[u64],
     family: Text,
     from: Cursor,
-) -> Verdict
+) -> Result<(), Verdict>
     requires { let cur : Rec = rec stream.now pool.now (scalars_of rows.now) in
         let rel : Rec = rec old_stream.now old_pool.now (scalars_of rows.now) in
         Tables cur types.now sizes.now × Tables rel old_types.now old_sizes.now }
@@ -161,25 +151,18 @@ fn check_variants(
         (variant_names (text_of cur.pool family) (variants_at cur.stream cur.pool from.at)) }
 {
     let mut cursor = from;
-    loop {
-        let VariantStep::AVariant(variant, after) = next_variant(stream, cursor) else {
-            return Verdict::Passed;
-        };
-        let own = variant.discriminant;
+    while let Some((variant, after)) = next_variant(stream, cursor) {
         let name = TypeName {
             front: family,
-            back: OptText::Given(own),
+            back: Some(variant.discriminant),
         };
         let pair = find_both(stream, pool, types, old_stream, old_pool, old_types, name);
-        let v = check_pair(
+        check_pair(
             rows, stream, pool, sizes, old_stream, old_pool, old_sizes, name, pair,
-        );
-        if let Verdict::Passed = v {
-            cursor = after;
-        } else {
-            return v;
-        }
+        )?;
+        cursor = after;
     }
+    Ok(())
 }
 
 // The layouts of a family whose variants begin at a cursor: its own, then its variants'.
@@ -195,7 +178,7 @@ fn check_layouts(
     old_sizes: &[u64],
     family: Text,
     from: Cursor,
-) -> Verdict
+) -> Result<(), Verdict>
     requires { let cur : Rec = rec stream.now pool.now (scalars_of rows.now) in
         let rel : Rec = rec old_stream.now old_pool.now (scalars_of rows.now) in
         Tables cur types.now sizes.now × Tables rel old_types.now old_sizes.now }
@@ -206,15 +189,12 @@ fn check_layouts(
 {
     let name = TypeName {
         front: family,
-        back: OptText::Absent,
+        back: None,
     };
     let pair = find_both(stream, pool, types, old_stream, old_pool, old_types, name);
-    let v = check_pair(
+    check_pair(
         rows, stream, pool, sizes, old_stream, old_pool, old_sizes, name, pair,
-    );
-    let Verdict::Passed = v else {
-        return v;
-    };
+    )?;
     check_variants(
         rows, stream, pool, types, sizes, old_stream, old_pool, old_types, old_sizes, family, from,
     )
@@ -227,23 +207,23 @@ fn check_standing(
     old_pool: &[u8],
     name: Text,
     standalone: bool,
-) -> Verdict
+) -> Result<(), Verdict>
     ensures { let p : Str = pool.now in
         let rel : Rec = rec old_stream.now old_pool.now [] in
         meaning p rel.pool result ≡ check_standing (family_list rel) (text_of p name) standalone }
 {
     let found = find_family(old_stream, old_pool, Cursor::new(), bytes_of(pool, name));
-    let FamilyStep::AFamily(was, _) = found else {
-        return Verdict::Passed;
+    let Some((was, _)) = found else {
+        return Ok(());
     };
     if was.standalone == standalone {
-        return Verdict::Passed;
+        return Ok(());
     }
-    Verdict::StandingChanged {
+    Err(Verdict::StandingChanged {
         name,
         was: was.standalone,
         is: standalone,
-    }
+    })
 }
 
 // One family, whose variants begin at a cursor.
@@ -259,7 +239,7 @@ fn check_family(
     old_sizes: &[u64],
     m: Family,
     from: Cursor,
-) -> Verdict
+) -> Result<(), Verdict>
     requires { let cur : Rec = rec stream.now pool.now (scalars_of rows.now) in
         let rel : Rec = rec old_stream.now old_pool.now (scalars_of rows.now) in
         Tables cur types.now sizes.now × Tables rel old_types.now old_sizes.now }
@@ -269,17 +249,14 @@ fn check_family(
         (family_of cur.pool m (fields_at cur.stream cur.pool from.at) (variants_at cur.stream cur.pool from.at)) }
 {
     let name = m.name;
-    let verdict = check_standing(pool, old_stream, old_pool, name, m.standalone);
-    if let Verdict::Passed = verdict {
-        if m.standalone {
-            return check_layouts(
-                rows, stream, pool, types, sizes, old_stream, old_pool, old_types, old_sizes, name,
-                from,
-            );
-        }
-        return Verdict::Passed;
+    check_standing(pool, old_stream, old_pool, name, m.standalone)?;
+    if m.standalone {
+        return check_layouts(
+            rows, stream, pool, types, sizes, old_stream, old_pool, old_types, old_sizes, name,
+            from,
+        );
     }
-    verdict
+    Ok(())
 }
 
 // The first family that changed how it stands, or layout of a standalone one that changed.
@@ -293,7 +270,7 @@ pub(crate) fn check_standalone(
     old_pool: &[u8],
     old_types: &[u32],
     old_sizes: &[u64],
-) -> Verdict
+) -> Result<(), Verdict>
     requires { let cur : Rec = rec stream.now pool.now (scalars_of rows.now) in
         let rel : Rec = rec old_stream.now old_pool.now (scalars_of rows.now) in
         Tables cur types.now sizes.now × Tables rel old_types.now old_sizes.now }
@@ -302,17 +279,11 @@ pub(crate) fn check_standalone(
         meaning cur.pool rel.pool result ≡ check_standalone (family_list cur) (family_list rel) (types_of cur) (types_of rel) }
 {
     let mut cursor = Cursor::new();
-    loop {
-        let FamilyStep::AFamily(m, after) = next_family(stream, cursor) else {
-            return Verdict::Passed;
-        };
-        let verdict = check_family(
+    while let Some((m, after)) = next_family(stream, cursor) {
+        check_family(
             rows, stream, pool, types, sizes, old_stream, old_pool, old_types, old_sizes, m, after,
-        );
-        if let Verdict::Passed = verdict {
-            cursor = after;
-        } else {
-            return verdict;
-        }
+        )?;
+        cursor = after;
     }
+    Ok(())
 }

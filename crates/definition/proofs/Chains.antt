@@ -1,8 +1,8 @@
 -- Steps one after the other: what the first schema holds the last one holds. Assumes nothing.
+use Rattle.std.specs.Prelude.{Some, None}
 use mathlib.Core.Path.{◌≡◌, refl, sym, ◌∙◌, ap, subst}
 use mathlib.Core.List.Memᴰ
 use mathlib.Core.List.{List, [], ◌∷◌, Memᴰ}
-use mathlib.Core.Option.{none, some}
 use mathlib.Core.Bool.{Bool, true, false, cond}
 use Prim.Native.Nat.{ℕ, ◌≤◌}
 use native.Mathlib.Omega.{arith}
@@ -149,7 +149,7 @@ holds-one cs {k} {m} {n} p q =
 holds-none : (cs : List Const) {k : Str} {n : ℕ} → cs ≡ [] → Holds cs k n → ⊥
 unfolding constant_in find
 holds-none cs {k} e h =
-    let gone : none ≡ some h.found = sym (ap (constant_in k) e) ∙ h.is_found in
+    let gone : None ≡ Some h.found = sym (ap (constant_in k) e) ∙ h.is_found in
     let z : ◌≡◌ {A = ℕ} 0 1 = cc in omega arith
 
 -- a record that holds a constant was compared

@@ -1,4 +1,5 @@
 -- A stream of whole commands: the places of its commands, and its lists read off the commands themselves, wherever they stand. Assumes nothing.
+use Rattle.std.specs.Prelude.{Some, None}
 use mathlib.Core.Path.{◌≡◌, refl, sym, ◌∙◌, ap, ap₂, subst}
 use mathlib.Core.List.Memᴰ
 use mathlib.Core.List.{List, [], ◌∷◌, ◌++◌, flatten, Memᴰ}
@@ -17,7 +18,6 @@ use Rattle.record.specs.Schema.{Schema, Heading, Const, Alias, Enum, EnumValue, 
 use Rattle.record.specs.Commands.{operands, wide, widths, width_with, width_of, command_of, place, step_at, commands_at, head_at, constant_at, alias_at, enum_at, value_at, bitfield_at, member_at, struct_at, family_at, variant_at, field_at, key_at, version_at}
 use Rattle.record.specs.Lists.{head_of, constant_of, alias_of, enum_of, value_of, bitfield_of, member_of, struct_of, family_of, variant_of, field_of, key_of, version_of, listed, anything, nothing, a_key, a_field, heads, constants, aliases, values, enums, members, bitfields, keys, fields, structs, variants, families, unstored, versions}
 use Rattle.record.specs.Reading.{rec, release_of, unreleased_of, schema_from}
-use Rattle.record.specs.declared.command.Step.TheVariants.{Next, Stop}
 use Rattle.record.proofs.Basics.{both, any_some}
 use Rattle.record.proofs.Stream.{commands-stop, commands-next}
 use Rattle.definition.specs.Pass.{all_of}
@@ -130,7 +130,7 @@ module _ (s : Str) (at : ℕ) (x : Str) (xs : List Str) (h : CommandsFrom s at (
   unfolding stream_of
   length-here = sym (length-drop at s) ∙ ap (λ (l : Str). length l) h ∙ length-append x (stream_of xs)
 
-  step-here : step_at s at ≡ Next (command_of (number x) (drop at s)) (place (at + length x))
+  step-here : step_at s at ≡ Some (command_of (number x) (drop at s), place (at + length x))
   unfolding step_at
   step-here =
       let l = length-here in
@@ -147,7 +147,7 @@ module _ (s : Str) (at : ℕ) (x : Str) (xs : List Str) (h : CommandsFrom s at (
       )
 
 -- at the end
-step_end : (s : Str) (at : ℕ) → CommandsFrom s at [] → step_at s at ≡ Stop
+step_end : (s : Str) (at : ℕ) → CommandsFrom s at [] → step_at s at ≡ None
 unfolding step_at stream_of
 step_end s at h =
     let l : length s - at ≡ 1 = sym (length-drop at s) ∙ ap (λ (y : Str). length y) h in

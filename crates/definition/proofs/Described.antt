@@ -1,8 +1,8 @@
 -- Equal descriptions have equal kinds: a description's first word is the kind. Assumes nothing.
+use Rattle.std.specs.Prelude.{Option, Some, None}
 use mathlib.Core.Path.{◌≡◌, refl, sym, ◌∙◌, ap, subst}
 use mathlib.Core.List.Memᴰ
 use mathlib.Core.List.{List, [], ◌∷◌, ◌++◌, Memᴰ}
-use mathlib.Core.Option.{Option, none, some}
 use mathlib.Core.Bool.{Bool, true, false, ◌&&◌, not, cond, false≢true}
 use Prim.Native.Nat.{ℕ, ◌+◌}
 use lib.Dec.{eqb}
@@ -44,8 +44,8 @@ word-append (a ∷ k) r c s = go (eqb a 32) (both (not (eqb a 32)) (clean k) c).
 
 starts-spaced : (o : Option Str) → starts (spaced o) ≡ true
 unfolding starts spaced
-starts-spaced none = refl
-starts-spaced (some n) = refl
+starts-spaced None = refl
+starts-spaced (Some n) = refl
 
 starts-rest : (k : Kind) (f : Field) → starts (rest_as k f) ≡ true
 unfolding starts rest_as named

@@ -1,7 +1,7 @@
 -- 01's (P) cases: one list, proved by one fact. Assumes nothing.
+use Rattle.std.specs.Prelude.{Option, Some, None}
 use mathlib.Core.Path.{◌≡◌, refl}
 use mathlib.Core.List.{List, [], ◌∷◌}
-use mathlib.Core.Option.{Option, none, some}
 use mathlib.Core.Bool.{Bool, true, false, ◌&&◌, cond}
 use Prim.Native.Nat.{ℕ}
 use Prim.Native.String.{String}
@@ -16,8 +16,6 @@ use Rattle.record.specs.Release.{onto_head, parts, digit, all_digits, is_decimal
 use Rattle.record.specs.Shapes.{enum_size, alias_size, bitfield_size, sized, scalar_size, size_as, shape_size, spaced, named, rest_as, shape_type, place_of, places, plain, fam_prefix}
 use Rattle.record.specs.Owner.{struct_in_slot, slotted, has_slot, referenced_as, referenced, variant_fields, fields_in, type_fields, owned_in, unless, enter, visit, visit_all, claim, declared, claim_roots, with_name, roots_in, ownership_order, roots, root_of, owner_of}
 use Rattle.record.specs.Fill.{joined}
-use Rattle.record.specs.declared.release.ReleaseParts.{ReleaseParts}
-use Rattle.record.specs.declared.release.ReleaseParts.TheVariants.{NotARelease, Parts}
 use Rattle.layout.specs.Sorted.{insert, insert_all, sorted}
 use Rattle.layout.specs.Layout.{variant_name, lay_struct, lay_family, lay_variant, lay_families, flattened, types, type_in}
 use Rattle.definition.specs.Verdicts
@@ -36,6 +34,7 @@ use Rattle.definition.specs.Standalone
 use Rattle.definition.specs.Coverage
 use Rattle.definition.specs.Generations
 use Rattle.definition.specs.Compare.{pass_list, first_of, compare}
+use Rattle.record.specs.declared.release.Release.{Release}
 
 -- a field of a kind, with perhaps a type, an element, a count and a size
 fld : String → String → Option Str → Option Str → Option ℕ → Option ℕ → Field
@@ -45,10 +44,10 @@ fld n k t e c z = record {
   typ = t;
   element = e;
   count = c;
-  rows = none;
-  cols = none;
+  rows = None;
+  cols = None;
   size = z;
-  key = none;
+  key = None;
 }
 
 -- a root whose generation number is g, over a type with these fields
@@ -57,24 +56,24 @@ sch r g fs vs = record {
   scalars = built_in;
   release = r;
   unreleased = false;
-  constants = record { name = bytes "GEN"; value = integer g; api = false; since = none } ∷ [];
+  constants = record { name = bytes "GEN"; value = integer g; api = false; since = None } ∷ [];
   aliases = [];
   enums = record {
     name = bytes "e";
     size = 1;
     api = false;
-    since = none;
-    values = record { name = bytes "a"; number = 3; since = none } ∷ [];
+    since = None;
+    values = record { name = bytes "a"; number = 3; since = None } ∷ [];
   } ∷ [];
   bitfields = [];
   structs =
       record {
         name = bytes "head";
-        slot = some (bytes "metadata");
-        version = some (bytes "GEN");
-        fields = fld "next" "struct_ptr" (some (bytes "tile")) none none none ∷ [];
+        slot = Some (bytes "metadata");
+        version = Some (bytes "GEN");
+        fields = fld "next" "struct_ptr" (Some (bytes "tile")) None None None ∷ [];
       }
-      ∷ record { name = bytes "tile"; slot = none; version = none; fields = fs } ∷ [];
+      ∷ record { name = bytes "tile"; slot = None; version = None; fields = fs } ∷ [];
   families = [];
   unstored = [];
   versions = vs;
@@ -82,17 +81,17 @@ sch r g fs vs = record {
 
 base : List Field
 base =
-    fld "n" "scalar" (some (bytes "u16")) none none none
-    ∷ fld "skip" "scalar" (some (bytes "u8")) none none none
-    ∷ fld "gap" "padding" none none none (some 1)
+    fld "n" "scalar" (Some (bytes "u16")) None None None
+    ∷ fld "skip" "scalar" (Some (bytes "u8")) None None None
+    ∷ fld "gap" "padding" None None None (Some 1)
     ∷ []
 
 -- the padding's byte is a field
 more : List Field
 more =
-    fld "n" "scalar" (some (bytes "u16")) none none none
-    ∷ fld "skip" "scalar" (some (bytes "u8")) none none none
-    ∷ fld "new" "scalar" (some (bytes "u8")) none none none
+    fld "n" "scalar" (Some (bytes "u16")) None None None
+    ∷ fld "skip" "scalar" (Some (bytes "u8")) None None None
+    ∷ fld "new" "scalar" (Some (bytes "u8")) None None None
     ∷ []
 
 entry : ℕ → List Version
@@ -102,11 +101,11 @@ entry n = record { struct = bytes "head"; version = n } ∷ []
 shape : Field → ℕ → String → Bool
 unfolding bytes eqs decimal or_else or_option map_option find scalar_in prim_size built_in words kind_of Kind.kind_among alias_in enum_in bitfield_in
     enum_size alias_size bitfield_size sized scalar_size size_as shape_size spaced named rest_as shape_type sch base fld
-shape f z d = eqb (shape_size (sch none 3 base []) f) z && eqs (shape_type f) (bytes d)
+shape f z d = eqb (shape_size (sch None 3 base []) f) z && eqs (shape_type f) (bytes d)
 
-no_release : ReleaseParts → Bool
-no_release NotARelease = true
-no_release (Parts r) = false
+no_release : Option Release → Bool
+no_release None = true
+no_release (Some r) = false
 
 -- a text has no release_parts
 unread : String → Bool
@@ -136,7 +135,7 @@ unfolding shape unread sch base more entry is_text is_some before signed last_or
 gives is was n = eqb (Verdicts.verdict_number (compare is was)) n
 
 at : String → Option Str
-at r = some (bytes r)
+at r = Some (bytes r)
 
 pub record Case : Type 0 where
   pub id : ℕ
@@ -146,22 +145,22 @@ pub record Case : Type 0 where
 pub cases : List Case
 cases =
     -- scalar without type: 1, "scalar". scalar u64: 0. inline_array u16, count 3: 6, "inline_array u16 x 3"
-    record { id = 1; holds = shape (fld "x" "scalar" none none none none) 1 "scalar" }
-    ∷ record { id = 2; holds = shape (fld "x" "scalar" (at "u64") none none none) 0 "scalar u64" }
-    ∷ record { id = 3; holds = shape (fld "x" "inline_array" none (at "u16") (some 3) none) 6 "inline_array u16 x 3" }
+    record { id = 1; holds = shape (fld "x" "scalar" None None None None) 1 "scalar" }
+    ∷ record { id = 2; holds = shape (fld "x" "scalar" (at "u64") None None None) 0 "scalar u64" }
+    ∷ record { id = 3; holds = shape (fld "x" "inline_array" None (at "u16") (Some 3) None) 6 "inline_array u16 x 3" }
     -- undeclared enum 1, alias 2, bit field 0. struct_array_ptr of tile: 4, "struct_array_ptr tile"
-    ∷ record { id = 4; holds = shape (fld "x" "enum" (at "zz") none none none) 1 "enum zz" }
-    ∷ record { id = 5; holds = shape (fld "x" "type_alias" (at "zz") none none none) 2 "type_alias zz" }
-    ∷ record { id = 6; holds = shape (fld "x" "bitfield" (at "zz") none none none) 0 "bitfield zz" }
-    ∷ record { id = 7; holds = shape (fld "x" "struct_array_ptr" none (at "tile") none none) 4 "struct_array_ptr tile" }
+    ∷ record { id = 4; holds = shape (fld "x" "enum" (at "zz") None None None) 1 "enum zz" }
+    ∷ record { id = 5; holds = shape (fld "x" "type_alias" (at "zz") None None None) 2 "type_alias zz" }
+    ∷ record { id = 6; holds = shape (fld "x" "bitfield" (at "zz") None None None) 0 "bitfield zz" }
+    ∷ record { id = 7; holds = shape (fld "x" "struct_array_ptr" None (at "tile") None None) 4 "struct_array_ptr tile" }
     -- 0.10.0 is above 0.9.0. 00.8.0 and 4294967296.0.0 have no release_parts
     ∷ record { id = 8; holds = gives (sch (at "0.10.0") 3 base []) (sch (at "0.9.0") 3 base []) 0 }
     ∷ record { id = 9; holds = gives (sch (at "0.9.0") 3 base []) (sch (at "0.10.0") 3 base []) 15 }
     ∷ record { id = 10; holds = unread "00.8.0" }
     ∷ record { id = 11; holds = unread "4294967296.0.0" }
     -- copy without release: current 0.8.0 passes, 0.7.9 is 13. Copy 0.8.0 against 0.8.0: 15
-    ∷ record { id = 12; holds = gives (sch (at "0.8.0") 3 base []) (sch none 3 base []) 0 }
-    ∷ record { id = 13; holds = gives (sch (at "0.7.9") 3 base []) (sch none 3 base []) 13 }
+    ∷ record { id = 12; holds = gives (sch (at "0.8.0") 3 base []) (sch None 3 base []) 0 }
+    ∷ record { id = 13; holds = gives (sch (at "0.7.9") 3 base []) (sch None 3 base []) 13 }
     ∷ record { id = 14; holds = gives (sch (at "0.8.0") 3 base []) (sch (at "0.8.0") 3 base []) 15 }
     -- generation 3 to 3 with a change: 43. 3 to 4 with an entry: passes, changed or not. 3 to 5: 45. 3 to 2: 46
     ∷ record { id = 15; holds = gives (sch (at "0.10.0") 3 more []) (sch (at "0.9.0") 3 base []) 43 }

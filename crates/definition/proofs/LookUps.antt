@@ -1,9 +1,9 @@
 -- What is found in a list, and in the list in another order, where no name stands twice: look-ups, tests and maps by name agree. Assumes nothing.
+use Rattle.std.specs.Prelude.{Option, Some, None}
 use mathlib.Core.Path.{◌≡◌, refl, sym, ◌∙◌, ap, ap₂, subst}
 use mathlib.Core.List.Memᴰ
 use mathlib.Core.List.Permᴰ
 use mathlib.Core.List.{List, [], ◌∷◌, map, Memᴰ, Permᴰ}
-use mathlib.Core.Option.{Option, none, some}
 use mathlib.Core.Bool.{Bool, true, false, cond}
 use mathlib.Core.Logic.{◌⊎◌, inl, inr}
 use Rattle.record.specs.Base.{Str, eqs, before, find, last_or, find_last, map_option, any}
@@ -53,33 +53,33 @@ module _ {A : Type 0} where
 
   -- two options that hold nothing, or things that are related
   pub data OptionRel (R : A → A → Type 0) : Option A → Option A → Type 0 where
-    neither : {o q : Option A} → o ≡ none → q ≡ none → OptionRel R o q
-    both_hold : {o q : Option A} {x y : A} → o ≡ some x → q ≡ some y → R x y → OptionRel R o q
+    neither : {o q : Option A} → o ≡ None → q ≡ None → OptionRel R o q
+    both_hold : {o q : Option A} {x y : A} → o ≡ Some x → q ≡ Some y → R x y → OptionRel R o q
 
   pub option-cong : {B : Type 0} {R : A → A → Type 0} (g : Option A → B) {o q : Option A} → OptionRel R o q
-      → ((x y : A) → R x y → g (some x) ≡ g (some y)) → g o ≡ g q
+      → ((x y : A) → R x y → g (Some x) ≡ g (Some y)) → g o ≡ g q
   option-cong g (neither e f) h = ap g (e ∙ sym f)
   option-cong g (both_hold {x = x} {y = y} e f r) h = ap g e ∙ h x y r ∙ sym (ap g f)
 
   pub option_map : {B : Type 0} {R : A → A → Type 0} (g : A → B) {o q : Option A} → OptionRel R o q → ((x y : A) → R x y → g x ≡ g y)
       → map_option g o ≡ map_option g q
   unfolding map_option
-  option_map g w h = option-cong (map_option g) w (λ x y r. ap some (h x y r))
+  option_map g w h = option-cong (map_option g) w (λ x y r. ap Some (h x y r))
 
   -- nothing is found exactly if nothing passes
-  pub none_any : (p : A → Bool) (l : List A) → find p l ≡ none → any p l ≡ false
+  pub none_any : (p : A → Bool) (l : List A) → find p l ≡ None → any p l ≡ false
   none_any p l h = go (any p l) refl
     where
       go : (b : Bool) → any p l ≡ b → b ≡ false
       go true e = let w = any_some p l e in absurd (none≢some (sym h ∙ (find-any p l w.1 w.2).1))
       go false e = refl
 
-  pub any-none-found : (p : A → Bool) (l : List A) → any p l ≡ false → find p l ≡ none
+  pub any-none-found : (p : A → Bool) (l : List A) → any p l ≡ false → find p l ≡ None
   any-none-found p l h = go (find p l) refl
     where
-      go : (o : Option A) → find p l ≡ o → o ≡ none
-      go none e = refl
-      go (some x) e = let w = find-some p l e in absurd (any_none p l h w.0 w.1)
+      go : (o : Option A) → find p l ≡ o → o ≡ None
+      go None e = refl
+      go (Some x) e = let w = find-some p l e in absurd (any_none p l h w.0 w.1)
 
   -- at most one element passes the test
   abbrev pub AtMostOne : (A → Bool) → List A → Type 0
@@ -94,68 +94,68 @@ module _ {A : Type 0} where
   find-shuffled {R} p {a} {b} s f one = go (find p a) (find p b) refl refl
     where
       go : (o q : Option A) → find p a ≡ o → find p b ≡ q → OptionRel (FoundAs R b) (find p a) (find p b)
-      go none none e g = neither e g
-      go none (some y) e g =
+      go None None e g = neither e g
+      go None (Some y) e g =
           let w = find-some p b g in
           let v = shuffled-back s w.0 in
           absurd (none≢some (sym e ∙ (find-any p a v.1 (f v.0 y v.2 ∙ w.1)).1))
-      go (some x) q e g =
+      go (Some x) q e g =
           let w = find-some p a e in
           let v = shuffled-there s w.0 in
           let t : p v.0 ≡ true = sym (f x v.0 v.2) ∙ w.1 in
           both_hold e (find-only p b v.1 t (λ z m h. one z v.0 m v.1 h t)) (v.2, v.1)
 
   pub find-perm : (p : A → Bool) {a b : List A} → Permᴰ a b → AtMostOne p b → find p a ≡ find p b
-  find-perm p d one = option-cong (λ (o : Option A). o) (find-shuffled p (exactly d) (λ x y e. ap p e) one) (λ x y r. ap some r.0)
+  find-perm p d one = option-cong (λ (o : Option A). o) (find-shuffled p (exactly d) (λ x y e. ap p e) one) (λ x y r. ap Some r.0)
 
   -- the last that passes is the first, where at most one does
-  last_some : (p : A → Bool) (o : Option A) (l : List A) {x : A} → last_or o p l ≡ some x → (o ≡ some x) ⊎ (Memᴰ x l × (p x ≡ true))
+  last_some : (p : A → Bool) (o : Option A) (l : List A) {x : A} → last_or o p l ≡ Some x → (o ≡ Some x) ⊎ (Memᴰ x l × (p x ≡ true))
   unfolding last_or
   last_some p o [] h = inl h
-  last_some p o (y ∷ ys) {x} h = go (p y) refl (last_some p (cond (p y) (some y) o) ys h)
+  last_some p o (y ∷ ys) {x} h = go (p y) refl (last_some p (cond (p y) (Some y) o) ys h)
     where
-      go : (b : Bool) → p y ≡ b → (cond b (some y) o ≡ some x) ⊎ (Memᴰ x ys × (p x ≡ true))
-          → (o ≡ some x) ⊎ (Memᴰ x (y ∷ ys) × (p x ≡ true))
+      go : (b : Bool) → p y ≡ b → (cond b (Some y) o ≡ Some x) ⊎ (Memᴰ x ys × (p x ≡ true))
+          → (o ≡ Some x) ⊎ (Memᴰ x (y ∷ ys) × (p x ≡ true))
       go true e (inl k) = let q : x ≡ y = cc in inr (Memᴰ.head q, ap p q ∙ e)
       go false e (inl k) = inl k
       go b e (inr w) = inr (Memᴰ.tail w.0, w.1)
 
-  last-kept : (p : A → Bool) (y : A) (l : List A) → (z : A) × (last_or (some y) p l ≡ some z)
+  last-kept : (p : A → Bool) (y : A) (l : List A) → (z : A) × (last_or (Some y) p l ≡ Some z)
   unfolding last_or
   last-kept p y [] = (y, refl)
   last-kept p y (x ∷ xs) = go (p x) (last-kept p x xs) (last-kept p y xs)
     where
-      go : (b : Bool) → (z : A) × (last_or (some x) p xs ≡ some z) → (z : A) × (last_or (some y) p xs ≡ some z)
-          → (z : A) × (last_or (cond b (some x) (some y)) p xs ≡ some z)
+      go : (b : Bool) → (z : A) × (last_or (Some x) p xs ≡ Some z) → (z : A) × (last_or (Some y) p xs ≡ Some z)
+          → (z : A) × (last_or (cond b (Some x) (Some y)) p xs ≡ Some z)
       go true r s = r
       go false r s = s
 
-  last-any : (p : A → Bool) (o : Option A) (l : List A) {x : A} → Memᴰ x l → p x ≡ true → (z : A) × (last_or o p l ≡ some z)
+  last-any : (p : A → Bool) (o : Option A) (l : List A) {x : A} → Memᴰ x l → p x ≡ true → (z : A) × (last_or o p l ≡ Some z)
   unfolding last_or
   last-any p o [] m h = absurd (Memᴰ.not-nil m)
   last-any p o (y ∷ ys) (Memᴰ.head e) h = rw (sym (ap p e) ∙ h) (last-kept p y ys)
-  last-any p o (y ∷ ys) (Memᴰ.tail m) h = last-any p (cond (p y) (some y) o) ys m h
+  last-any p o (y ∷ ys) (Memᴰ.tail m) h = last-any p (cond (p y) (Some y) o) ys m h
 
   last-first : (p : A → Bool) (l : List A) → AtMostOne p l → find_last p l ≡ find p l
   unfolding find_last
-  last-first p l one = go (find p l) (last_or none p l) refl refl
+  last-first p l one = go (find p l) (last_or None p l) refl refl
     where
-      from : {x : A} → (none ≡ some x) ⊎ (Memᴰ x l × (p x ≡ true)) → Memᴰ x l × (p x ≡ true)
+      from : {x : A} → (None ≡ Some x) ⊎ (Memᴰ x l × (p x ≡ true)) → Memᴰ x l × (p x ≡ true)
       from (inl e) = absurd (none≢some e)
       from (inr w) = w
 
-      go : (o q : Option A) → find p l ≡ o → last_or none p l ≡ q → q ≡ o
-      go none none e f = refl
-      go none (some y) e f =
-          let w = from (last_some p none l f) in
+      go : (o q : Option A) → find p l ≡ o → last_or None p l ≡ q → q ≡ o
+      go None None e f = refl
+      go None (Some y) e f =
+          let w = from (last_some p None l f) in
           absurd (none≢some (sym e ∙ (find-any p l w.0 w.1).1))
-      go (some x) none e f =
+      go (Some x) None e f =
           let w = find-some p l e in
-          absurd (none≢some (sym f ∙ (last-any p none l w.0 w.1).1))
-      go (some x) (some y) e f =
+          absurd (none≢some (sym f ∙ (last-any p None l w.0 w.1).1))
+      go (Some x) (Some y) e f =
           let w = find-some p l e in
-          let v = from (last_some p none l f) in
-          ap some (one y x v.0 w.0 v.1 w.1)
+          let v = from (last_some p None l f) in
+          ap Some (one y x v.0 w.0 v.1 w.1)
 
   pub last-shuffled : {R : A → A → Type 0} (p : A → Bool) {a b : List A} → Shuffled R a b → ((x y : A) → R x y → p x ≡ p y)
       → AtMostOne p a → AtMostOne p b → OptionRel (FoundAs R b) (find_last p a) (find_last p b)
@@ -166,7 +166,7 @@ module _ {A : Type 0} where
       go (both_hold e g r) = both_hold (last-first p a i ∙ e) (last-first p b j ∙ g) r
 
   pub last-perm : (p : A → Bool) {a b : List A} → Permᴰ a b → AtMostOne p a → AtMostOne p b → find_last p a ≡ find_last p b
-  last-perm p d i j = option-cong (λ (o : Option A). o) (last-shuffled p (exactly d) (λ x y e. ap p e) i j) (λ x y r. ap some r.0)
+  last-perm p d i j = option-cong (λ (o : Option A). o) (last-shuffled p (exactly d) (λ x y e. ap p e) i j) (λ x y r. ap Some r.0)
 
   -- by name ---------------------------------------------------------------------------------------------------------------
 

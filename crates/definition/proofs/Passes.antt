@@ -1,8 +1,8 @@
 -- What a verdict says that is no violation. Assumes nothing.
+use Rattle.std.specs.Prelude.{Option, Some, None}
 use mathlib.Core.Path.{◌≡◌, refl, sym, ◌∙◌, ap}
 use mathlib.Core.List.Memᴰ
 use mathlib.Core.List.{List, [], ◌∷◌, Memᴰ}
-use mathlib.Core.Option.{Option, none, some}
 use mathlib.Core.Bool.{Bool, true, false, false≢true}
 use Prim.Native.Nat.{ℕ}
 use native.Mathlib.Omega.{arith}
@@ -35,29 +35,29 @@ module _ {A : Type 0} where
   each-pass f (y ∷ ys) h (Memᴰ.head e) = ap f e ∙ (then-pass (f y) (each f ys) h).0
   each-pass f (y ∷ ys) h (Memᴰ.tail m) = each-pass f ys (then-pass (f y) (each f ys) h).1 m
 
-  pub found-pass : (o : Option A) (v : Verdict) (f : A → Verdict) → (v ≡ pass → ⊥) → on_found o v f ≡ pass → (a : A) × (o ≡ some a) × (f a ≡ pass)
+  pub found-pass : (o : Option A) (v : Verdict) (f : A → Verdict) → (v ≡ pass → ⊥) → on_found o v f ≡ pass → (a : A) × (o ≡ Some a) × (f a ≡ pass)
   unfolding on_found
-  found-pass none v f n h = absurd (n h)
-  found-pass (some a) v f n h = (a, refl, h)
+  found-pass None v f n h = absurd (n h)
+  found-pass (Some a) v f n h = (a, refl, h)
 
-  pub found-stop : (o : Option A) (w : Word) (m : Str) (f : A → Verdict) → on_found o (stop w m) f ≡ pass → (a : A) × (o ≡ some a) × (f a ≡ pass)
+  pub found-stop : (o : Option A) (w : Word) (m : Str) (f : A → Verdict) → on_found o (stop w m) f ≡ pass → (a : A) × (o ≡ Some a) × (f a ≡ pass)
   found-stop o w m f h = found-pass o (stop w m) f stop≢pass h
 
-  pub on_some : (o : Option A) (v : Verdict) (f : A → Verdict) {a : A} → o ≡ some a → on_found o v f ≡ pass → f a ≡ pass
+  pub on_some : (o : Option A) (v : Verdict) (f : A → Verdict) {a : A} → o ≡ Some a → on_found o v f ≡ pass → f a ≡ pass
   unfolding on_found
   on_some o v f e h = rw e at h
 
   -- what would be a violation wherever it is found is not there
-  pub none_found : (o : Option A) (w : A → Word) (m : A → Str) → on_found o pass (λ a. stop (w a) (m a)) ≡ pass → o ≡ none
+  pub none_found : (o : Option A) (w : A → Word) (m : A → Str) → on_found o pass (λ a. stop (w a) (m a)) ≡ pass → o ≡ None
   unfolding on_found
-  none_found none w m h = refl
-  none_found (some a) w m h = absurd (stop≢pass h)
+  none_found None w m h = refl
+  none_found (Some a) w m h = absurd (stop≢pass h)
 
   -- two ways of not being found, each with its verdict
   pub never : (o : Option A) (v w : Word) (s : Str) (f : A → Str) → on_found o (stop v s) (λ a. stop w (f a)) ≡ pass → ⊥
   unfolding on_found
-  never none v w s f h = stop≢pass h
-  never (some a) v w s f h = stop≢pass h
+  never None v w s f h = stop≢pass h
+  never (Some a) v w s f h = stop≢pass h
 
   pub not-empty : (l : List A) {x : A} → Memᴰ x l → empty l ≡ false
   unfolding empty

@@ -1,8 +1,8 @@
 -- A pair of schemas that differs from one that passes in the order of its lists alone passes too. Assumes nothing.
+use Rattle.std.specs.Prelude.{Option, Some, None}
 use mathlib.Core.Path.{◌≡◌, refl, sym, ◌∙◌, ap, ap₂, subst}
 use mathlib.Core.List.Permᴰ
 use mathlib.Core.List.{List, [], ◌∷◌, map, Memᴰ, Permᴰ}
-use mathlib.Core.Option.{Option, none, some}
 use mathlib.Core.Bool.{Bool, true, false, ◌&&◌, ◌||◌, not, cond, false≢true, beq}
 use Prim.Native.Nat.{ℕ, ◌+◌, ◌^◌}
 use lib.Dec.{eqb, ltb}
@@ -72,8 +72,8 @@ module _ {A : Type 0} where
   found-by {o} {q} v w f g e n h = subst (λ (u : Option A). on_found o v f ≡ pass → on_found u w g ≡ pass) e (go o)
     where
       go : (u : Option A) → on_found u v f ≡ pass → on_found u w g ≡ pass
-      go none p = n p
-      go (some x) p = h x p
+      go None p = n p
+      go (Some x) p = h x p
 
   all_pass : (f : A → Verdict) (l : List A) → ((x : A) → Memᴰ x l → f x ≡ pass) → each f l ≡ pass
   unfolding each ◌then◌
@@ -297,8 +297,8 @@ module _ (c d r q : Schema) (oc : Permuted c d) (or : Permuted r q) (nc : NoneTw
     against-same : (touched : Option Str) (root k : Str) (is : ℕ) (o : Option Const)
         → check_against t copy c.versions touched root k is o ≡ check_against t copy d.versions touched root k is o
     unfolding check_against
-    against-same touched root k is none = refl
-    against-same touched root k is (some x) = go x.value
+    against-same touched root k is None = refl
+    against-same touched root k is (Some x) = go x.value
       where
         go : (v : Value) → check_from t copy c.versions touched root k is v ≡ check_from t copy d.versions touched root k is v
         go (words w) = unfold check_from in refl

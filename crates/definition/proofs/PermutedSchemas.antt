@@ -1,9 +1,9 @@
 -- Two schemas whose lists are permutations of each other, with no name or slot twice: the same look-ups, sizes, layouts, owners and
 -- generations, and no name or slot twice in the other. Assumes nothing.
+use Rattle.std.specs.Prelude.{Option, Some, None}
 use mathlib.Core.Path.{◌≡◌, refl, sym, ◌∙◌, ap, ap₂, subst}
 use mathlib.Core.List.Permᴰ
 use mathlib.Core.List.{List, [], ◌∷◌, ◌++◌, map, flat_map, append_assoc, Permᴰ}
-use mathlib.Core.Option.{Option, none, some}
 use Prim.Native.Nat.{ℕ, ◌+◌, ◌*◌}
 use Rattle.record.specs.Base.{Str, bytes, eqs, is_text, or_else, map_option, with_some, any}
 use Rattle.record.specs.Scalars.{Scalar, prim_size}
@@ -75,8 +75,8 @@ pub record Permuted (a b : Schema) : Type 0 where
 
 some-append : {A : Type 0} (o : Option A) (l : List A) → with_some o l ≡ with_some o [] ++ l
 unfolding with_some
-some-append none l = refl
-some-append (some x) l = refl
+some-append None l = refl
+some-append (Some x) l = refl
 
 slots-flat : (ss : List Struct) → slots_of ss ≡ flat_map (λ (t : Struct). with_some t.slot []) ss
 unfolding slots_of flat_map
@@ -149,8 +149,8 @@ module _ (a b : Schema) (o : Permuted a b) where
 
     sized-cong : (t : Option Str) (g h : Str → Option ℕ) (d : ℕ) → ((n : Str) → g n ≡ h n) → sized t g d ≡ sized t h d
     unfolding sized
-    sized-cong none g h d e = refl
-    sized-cong (some n) g h d e = ap (λ (o : Option ℕ). or_else o d) (e n)
+    sized-cong None g h d e = refl
+    sized-cong (Some n) g h d e = ap (λ (o : Option ℕ). or_else o d) (e n)
 
     size-found : (f : Field) → shape_size a f ≡ shape_size b f
     unfolding shape_size
@@ -294,12 +294,12 @@ module _ (a b : Schema) (o : Permuted a b) where
     generation-found n = ap (of_struct a.constants) (struct-found n) ∙ held (struct_in n b.structs)
       where
         version : (k : Option Str) → of_version a.constants k ≡ of_version b.constants k
-        version none = unfold of_version in refl
-        version (some k) = unfold of_version in ap (of_constant k) (constant-found k)
+        version None = unfold of_version in refl
+        version (Some k) = unfold of_version in ap (of_constant k) (constant-found k)
 
         held : (t : Option Struct) → of_struct a.constants t ≡ of_struct b.constants t
-        held none = unfold of_struct in refl
-        held (some t) = unfold of_struct in version t.version
+        held None = unfold of_struct in refl
+        held (Some t) = unfold of_struct in version t.version
 
     pub is-generation : (n : Str) → is_generation a.structs a.constants n ≡ is_generation b.structs b.constants n
     unfolding is_generation held_by_any any
@@ -319,10 +319,10 @@ module _ (a b : Schema) (o : Permuted a b) where
       where
         go : (t : Option Struct) {p q : Option Family} → OptionRel (FoundAs PermutedFamily b.families) p q
             → Permᴰ (fields_in t p) (fields_in t q)
-        go (some t) w = Permᴰ.refl t.fields
-        go none (neither e f) = perm-eq (ap (fields_in none) (e ∙ sym f))
-        go none (both_hold {x = x} {y = y} e f r) =
-            perm-by (ap (fields_in none) e) (ap (fields_in none) f)
+        go (Some t) w = Permᴰ.refl t.fields
+        go None (neither e f) = perm-eq (ap (fields_in None) (e ∙ sym f))
+        go None (both_hold {x = x} {y = y} e f r) =
+            perm-by (ap (fields_in None) e) (ap (fields_in None) f)
             (perm-append (perm-eq r.0.common)
             (perm-by (variants-flat x.variants) (variants-flat y.variants) (perm-flat_map (λ (v : Variant). v.fields) r.0.variants)))
 
@@ -349,7 +349,7 @@ module _ (a b : Types) (fields : (n : Str) → Permᴰ (type_fields a n) (type_f
   first-there n rs r (later {q = q} {rs = qs} x f) =
       later (λ l. x (leads-there b a (λ k. Permᴰ.symm (fields k)) (λ k. sym (slots k)) q n l)) (first-there n qs r f)
 
-  owner-there : (n r : Str) → owner_of a n ≡ some r → owner_of b n ≡ some r
+  owner-there : (n r : Str) → owner_of a n ≡ Some r → owner_of b n ≡ Some r
   owner-there n r e =
       (owner-is-first b n r).1 (subst (λ (rs : List Str). First b n rs r) same (first-there n (roots a) r ((owner-is-first a n r).0 e)))
 
@@ -357,8 +357,8 @@ pub owner-same : (a b : Schema) → Permuted a b → NoneTwice a → (n : Str) �
 owner-same a b o oa n = go (owner_of (types_in a) n) (owner_of (types_in b) n) refl refl
   where
     go : (x y : Option Str) → owner_of (types_in a) n ≡ x → owner_of (types_in b) n ≡ y → x ≡ y
-    go none none e f = refl
-    go none (some r) e f =
+    go None None e f = refl
+    go None (Some r) e f =
         absurd (none≢some (sym e ∙ owner-there (types_in b) (types_in a) (λ k. Permᴰ.symm (fields-perm a b o oa k)) (λ k. sym (slot-known a b o oa k))
         (sym (roots-same a b o oa)) n r f))
-    go (some r) y e f = sym (owner-there (types_in a) (types_in b) (fields-perm a b o oa) (slot-known a b o oa) (roots-same a b o oa) n r e) ∙ f
+    go (Some r) y e f = sym (owner-there (types_in a) (types_in b) (fields-perm a b o oa) (slot-known a b o oa) (roots-same a b o oa) n r e) ∙ f

@@ -1,8 +1,8 @@
 -- Tests for the premises of demand 3 and of W-214: a record whose schema passes one meets the premise. Assumes nothing.
+use Rattle.std.specs.Prelude.{Option, Some, None}
 use mathlib.Core.Path.{◌≡◌, refl, sym, ◌∙◌, ap, subst}
 use mathlib.Core.List.Memᴰ
 use mathlib.Core.List.{List, [], ◌∷◌, ◌++◌, map, Memᴰ}
-use mathlib.Core.Option.{Option, none, some}
 use mathlib.Core.Bool.{Bool, true, false, ◌&&◌, not, false≢true}
 use Prim.Native.Nat.{ℕ, zero, suc}
 use native.Mathlib.Omega.{arith}
@@ -172,29 +172,29 @@ none-twice-is s h = record {
 -- a number and a type under it --------------------------------------------------------------------------------------------------------------
 
 integer_in : Value → Option ℕ
-integer_in (integer n) = some n
-integer_in (words x) = none
+integer_in (integer n) = Some n
+integer_in (words x) = None
 
 held_in : Option Const → Option ℕ
-held_in none = none
-held_in (some c) = integer_in c.value
+held_in None = None
+held_in (Some c) = integer_in c.value
 
 -- the integer that the first constant of this name holds
 unfoldable pub held : List Const → Str → Option ℕ
 unfolding held_in integer_in
 held cs k = held_in (constant_in k cs)
 
-pub held-is : (cs : List Const) (k : Str) (n : ℕ) → held cs k ≡ some n → Holds cs k n
+pub held-is : (cs : List Const) (k : Str) (n : ℕ) → held cs k ≡ Some n → Holds cs k n
 unfolding held
 held-is cs k n h = go (constant_in k cs) refl h
   where
-    of : (v : Value) → integer_in v ≡ some n → v ≡ integer n
+    of : (v : Value) → integer_in v ≡ Some n → v ≡ integer n
     of (integer m) e = let q : m ≡ n = cc in ap integer q
     of (words x) e = absurd (let z : ◌≡◌ {A = ℕ} 0 1 = cc in omega arith)
 
-    go : (o : Option Const) → constant_in k cs ≡ o → held_in o ≡ some n → Holds cs k n
-    go none e f = absurd (let z : ◌≡◌ {A = ℕ} 0 1 = cc in omega arith)
-    go (some c) e f = record { found = c; is_found = e; is-integer = of c.value f }
+    go : (o : Option Const) → constant_in k cs ≡ o → held_in o ≡ Some n → Holds cs k n
+    go None e f = absurd (let z : ◌≡◌ {A = ℕ} 0 1 = cc in omega arith)
+    go (Some c) e f = record { found = c; is_found = e; is-integer = of c.value f }
 
 module _ (root k t : Str) where
   -- a structure of the root's name, under the constant, in one of the three slots
@@ -235,9 +235,9 @@ module _ (root k t : Str) where
         owned = is_text→eq (owner_of (types_in s) (owning t)) root a.1;
       }
     where
-      present : (o : Option ℕ) → is_some o ≡ true → (n : ℕ) × (o ≡ some n)
-      present none e = absurd (false≢true e)
-      present (some n) e = (n, refl)
+      present : (o : Option ℕ) → is_some o ≡ true → (n : ℕ) × (o ≡ Some n)
+      present None e = absurd (false≢true e)
+      present (Some n) e = (n, refl)
 
 -- a field of a layout that is no padding is one that the record holds
 pub laid-field : (ts : List TypeLayout) (t : Str) (fs : List FieldLayout) → Laid ts t fs → (f : FieldLayout) → Memᴰ f fs → f.padding ≡ false

@@ -1,8 +1,8 @@
 -- Equality tests of layouts; unique names; names before "::". Assumes nothing.
+use Rattle.std.specs.Prelude.{Option, Some, None}
 use mathlib.Core.Path.{◌≡◌, refl, sym, ◌∙◌, ap, ap₂}
 use mathlib.Core.List.Memᴰ
 use mathlib.Core.List.{List, [], ◌∷◌, map, Memᴰ}
-use mathlib.Core.Option.{Option, none, some}
 use mathlib.Core.Bool.{Bool, true, false, false≢true, beq}
 use Prim.Native.Nat.{ℕ}
 use native.Mathlib.Omega.{arith}
@@ -54,27 +54,27 @@ key-only key (z ∷ zs) d (Memᴰ.head p) (Memᴰ.tail n) e = absurd (d.0 (Mem�
 key-only key (z ∷ zs) d (Memᴰ.tail m) (Memᴰ.head q) e = absurd (d.0 (Memᴰ.cast (sym (ap key q) ∙ sym e) (Memᴰ.map key m)))
 key-only key (z ∷ zs) d (Memᴰ.tail m) (Memᴰ.tail n) e = key-only key zs d.1 m n e
 
-slot-mem : (l : List Struct) {x : Struct} {a : Str} → Memᴰ x l → x.slot ≡ some a → Memᴰ a (slots_of l)
+slot-mem : (l : List Struct) {x : Struct} {a : Str} → Memᴰ x l → x.slot ≡ Some a → Memᴰ a (slots_of l)
 unfolding slots_of with_some
 slot-mem [] m e = absurd (Memᴰ.not-nil m)
 slot-mem (z ∷ zs) (Memᴰ.head p) e = rw (sym (ap (λ (t : Struct). t.slot) p) ∙ e) (Memᴰ.head refl)
 slot-mem (z ∷ zs) {x} {a} (Memᴰ.tail m) e = go z.slot (slot-mem zs m e)
   where
     go : (o : Option Str) → Memᴰ a (slots_of zs) → Memᴰ a (with_some o (slots_of zs))
-    go none r = r
-    go (some b) r = Memᴰ.tail r
+    go None r = r
+    go (Some b) r = Memᴰ.tail r
 
 no-dup-tail : (o : Option Str) (l : List Str) → NoDup (with_some o l) → NoDup l
 unfolding with_some
-no-dup-tail none l d = d
-no-dup-tail (some b) l d = d.1
+no-dup-tail None l d = d
+no-dup-tail (Some b) l d = d.1
 
-no-dup-head : (o : Option Str) (l : List Str) {a : Str} → o ≡ some a → NoDup (with_some o l) → Memᴰ a l → ⊥
+no-dup-head : (o : Option Str) (l : List Str) {a : Str} → o ≡ Some a → NoDup (with_some o l) → Memᴰ a l → ⊥
 unfolding with_some
-no-dup-head none l e d m = let z : ◌≡◌ {A = ℕ} 0 1 = cc in omega arith
-no-dup-head (some b) l {a} e d m = let q : b ≡ a = cc in d.0 (Memᴰ.cast q m)
+no-dup-head None l e d m = let z : ◌≡◌ {A = ℕ} 0 1 = cc in omega arith
+no-dup-head (Some b) l {a} e d m = let q : b ≡ a = cc in d.0 (Memᴰ.cast q m)
 
-pub slot-only : (l : List Struct) → NoDup (slots_of l) → {x y : Struct} {a : Str} → Memᴰ x l → Memᴰ y l → x.slot ≡ some a → y.slot ≡ some a → x ≡ y
+pub slot-only : (l : List Struct) → NoDup (slots_of l) → {x y : Struct} {a : Str} → Memᴰ x l → Memᴰ y l → x.slot ≡ Some a → y.slot ≡ Some a → x ≡ y
 unfolding slots_of
 slot-only [] d m n e f = absurd (Memᴰ.not-nil m)
 slot-only (z ∷ zs) d (Memᴰ.head p) (Memᴰ.head q) e f = p ∙ sym q

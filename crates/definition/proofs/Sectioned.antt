@@ -1,9 +1,9 @@
 -- Every record that can be read is its head, whole sections and the end, and its enums, bit fields and families are made of their parts.
 -- Assumes nothing.
+use Rattle.std.specs.Prelude.{Option, Some, None, Result, Ok, Err}
 use mathlib.Core.Path.{◌≡◌, refl, sym, ◌∙◌, ap, ap₂, subst}
 use mathlib.Core.List.Memᴰ
 use mathlib.Core.List.{List, [], ◌∷◌, ◌++◌, flatten, Memᴰ}
-use mathlib.Core.Option.{Option, none, some}
 use mathlib.Core.Bool.{Bool, true, false, ◌||◌, not, cond, false≢true, beq}
 use mathlib.Core.Logic.{◌⊎◌, inl, inr}
 use Prim.Native.Nat.{ℕ, zero, suc, ◌+◌, ◌-◌, ◌≤◌}
@@ -23,8 +23,6 @@ use Rattle.record.specs.declared.command.Parent.{Parent}
 use Rattle.record.specs.declared.command.Parent.TheVariants.{NoParent}
 use Rattle.record.specs.declared.refusal.Side.{Side}
 use Rattle.record.specs.declared.refusal.Refusal.TheVariants as R
-use Rattle.record.specs.declared.judge.Judged.{Judged}
-use Rattle.record.specs.declared.judge.Judged.TheVariants.{Next, Done, Refused}
 use Rattle.record.proofs.Basics.{both}
 use Rattle.record.proofs.Accepted.{Passed, passed, onto-ok, accepting}
 use Rattle.definition.specs.Pass.{all_of}
@@ -35,10 +33,11 @@ use Rattle.definition.proofs.CommandStreams.{one_of, its-number, command_numbers
 use Rattle.definition.proofs.Validity.{cursor_after, faultless, valid, end_row, taken_next, parsed-valid}
 use Rattle.definition.proofs.SectionLists.{again, body_numbers}
 use Rattle.definition.proofs.ValidSections.{valid_alone, valid-sections, section-body}
+use Rattle.record.specs.Judge.{Judged}
 
 -- the commands of a stream ------------------------------------------------------------------------------------------------
 
-some-cond : (c : Bool) (x : Str) (y : Option Str) (z : Bool) → is_some y ≡ z → is_some (cond c (some x) y) ≡ (c || z)
+some-cond : (c : Bool) (x : Str) (y : Option Str) (z : Bool) → is_some y ≡ z → is_some (cond c (Some x) y) ≡ (c || z)
 unfolding is_some
 some-cond true x y z h = refl
 some-cond false x y z h = h
@@ -52,10 +51,10 @@ rows_are b =
     some-cond (eqb b 1) _ _ _ (some-cond (eqb b 2) _ _ _ (some-cond (eqb b 3) _ _ _ (some-cond (eqb b 4) _ _ _
     (some-cond (eqb b 5) _ _ _ (some-cond (eqb b 6) _ _ _ (some-cond (eqb b 7) _ _ _ (some-cond (eqb b 8) _ _ _
     (some-cond (eqb b 9) _ _ _ (some-cond (eqb b 10) _ _ _ (some-cond (eqb b 11) _ _ _ (some-cond (eqb b 12) _ _ _
-    (some-cond (eqb b 13) _ _ _ (some-cond (eqb b 14) _ _ _ (some-cond (eqb b 15) _ none false (unfold is_some in refl)))))))))))))))
+    (some-cond (eqb b 13) _ _ _ (some-cond (eqb b 14) _ _ _ (some-cond (eqb b 15) _ None false (unfold is_some in refl)))))))))))))))
 
 -- a number that has a row is a command's or the end's
-known-number : (b : ℕ) (os : Str) → operands b ≡ some os → (b ≡ 15 → ⊥) → any (eqb b) command_numbers ≡ true
+known-number : (b : ℕ) (os : Str) → operands b ≡ Some os → (b ≡ 15 → ⊥) → any (eqb b) command_numbers ≡ true
 unfolding row_numbers all_of command_numbers any is_some
 known-number b os e g =
     go (eqb b 15) refl (one_of (λ (k : ℕ). eqb k 15 || any (eqb k) command_numbers) row_numbers refl b (sym (rows_are b) ∙ ap is_some e))
@@ -64,7 +63,7 @@ known-number b os e g =
     go true q h = absurd (g (eqb-true b 15 q))
     go false q h = h
 
-row-width : (b : ℕ) (os : Str) → operands b ≡ some os → width_of b ≡ 1 + widths os
+row-width : (b : ℕ) (os : Str) → operands b ≡ Some os → width_of b ≡ 1 + widths os
 unfolding width_of width_with
 row-width b os e = ap width_with e
 
@@ -92,34 +91,34 @@ and-more x xs w c y (Memᴰ.head e) = subst Whole (sym e) w
 and-more x xs w c y (Memᴰ.tail m) = c y m
 
 module _ (side : Side) (pool : Str) (s : Str) where
-  done_end : (c : Cursor) → Passed side s pool c Done → drop c.at s ≡ 15 ∷ []
+  done_end : (c : Cursor) → Passed side s pool c (Ok None) → drop c.at s ≡ 15 ∷ []
   unfolding ready widths
   done_end c p = go (eqb (get_or s c.at 0) 15) refl p.is-ready
     where
       at_last : get_or s c.at 0 ≡ 15 → c.at + (1 + widths p.row) ≡ length s → drop c.at s ≡ 15 ∷ []
       at_last e q =
-          let r : some p.row ≡ some [] = sym p.has-row ∙ ap operands e ∙ end_row in
+          let r : Some p.row ≡ Some [] = sym p.has-row ∙ ap operands e ∙ end_row in
           let w : p.row ≡ [] = cc in
           let v = ap widths w in
           drop-cons s c.at 0 p.inside ∙ ap₂ ◌∷◌ e (drop_of_length-le s {i = suc c.at} (omega arith))
 
       last : get_or s c.at 0 ≡ 15 → (t : Bool) → eqb (c.at + (1 + widths p.row)) (length s) ≡ t
-          → cond t Done (Refused R.Misplaced (c.at + (1 + widths p.row))) ≡ Done → drop c.at s ≡ 15 ∷ []
+          → cond {A = Judged} t (Ok None) (Err (R.Misplaced, c.at + (1 + widths p.row))) ≡ Ok None → drop c.at s ≡ 15 ∷ []
       last e true q h = at_last e (eqb-true (c.at + (1 + widths p.row)) (length s) q)
       last e false q h = absurd (let z : ◌≡◌ {A = ℕ} 0 1 = cc in omega arith)
 
       go : (t : Bool) → eqb (get_or s c.at 0) 15 ≡ t
-          → cond t (cond (eqb (c.at + (1 + widths p.row)) (length s)) Done (Refused R.Misplaced (c.at + (1 + widths p.row))))
-          (Next (command_of (get_or s c.at 0) (drop c.at s)) (advanced c (get_or s c.at 0) (1 + widths p.row))) ≡ Done → drop c.at s ≡ 15 ∷ []
+          → cond {A = Judged} t (cond (eqb (c.at + (1 + widths p.row)) (length s)) (Ok None) (Err (R.Misplaced, c.at + (1 + widths p.row))))
+          (Ok (Some (command_of (get_or s c.at 0) (drop c.at s), advanced c (get_or s c.at 0) (1 + widths p.row)))) ≡ Ok None → drop c.at s ≡ 15 ∷ []
       go true e h = last (eqb-true (get_or s c.at 0) 15 e) (eqb (c.at + (1 + widths p.row)) (length s)) refl h
       go false e h = absurd (let z : ◌≡◌ {A = ℕ} 0 1 = cc in omega arith)
 
-  not_end : (c : Cursor) (b w : ℕ) (d : Command) (k : Cursor) → ready s c b w ≡ Next d k → b ≡ 15 → ⊥
+  not_end : (c : Cursor) (b w : ℕ) (d : Command) (k : Cursor) → ready s c b w ≡ Ok (Some (d, k)) → b ≡ 15 → ⊥
   unfolding ready
   not_end c b w d k e q =
-      go (eqb (c.at + w) (length s)) (sym (ap (λ (t : Bool). cond t (cond (eqb (c.at + w) (length s)) Done (Refused R.Misplaced (c.at + w))) (Next (command_of b (drop c.at s)) (advanced c b w))) (eq-eqb b 15 q)) ∙ e)
+      go (eqb (c.at + w) (length s)) (sym (ap (λ (t : Bool). cond {A = Judged} t (cond (eqb (c.at + w) (length s)) (Ok None) (Err (R.Misplaced, c.at + w))) (Ok (Some (command_of b (drop c.at s), advanced c b w)))) (eq-eqb b 15 q)) ∙ e)
     where
-      go : (t : Bool) → cond t Done (Refused R.Misplaced (c.at + w)) ≡ Next d k → ⊥
+      go : (t : Bool) → cond {A = Judged} t (Ok None) (Err (R.Misplaced, c.at + w)) ≡ Ok (Some (d, k)) → ⊥
       go true h = let z : ◌≡◌ {A = ℕ} 0 1 = cc in omega arith
       go false h = let z : ◌≡◌ {A = ℕ} 0 1 = cc in omega arith
 
@@ -130,7 +129,7 @@ module _ (side : Side) (pool : Str) (s : Str) where
   parse-whole (suc k) c ps e = go (parse-whole k) (judged_at side s pool c) refl e
     where
       on : ((d : Cursor) (qs : List ℕ) → parse k side s pool d ≡ ok qs → (xs : List Str) × CommandsFrom s d.at xs × AllWhole xs)
-          → (d : Command) (i : Cursor) → Passed side s pool c (Next d i) → (qs : List ℕ) → parse k side s pool i ≡ ok qs
+          → (d : Command) (i : Cursor) → Passed side s pool c (Ok (Some (d, i))) → (qs : List ℕ) → parse k side s pool i ≡ ok qs
           → (xs : List Str) × CommandsFrom s c.at xs × AllWhole xs
       on ih d i p qs h =
           let b = get_or s c.at 0 in
@@ -152,11 +151,11 @@ module _ (side : Side) (pool : Str) (s : Str) where
 
       go : ((d : Cursor) (qs : List ℕ) → parse k side s pool d ≡ ok qs → (xs : List Str) × CommandsFrom s d.at xs × AllWhole xs) → (j : Judged)
           → judged_at side s pool c ≡ j → continued c.at (parse k side s pool) j ≡ ok ps → (xs : List Str) × CommandsFrom s c.at xs × AllWhole xs
-      go ih (Next d i) f h =
+      go ih (Ok (Some (d, i))) f h =
           let t = onto-ok c.at (parse k side s pool i) ps (unfold continued in h) in
-          on ih d i (passed side s pool c (Next d i) tt f) t.more t.parsed-so
-      go ih Done f h = ([], done_end c (passed side s pool c Done tt f), λ x m. absurd (Memᴰ.not-nil m))
-      go ih (Refused r q) f h = unfold continued in absurd (let z : ◌≡◌ {A = ℕ} 0 1 = cc in omega arith)
+          on ih d i (passed side s pool c (Ok (Some (d, i))) tt f) t.more t.parsed-so
+      go ih (Ok None) f h = ([], done_end c (passed side s pool c (Ok None) tt f), λ x m. absurd (Memᴰ.not-nil m))
+      go ih (Err (r, q)) f h = unfold continued in absurd (let z : ◌≡◌ {A = ℕ} 0 1 = cc in omega arith)
 
 -- sections ----------------------------------------------------------------------------------------------------------------
 

@@ -1,9 +1,9 @@
 -- W-214: a pair of records whose sections stand in another order is accepted exactly if the pair is. Assumes nothing.
+use Rattle.std.specs.Prelude.{Option, Some, None}
 use mathlib.Core.Path.{◌≡◌, refl, sym, ◌∙◌, ap, ap₂, subst}
 use mathlib.Core.List.Memᴰ
 use mathlib.Core.List.Permᴰ
 use mathlib.Core.List.{List, [], ◌∷◌, ◌++◌, map, flatten, Permᴰ}
-use mathlib.Core.Option.{none}
 use mathlib.Core.Bool.{Bool, true, false, ◌&&◌, ◌||◌, cond}
 use Prim.Native.Nat.{ℕ, ◌+◌, ◌≤◌}
 use native.Mathlib.Omega.{arith}
@@ -23,8 +23,6 @@ use Rattle.record.specs.Reading.{Rec, rec, schema_from, schema_of, Opened, opene
 use Rattle.record.specs.declared.command.Parent.TheVariants.{NoParent}
 use Rattle.record.specs.declared.refusal.Side.{Side}
 use Rattle.record.specs.declared.refusal.Side.TheVariants.{Current, Released}
-use Rattle.record.specs.declared.letters.Letters.{Letters}
-use Rattle.record.specs.declared.letters.Letters.TheVariants.{Good, Odd}
 use Rattle.record.proofs.Accepted.{Accepted, accepting}
 use Rattle.record.proofs.Accepted as A
 use Rattle.definition.specs.Verdicts.{pass}
@@ -132,18 +130,18 @@ large-opened s (o ∷ l) = ap (λ (b : Bool). large-in s o.fields || b) (large-o
 -- a record as long as one that can be read, with its pool, can be read where it parses and has no vast type
 read-there : (side : Side) (a b : Rec) (t : Schema) (ps : List ℕ) → length a.stream ≡ length b.stream → a.pool ≡ b.pool
     → reading side a ≡ read t
-    → parsed side b ≡ ok ps → find (vast (schema_from b ps)) (opened b.stream b.pool ps) ≡ none → reading side b ≡ read (schema_from b ps)
+    → parsed side b ≡ ok ps → find (vast (schema_from b ps)) (opened b.stream b.pool ps) ≡ None → reading side b ≡ read (schema_from b ps)
 unfolding reading concluded sizes_of vast_or
 read-there side a b t ps l p h e v = go _ _ refl refl h
   where
-    go : (short : Bool) (letters : Letters) → (leb (length a.stream) stream_limit && leb (length a.pool) pool_limit) ≡ short
+    go : (short : Bool) (letters : Option ℕ) → (leb (length a.stream) stream_limit && leb (length a.pool) pool_limit) ≡ short
         → odd_letter a.pool ≡ letters → concluded a short letters (parsed side a) ≡ read t → reading side b ≡ read (schema_from b ps)
     go false letters f g k = absurd (let z : ◌≡◌ {A = ℕ} 0 1 = cc in omega arith)
-    go true (Odd i) f g k = absurd (let z : ◌≡◌ {A = ℕ} 0 1 = cc in omega arith)
-    go true Good f g k =
+    go true (Some i) f g k = absurd (let z : ◌≡◌ {A = ℕ} 0 1 = cc in omega arith)
+    go true None f g k =
         sym (λ i. concluded b (leb (length b.stream) stream_limit && leb (length b.pool) pool_limit) (odd_letter (p i)) (parsed side b))
         ∙ sym (λ i. concluded b (leb (l i) stream_limit && leb (length (p i)) pool_limit) (odd_letter a.pool) (parsed side b))
-        ∙ ap₂ (λ (x : Bool) (y : Letters). concluded b x y (parsed side b)) f g ∙ ap (concluded b true Good) e ∙ ap (vast_or (schema_from b ps)) v
+        ∙ ap₂ (λ (x : Bool) (y : Option ℕ). concluded b x y (parsed side b)) f g ∙ ap (concluded b true None) e ∙ ap (vast_or (schema_from b ps)) v
 
 -- a record of these commands and its schema
 schema-is : (p : Str) (w : List Scalar) (xs : List Str) → AllWhole xs → schema_of (rec (stream_of xs) p w) ≡ the_schema p w xs
@@ -215,7 +213,7 @@ module _ (side : Side) (p : Str) (w : List Scalar) (head : Str) (is-head : is_co
           opened-there : Permᴰ (the_opened p xs) (the_opened p ys)
           opened-there = unfold xs ys in opened-perm p head is-head secs others are-secs are-others s
 
-      vast-there : find (vast (the_schema p w ys)) (opened (stream_of ys) p (command_places 0 ys)) ≡ none
+      vast-there : find (vast (the_schema p w ys)) (opened (stream_of ys) p (command_places 0 ys)) ≡ None
       vast-there =
           any-none-found (vast (the_schema p w ys)) (opened (stream_of ys) p (command_places 0 ys))
           (large-opened (the_schema p w ys) (opened (stream_of ys) p (command_places 0 ys))

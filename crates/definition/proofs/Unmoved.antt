@@ -1,7 +1,7 @@
 -- One step: generation numbers, and the types under one that did not move. Assumes nothing.
+use Rattle.std.specs.Prelude.{Option, Some, None}
 use mathlib.Core.Path.{◌≡◌, refl, sym, ◌∙◌, ap, subst}
 use mathlib.Core.List.{List, [], ◌∷◌, Memᴰ}
-use mathlib.Core.Option.{Option, none, some}
 use mathlib.Core.Bool.{Bool, true, false, ◌&&◌, not, cond, false≢true}
 use Prim.Native.Nat.{ℕ, ◌+◌, ◌^◌, ◌≤◌}
 use native.Mathlib.Omega.{arith}
@@ -27,51 +27,51 @@ use Rattle.definition.specs.Chain.{Names, Carries, Holds, Laid}
 use Rattle.definition.proofs.Passes.{stop≢pass, then-pass, ensured, ensure-false, each-pass, found-stop, on_some, none_found}
 use Rattle.definition.proofs.Same.{eq_places→eq, key-only, slot-only, owning-plain, owning-variant}
 
-pub is_text→eq : (o : Option Str) (s : Str) → is_text o s ≡ true → o ≡ some s
+pub is_text→eq : (o : Option Str) (s : Str) → is_text o s ≡ true → o ≡ Some s
 unfolding is_text
-is_text→eq none s h = absurd (false≢true h)
-is_text→eq (some t) s h = ap some (eqs→eq t s h)
+is_text→eq None s h = absurd (false≢true h)
+is_text→eq (Some t) s h = ap Some (eqs→eq t s h)
 
-eq→is_text : (o : Option Str) (s : Str) → o ≡ some s → is_text o s ≡ true
+eq→is_text : (o : Option Str) (s : Str) → o ≡ Some s → is_text o s ≡ true
 unfolding is_text
 eq→is_text o s e = rw e (eqs-refl s)
 
 -- the structure of a slot is found in it, and under its name
 module _ (s : Schema) (names : Names s) {root k : Str} (c : Carries s.structs root k) where
-  in-slot : struct_in_slot c.slot s.structs ≡ some c.struct
+  in-slot : struct_in_slot c.slot s.structs ≡ Some c.struct
   unfolding struct_in_slot
   in-slot =
       find-only (λ (t : Struct). is_text t.slot c.slot) s.structs c.is-struct (eq→is_text _ _ c.in-slot)
       (λ y m h. slot-only s.structs names.slots-once m c.is-struct (is_text→eq _ _ h) c.in-slot)
 
-  by_name : struct_in root s.structs ≡ some c.struct
+  by_name : struct_in root s.structs ≡ Some c.struct
   unfolding struct_in
   by_name =
       find-only (λ (t : Struct). eqs t.name root) s.structs c.is-struct (rw c.struct-name (eqs-refl root))
       (λ y m h. key-only (λ (t : Struct). t.name) s.structs names.structs-once m c.is-struct (eqs→eq _ _ h ∙ sym c.struct-name))
 
-roots-mem : (ss : List Struct) (slots : List Str) {slot : Str} {t : Struct} → Memᴰ slot slots → struct_in_slot slot ss ≡ some t → Memᴰ t.name (roots_in ss slots)
+roots-mem : (ss : List Struct) (slots : List Str) {slot : Str} {t : Struct} → Memᴰ slot slots → struct_in_slot slot ss ≡ Some t → Memᴰ t.name (roots_in ss slots)
 unfolding roots_in with_name
 roots-mem ss [] m e = absurd (mathlib.Core.List.Memᴰ.not-nil m)
 roots-mem ss (x ∷ xs) (mathlib.Core.List.Memᴰ.head p) e = rw (ap (λ (a : Str). struct_in_slot a ss) (sym p) ∙ e) (mathlib.Core.List.Memᴰ.head refl)
 roots-mem ss (x ∷ xs) {slot} {t} (mathlib.Core.List.Memᴰ.tail m) e = go (struct_in_slot x ss) (roots-mem ss xs m e)
   where
     go : (o : Option Struct) → Memᴰ t.name (roots_in ss xs) → Memᴰ t.name (with_name o (roots_in ss xs))
-    go none r = r
-    go (some u) r = mathlib.Core.List.Memᴰ.tail r
+    go None r = r
+    go (Some u) r = mathlib.Core.List.Memᴰ.tail r
 
-as-generation : (k : Str) (n : ℕ) {g : Held} → as_generation k (integer n) ≡ some g → (g.constant ≡ k) × (g.number ≡ n)
+as-generation : (k : Str) (n : ℕ) {g : Held} → as_generation k (integer n) ≡ Some g → (g.constant ≡ k) × (g.number ≡ n)
 unfolding as_generation
 as-generation k n {g} h = go (ltb n (2 ^ 32)) h
   where
-    go : (b : Bool) → cond b (some (record { constant = k; number = n })) none ≡ some g → (g.constant ≡ k) × (g.number ≡ n)
+    go : (b : Bool) → cond b (Some (record { constant = k; number = n })) None ≡ Some g → (g.constant ≡ k) × (g.number ≡ n)
     go true e =
         let q : ◌≡◌ {A = Held} (record { constant = k; number = n }) g = cc in
         (ap (λ (x : Held). x.constant) (sym q), ap (λ (x : Held). x.number) (sym q))
     go false e = absurd (let z : ◌≡◌ {A = ℕ} 0 1 = cc in omega arith)
 
 generation-is : (s : Schema) → Names s → {root k : Str} → Carries s.structs root k → {n : ℕ} → Holds s.constants k n → {g : Held}
-    → generation_of s.structs s.constants root ≡ some g → (g.constant ≡ k) × (g.number ≡ n)
+    → generation_of s.structs s.constants root ≡ Some g → (g.constant ≡ k) × (g.number ≡ n)
 unfolding generation_of of_struct of_version of_constant
 generation-is s names {root} {k} c {n} h {g} e =
     as-generation k n (rw (by_name s names c, c.names, h.is_found, h.is-integer) at e)
@@ -79,7 +79,7 @@ generation-is s names {root} {k} c {n} h {g} e =
 -- what the pass on one root says of two numbers
 pub record Rise (touched : Option Str) (was is : ℕ) : Type 0 where
   pub up : was ≤ is
-  pub still : is ≡ was → touched ≡ none
+  pub still : is ≡ was → touched ≡ None
 
 rise-of : (now : Str) (copy : Option Str) (vs : List Version) (touched : Option Str) (root k : Str) (was is : ℕ)
     → check_rise now copy vs touched root k was is ≡ pass → Rise touched was is
@@ -130,9 +130,9 @@ ships s names {t} i m j e = go (from-types s i)
 
 module _ (cur rel : Schema) (names : Names cur) (root : Str)
     (hs : check_standalone cur.families rel.families (types cur) (types rel) ≡ pass)
-    (hg : first_under (types_in cur) (changed (types cur) (types rel)) root ≡ none) where
+    (hg : first_under (types_in cur) (changed (types cur) (types rel)) root ≡ None) where
   -- a family standing alone
-  alone : (w i : TypeLayout) → Memᴰ i (types cur) → type_in i.name (types rel) ≡ some w → type_in i.name (types cur) ≡ some i
+  alone : (w i : TypeLayout) → Memᴰ i (types cur) → type_in i.name (types rel) ≡ Some w → type_in i.name (types cur) ≡ Some i
       → stands_alone cur.families (owning i.name) ≡ true → i.fields ≡ w.fields
   unfolding check_standalone check_family check_shipped_all check_shipped check_same stands_alone shipped_family_changed
   alone w i m ew ei h =
@@ -146,8 +146,8 @@ module _ (cur rel : Schema) (names : Names cur) (root : Str)
       let at_both = on_some (type_in i.name (types cur)) _ _ ei at-now in
       eq_places→eq _ _ (ensured _ _ _ at_both)
 
-  same-fields : (w i : TypeLayout) → Memᴰ i (types cur) → type_in i.name (types rel) ≡ some w → type_in i.name (types cur) ≡ some i
-      → owner_of (types_in cur) (owning i.name) ≡ some root → i.fields ≡ w.fields
+  same-fields : (w i : TypeLayout) → Memᴰ i (types cur) → type_in i.name (types rel) ≡ Some w → type_in i.name (types cur) ≡ Some i
+      → owner_of (types_in cur) (owning i.name) ≡ Some root → i.fields ≡ w.fields
   unfolding changed same_as under first_under map_option
   same-fields w i m ew ei owned = go (same_as (type_in i.name (types rel)) i) refl
     where
@@ -156,7 +156,7 @@ module _ (cur rel : Schema) (names : Names cur) (root : Str)
           let found = find-any (under (types_in cur) root) _
           (filter-mem (λ (t : TypeLayout). not (same_as (type_in t.name (types rel)) t)) (types cur) m (ap not e))
           (rw f (eq→is_text _ _ owned)) in
-          let gone : none ≡ some found.0.name = sym hg ∙ ap (map_option (λ (t : TypeLayout). t.name)) found.1 in
+          let gone : None ≡ Some found.0.name = sym hg ∙ ap (map_option (λ (t : TypeLayout). t.name)) found.1 in
           let z : ◌≡◌ {A = ℕ} 0 1 = cc in omega arith
 
       moved : same_as (type_in i.name (types rel)) i ≡ false → (b : Bool) → stands_alone cur.families (owning i.name) ≡ b → i.fields ≡ w.fields
@@ -171,8 +171,8 @@ module _ (cur rel : Schema) (names : Names cur) (root : Str)
 pub unmoved : (cur rel : Schema) → Names cur → (root : Str) {type : Str} {fs : List FieldLayout}
     → check_fields (types cur) (types rel) ≡ pass
     → check_standalone cur.families rel.families (types cur) (types rel) ≡ pass
-    → first_under (types_in cur) (changed (types cur) (types rel)) root ≡ none
-    → owner_of (types_in cur) (owning type) ≡ some root
+    → first_under (types_in cur) (changed (types cur) (types rel)) root ≡ None
+    → owner_of (types_in cur) (owning type) ≡ Some root
     → Laid (types rel) type fs → Laid (types cur) type fs
 unfolding check_fields check_type type_in type_gone
 unmoved cur rel names root {type} {fs} hf hs hg owned l =
@@ -182,14 +182,14 @@ unmoved cur rel names root {type} {fs} hf hs hg owned l =
     let is = found-stop (type_in l.found.name (types cur)) _ _ _ at-type in
     let in-cur = find-some (λ (x : TypeLayout). eqs x.name l.found.name) (types cur) is.1 in
     let cur-name : is.0.name ≡ type = eqs→eq _ _ in-cur.1 ∙ rel-name in
-    let is_found : type_in type (types cur) ≡ some is.0 = subst (λ (n : Str). type_in n (types cur) ≡ some is.0) rel-name is.1 in
+    let is_found : type_in type (types cur) ≡ Some is.0 = subst (λ (n : Str). type_in n (types cur) ≡ Some is.0) rel-name is.1 in
     record {
       found = is.0;
       is_found = is_found;
       is-fields =
           same-fields cur rel names root hs hg l.found is.0 in-cur.0
-          (subst (λ (n : Str). type_in n (types rel) ≡ some l.found) (sym cur-name) l.is_found)
-          (subst (λ (n : Str). type_in n (types cur) ≡ some is.0) (sym cur-name) is_found)
-          (subst (λ (n : Str). owner_of (types_in cur) (owning n) ≡ some root) (sym cur-name) owned)
+          (subst (λ (n : Str). type_in n (types rel) ≡ Some l.found) (sym cur-name) l.is_found)
+          (subst (λ (n : Str). type_in n (types cur) ≡ Some is.0) (sym cur-name) is_found)
+          (subst (λ (n : Str). owner_of (types_in cur) (owning n) ≡ Some root) (sym cur-name) owned)
           ∙ l.is-fields;
     }

@@ -1,8 +1,8 @@
 -- A stream of whole commands is judged without a refusal exactly if each command may stand where it does and has no fault. Assumes nothing.
+use Rattle.std.specs.Prelude.{Option, Some, None, Result, Ok, Err}
 use mathlib.Core.Path.{◌≡◌, refl, sym, ◌∙◌, ap, ap₂}
 use mathlib.Core.List.Memᴰ
 use mathlib.Core.List.{List, [], ◌∷◌, ◌++◌}
-use mathlib.Core.Option.{Option, none, some}
 use mathlib.Core.Bool.{Bool, true, false, ◌&&◌, not, cond, false≢true}
 use Prim.Native.Nat.{ℕ, zero, suc, ◌+◌, ◌-◌, ◌≤◌}
 use native.Mathlib.Omega.{arith}
@@ -23,12 +23,11 @@ use Rattle.record.specs.declared.refusal.Side.{Side}
 use Rattle.record.specs.declared.refusal.Refusal.TheVariants as R
 use Rattle.record.specs.declared.judge.Fault.{Fault}
 use Rattle.record.specs.declared.judge.Fault.TheVariants.{Fine, Outside, Missing, Flag}
-use Rattle.record.specs.declared.judge.Judged.{Judged}
-use Rattle.record.specs.declared.judge.Judged.TheVariants.{Next, Done, Refused}
-use Rattle.record.proofs.Basics.{both}
+use Rattle.record.proofs.Basics.{both, same-parts}
 use Rattle.record.proofs.Accepted.{Passed, passed, onto-ok}
 use Rattle.definition.specs.Sections.{number, stream_of}
 use Rattle.definition.proofs.CommandStreams.{EachNumber, no_number, and_one, each-one, command_numbers, Whole, AllWhole, some_bytes, no_end, command_places, CommandsFrom, number-here, next_here, length-here, cells, own-bytes}
+use Rattle.record.specs.Judge.{Judged}
 
 -- faults --------------------------------------------------------------------------------------------------------------------------
 
@@ -48,18 +47,18 @@ fine-is Flag h = absurd (false≢true h)
 unfoldable pub faultless : Side → Str → Str → Bool
 faultless side pool x = is_fine (faults_of side pool x (operands (number x)))
 
-pub end_row : operands 15 ≡ some []
+pub end_row : operands 15 ≡ Some []
 unfolding operands bytes
 end_row = refl
 
 -- a number that has a width has a row
-row_of : (b : ℕ) → 1 ≤ width_of b → (os : Str) × (operands b ≡ some os) × (1 + widths os ≡ width_of b)
+row_of : (b : ℕ) → 1 ≤ width_of b → (os : Str) × (operands b ≡ Some os) × (1 + widths os ≡ width_of b)
 unfolding width_of width_with
 row_of b h = go (operands b) refl h
   where
-    go : (o : Option Str) → operands b ≡ o → 1 ≤ width_with o → (os : Str) × (operands b ≡ some os) × (1 + widths os ≡ width_with (operands b))
-    go none e k = absurd (omega arith)
-    go (some os) e k = (os, e, sym (ap width_with e))
+    go : (o : Option Str) → operands b ≡ o → 1 ≤ width_with o → (os : Str) × (operands b ≡ Some os) × (1 + widths os ≡ width_with (operands b))
+    go None e k = absurd (omega arith)
+    go (Some os) e k = (os, e, sym (ap width_with e))
 
 module _ (side : Side) (pool : Str) (s : Str) (at : ℕ) (x : Str) (xs : List Str) (h : CommandsFrom s at (x ∷ xs)) (c : Whole x) where
   -- the operands of a command of this number are judged by its own bytes
@@ -104,21 +103,23 @@ and-true e f = rw (e, f)
 
 module _ (side : Side) (pool : Str) (s : Str) where
   -- a judgement that lets a command pass
-  pub taken_next : (c : Cursor) (b w : ℕ) (d : Command) (k : Cursor) → (b ≡ 15 → ⊥) → ready s c b w ≡ Next d k → advanced c b w ≡ k
+  pub taken_next : (c : Cursor) (b w : ℕ) (d : Command) (k : Cursor) → (b ≡ 15 → ⊥) → ready s c b w ≡ Ok (Some (d, k)) → advanced c b w ≡ k
   unfolding ready
   taken_next c b w d k g e = go (eqb b 15) refl e
     where
       go : (t : Bool) → eqb b 15 ≡ t
-          → cond t (cond (eqb (c.at + w) (length s)) Done (Refused R.Misplaced (c.at + w))) (Next (command_of b (drop c.at s)) (advanced c b w)) ≡ Next d k → advanced c b w ≡ k
+          → cond {A = Judged} t (cond (eqb (c.at + w) (length s)) (Ok None) (Err (R.Misplaced, c.at + w))) (Ok (Some (command_of b (drop c.at s), advanced c b w))) ≡ Ok (Some (d, k)) → advanced c b w ≡ k
       go true q h = absurd (g (eqb-true b 15 q))
-      go false q h = cc
+      go false q h =
+          let z : ◌≡◌ {A = Option (Command × Cursor)} (Some (command_of b (drop c.at s), advanced c b w)) (Some (d, k)) = cc in
+          (same-parts z).1
 
-  not_done : (c : Cursor) (b w : ℕ) → (b ≡ 15 → ⊥) → ready s c b w ≡ Done → ⊥
+  not_done : (c : Cursor) (b w : ℕ) → (b ≡ 15 → ⊥) → ready s c b w ≡ Ok None → ⊥
   unfolding ready
   not_done c b w g e = go (eqb b 15) refl e
     where
       go : (t : Bool) → eqb b 15 ≡ t
-          → cond t (cond (eqb (c.at + w) (length s)) Done (Refused R.Misplaced (c.at + w))) (Next (command_of b (drop c.at s)) (advanced c b w)) ≡ Done → ⊥
+          → cond {A = Judged} t (cond (eqb (c.at + w) (length s)) (Ok None) (Err (R.Misplaced, c.at + w))) (Ok (Some (command_of b (drop c.at s), advanced c b w))) ≡ Ok None → ⊥
       go true q h = g (eqb-true b 15 q)
       go false q h = let z : ◌≡◌ {A = ℕ} 0 1 = cc in omega arith
 
@@ -128,7 +129,7 @@ module _ (side : Side) (pool : Str) (s : Str) where
   unfolding faultless faults_of width_of width_with
   pass-here c x xs h m j p =
       let e = number-here s c.at x xs h m in
-      let row : operands (number x) ≡ some p.row = ap operands (sym e) ∙ p.has-row in
+      let row : operands (number x) ≡ Some p.row = ap operands (sym e) ∙ p.has-row in
       let w : 1 + widths p.row ≡ length x = sym (ap width_with row) ∙ sym m.wide in (
         sym (stands_after c (number x)) ∙ ap (may_stand c) (sym e) ∙ p.stands,
         ap is_fine (sym (faults-own side pool s c.at x xs h m) ∙ ap (faults_of side pool (drop c.at s)) row ∙ p.fine),
@@ -152,9 +153,9 @@ module _ (side : Side) (pool : Str) (s : Str) where
       stood t = unfold may_stand in t
 
       end : (j : Judged) → judged_at side s pool c ≡ j → continued c.at (parse k side s pool) j ≡ ok ps → not (eqb c.last 0) ≡ true
-      end (Next d i) f g = stood (ap (may_stand c) (sym number-end) ∙ (passed side s pool c (Next d i) tt f).stands)
-      end Done f g = stood (ap (may_stand c) (sym number-end) ∙ (passed side s pool c Done tt f).stands)
-      end (Refused r q) f g = unfold continued in absurd (let z : ◌≡◌ {A = ℕ} 0 1 = cc in omega arith)
+      end (Ok (Some (d, i))) f g = stood (ap (may_stand c) (sym number-end) ∙ (passed side s pool c (Ok (Some (d, i))) tt f).stands)
+      end (Ok None) f g = stood (ap (may_stand c) (sym number-end) ∙ (passed side s pool c (Ok None) tt f).stands)
+      end (Err (r, q)) f g = unfold continued in absurd (let z : ◌≡◌ {A = ℕ} 0 1 = cc in omega arith)
   parsed-valid (suc k) c (x ∷ xs) ps h m e =
       go (λ d ps' i q. parsed-valid k d xs ps' i (λ z y. m z (Memᴰ.tail y)) q) (judged_at side s pool c) refl e
     where
@@ -170,15 +171,15 @@ module _ (side : Side) (pool : Str) (s : Str) where
           → (j : Judged) → judged_at side s pool c ≡ j
           → continued c.at (parse k side s pool) j ≡ ok ps
           → (may_stand (cursor_after c.last c.parent) (number x) && (faultless side pool x && valid side pool (number x) (parent_after c.parent (number x)) xs)) ≡ true
-      go ih (Next d i) f g =
-          let w = pass-here c x xs h here-cmd (Next d i) (passed side s pool c (Next d i) tt f) in
+      go ih (Ok (Some (d, i))) f g =
+          let w = pass-here c x xs h here-cmd (Ok (Some (d, i))) (passed side s pool c (Ok (Some (d, i))) tt f) in
           let t = onto-ok c.at (parse k side s pool i) ps (unfold continued in g) in
           and-true w.0 (and-true w.1 (on i (taken_next c (number x) (length x) d i (no_end here-cmd) w.2) ih t.more t.parsed-so))
-      go ih Done f g = absurd (not_done c (number x) (length x) (no_end here-cmd) (pass-here c x xs h here-cmd Done (passed side s pool c Done tt f)).2)
-      go ih (Refused r q) f g = unfold continued in absurd (let z : ◌≡◌ {A = ℕ} 0 1 = cc in omega arith)
+      go ih (Ok None) f g = absurd (not_done c (number x) (length x) (no_end here-cmd) (pass-here c x xs h here-cmd (Ok None) (passed side s pool c (Ok None) tt f)).2)
+      go ih (Err (r, q)) f g = unfold continued in absurd (let z : ◌≡◌ {A = ℕ} 0 1 = cc in omega arith)
 
   -- what is valid is parsed
-  judged-end : (c : Cursor) → CommandsFrom s c.at [] → not (eqb c.last 0) ≡ true → judged_at side s pool c ≡ Done
+  judged-end : (c : Cursor) → CommandsFrom s c.at [] → not (eqb c.last 0) ≡ true → judged_at side s pool c ≡ Ok None
   unfolding judged_at judged_with stream_of may_stand ready widths faults_from
   judged-end c h t =
       let l : length s - c.at ≡ 1 = sym (length-drop c.at s) ∙ ap (λ (y : Str). length y) h in
@@ -188,7 +189,7 @@ module _ (side : Side) (pool : Str) (s : Str) where
 
   judged-next : (c : Cursor) (x : Str) (xs : List Str) → CommandsFrom s c.at (x ∷ xs) → Whole x
       → may_stand (cursor_after c.last c.parent) (number x) ≡ true → faultless side pool x ≡ true
-      → judged_at side s pool c ≡ Next (command_of (number x) (drop c.at s)) (advanced c (number x) (length x))
+      → judged_at side s pool c ≡ Ok (Some (command_of (number x) (drop c.at s), advanced c (number x) (length x)))
   unfolding judged_at judged_with ready faultless faults_of
   judged-next c x xs h m t f =
       let l = length-here s c.at x xs h m in

@@ -1,6 +1,5 @@
 -- Bit-field releases: check_bitfield_releases and check_arrived of layout.rs, verdicts 31 and 32. Assumes nothing.
-use Rattle.std.specs.Prelude.{List}
-use Rattle.std.proofs.Math.Option.{Option, none, some}
+use Rattle.std.specs.Prelude.{List, Option, Some, None}
 use Rattle.record.specs.Base.{Str, eqs, or_else, or_option, map_option}
 use Rattle.record.specs.Schema.{BitField, Member}
 use Rattle.record.specs.Steps.{bitfield_in, member_in}
@@ -13,16 +12,16 @@ bitfield_release was = map_option (λ (b : BitField). b.since) was
 
 -- a member's own release, else its bit field's
 unfoldable pub member_release : Option BitField → Str → Option (Option Str)
-member_release none n = none
-member_release (some was) n = map_option (λ (m : Member). or_option m.since was.since) (member_in n was.members)
+member_release None n = None
+member_release (Some was) n = map_option (λ (m : Member). or_option m.since was.since) (member_in n was.members)
 
 -- the current release
 module _ (now : Str) where
   -- what it is, its release, and what the copy says of it
   unfoldable pub check_arrived : Item → Str → Option (Option Str) → Verdict
-  check_arrived what release none = ensure (eqs release now) (bits_late what now release)
-  check_arrived what release (some (some was)) = ensure (eqs release was) (bits_redated what was release)
-  check_arrived what release (some none) = pass
+  check_arrived what release None = ensure (eqs release now) (bits_late what now release)
+  check_arrived what release (Some (Some was)) = ensure (eqs release was) (bits_redated what was release)
+  check_arrived what release (Some None) = pass
 
   -- the bit field's name and release, what it was, and one of its members
   unfoldable pub check_member_arrived : Str → Str → Option BitField → Member → Verdict

@@ -1,6 +1,5 @@
 -- Bit fields: check_bitfields of layout.rs, verdicts 26 to 30. Assumes nothing.
-use Rattle.std.specs.Prelude.{List, ◌&&◌, ℕ, eqb}
-use Rattle.std.proofs.Math.Option.{Option}
+use Rattle.std.specs.Prelude.{List, ◌&&◌, ℕ, eqb, Option}
 use Rattle.record.specs.Base.{Str, or_else, find}
 use Rattle.record.specs.Schema.{BitField, Member}
 use Rattle.record.specs.Steps.{bitfield_in, member_in}

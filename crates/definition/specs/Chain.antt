@@ -1,7 +1,6 @@
 -- What a record holds, the premises of demand 3 (01, Premises of the chain), and what demand 3 says of two schemas. Assumes nothing.
-use Rattle.std.specs.Prelude.{◌≡◌, false, ℕ}
+use Rattle.std.specs.Prelude.{◌≡◌, false, ℕ, Some}
 use mathlib.Core.List.{List, [], ◌∷◌, map, Memᴰ}
-use Rattle.std.proofs.Math.Option.{some}
 use Rattle.record.specs.Base.{Str, with_some}
 use Rattle.record.specs.Schema.{Schema, integer, Const, Enum, EnumValue, BitField, Member, Field, Struct, Family, Variant}
 use Rattle.record.specs.Steps.{constant_in}
@@ -53,13 +52,13 @@ pub record HasField (ts : List TypeLayout) (type field : Str) (offset size : ℕ
 -- this constant as this integer; the first of the name, under 01's premises the only one
 pub record Holds (cs : List Const) (constant : Str) (number : ℕ) : Type 0 where
   pub found : Const
-  pub is_found : constant_in constant cs ≡ some found
+  pub is_found : constant_in constant cs ≡ Some found
   pub is-integer : found.value ≡ integer number
 
 -- a layout of this name with these fields, in this order
 pub record Laid (ts : List TypeLayout) (type : Str) (fields : List FieldLayout) : Type 0 where
   pub found : TypeLayout
-  pub is_found : type_in type ts ≡ some found
+  pub is_found : type_in type ts ≡ Some found
   pub is-fields : found.fields ≡ fields
 
 -- the premises, each with 01's words for it -----------------------------------------------------------------------------------------
@@ -103,9 +102,9 @@ pub record Carries (ss : List Struct) (root constant : Str) : Type 0 where
   -- "the structure fills one of the three slots"
   pub slot : Str
   pub is-slot : Memᴰ slot slot_order
-  pub in-slot : struct.slot ≡ some slot
+  pub in-slot : struct.slot ≡ Some slot
   -- "and names the same constant"
-  pub names : struct.version ≡ some constant
+  pub names : struct.version ≡ Some constant
 
 -- for the second sentence, of the accepted records: a type under the number that this structure's constant holds
 pub record Governed (root constant type : Str) (s : Schema) : Type 0 where
@@ -115,7 +114,7 @@ pub record Governed (root constant type : Str) (s : Schema) : Type 0 where
   pub number : ℕ
   pub holds : Holds s.constants constant number
   -- "the type, by its name before the first "::" .. is owned by that structure in every later record"
-  pub owned : owner_of (types_in s) (owning type) ≡ some root
+  pub owned : owner_of (types_in s) (owning type) ≡ Some root
 
 -- what demand 3 asks --------------------------------------------------------------------------------------------------------------
 

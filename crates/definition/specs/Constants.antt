@@ -1,6 +1,5 @@
 -- Constants: check_constants of layout.rs, verdicts 20 and 21. Assumes nothing.
-use Rattle.std.specs.Prelude.{List, Bool, false, ◌||◌}
-use Rattle.std.proofs.Math.Option.{Option, none, some}
+use Rattle.std.specs.Prelude.{List, Bool, false, ◌||◌, Option, Some, None}
 use Rattle.record.specs.Base.{Str, eqs, signed, find_last, any}
 use Rattle.record.specs.Schema.{Value, integer, words, Const, Struct}
 use Rattle.layout.specs.Sorted.{sorted}
@@ -19,8 +18,8 @@ unfoldable pub last_constant : Str → List Const → Option Const
 last_constant n l = find_last (λ (c : Const). eqs c.name n) l
 
 unfoldable pub holds_in : Str → Option Held → Bool
-holds_in n none = false
-holds_in n (some g) = eqs g.constant n
+holds_in n None = false
+holds_in n (Some g) = eqs g.constant n
 
 -- one of the structures of these names keeps its generation in the constant of that name
 unfoldable pub held_by_any : List Struct → List Const → List Str → Str → Bool

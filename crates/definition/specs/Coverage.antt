@@ -1,6 +1,5 @@
 -- Coverage: which generation number covers a changed type, in check_generations of layout.rs; verdict 40. Assumes nothing.
-use Rattle.std.specs.Prelude.{List, [], ◌∷◌, Bool, ◌&&◌, not, cond, eqb}
-use Rattle.std.proofs.Math.Option.{Option}
+use Rattle.std.specs.Prelude.{List, [], ◌∷◌, Bool, ◌&&◌, not, cond, eqb, Option}
 use Rattle.record.specs.Base.{Str, eqs, is_text, map_option, find, any}
 use Rattle.record.specs.Schema.{Family}
 use Rattle.record.specs.Owner.{Types, owner_of}

@@ -1,6 +1,5 @@
 -- Enums: check_enums of layout.rs, verdicts 22 to 25. Assumes nothing.
-use Rattle.std.specs.Prelude.{List, ℕ, eqb}
-use Rattle.std.proofs.Math.Option.{Option}
+use Rattle.std.specs.Prelude.{List, ℕ, eqb, Option}
 use Rattle.record.specs.Base.{Str, find}
 use Rattle.record.specs.Schema.{Enum, EnumValue}
 use Rattle.record.specs.Steps.{enum_in, value_in}

@@ -1,6 +1,5 @@
 -- Fields: check_fields of layout.rs, verdicts 33 to 37, and the types whose layout changed. Assumes nothing.
-use Rattle.std.specs.Prelude.{List, [], ◌∷◌, Bool, true, false, ◌&&◌, not, eqb}
-use Rattle.std.proofs.Math.Option.{Option, none, some}
+use Rattle.std.specs.Prelude.{List, [], ◌∷◌, Bool, true, false, ◌&&◌, not, eqb, Option, Some, None}
 use Rattle.std.specs.Bool.{beq}
 use Rattle.record.specs.Base.{Str, eqs, find, filter_b}
 use Rattle.record.specs.Shapes.{FieldLayout}
@@ -49,8 +48,8 @@ eq_places (a ∷ as₀) [] = false
 eq_places (a ∷ as₀) (b ∷ bs) = eq_place a b && eq_places as₀ bs
 
 unfoldable pub same_as : Option TypeLayout → TypeLayout → Bool
-same_as none is = false
-same_as (some was) is = eq_places was.fields is.fields
+same_as None is = false
+same_as (Some was) is = eq_places was.fields is.fields
 
 -- the current types whose layout differs at all, new ones included, in byte order
 unfoldable pub changed : List TypeLayout → List TypeLayout → List TypeLayout

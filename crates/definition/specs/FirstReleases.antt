@@ -1,6 +1,5 @@
 -- First releases: check_first_releases and check_arrival of layout.rs, verdicts 16 to 19. First releases compare as text. Assumes nothing.
-use Rattle.std.specs.Prelude.{List, ◌&&◌, ◌||◌, not}
-use Rattle.std.proofs.Math.Option.{Option, none, some}
+use Rattle.std.specs.Prelude.{List, ◌&&◌, ◌||◌, not, Option, Some, None}
 use Rattle.record.specs.Base.{Str, eqs, is_some, or_option, map_option, find_last}
 use Rattle.record.specs.Schema.{Const, Enum, EnumValue, Key}
 use Rattle.record.specs.Steps.{value_in}
@@ -21,8 +20,8 @@ enum_release was = map_option (λ (e : Enum). e.since) was
 
 -- a value's own release, else its enum's
 unfoldable pub value_release : Option Enum → Str → Option (Option Str)
-value_release none n = none
-value_release (some was) n = map_option (λ (v : EnumValue). or_option v.since was.since) (value_in n was.values)
+value_release None n = None
+value_release (Some was) n = map_option (λ (v : EnumValue). or_option v.since was.since) (value_in n was.values)
 
 unfoldable pub key_release : Str → List Key → Option (Option Str)
 key_release n l = map_option (λ (k : Key). k.since) (find_last (λ (k : Key). eqs k.name n) l)
@@ -31,9 +30,9 @@ key_release n l = map_option (λ (k : Key). k.since) (find_last (λ (k : Key). e
 module _ (now : Str) (copy : Option Str) where
   -- what it is, the release it names, and what the copy says of it
   unfoldable pub check_arrival : Item → Str → Option (Option Str) → Verdict
-  check_arrival what names none = ensure (eqs names now) (late what now names)
-  check_arrival what names (some (some was)) = ensure (eqs names was) (redated what was names)
-  check_arrival what names (some none) = ensure (not (eqs names now)) (backdated what copy now)
+  check_arrival what names None = ensure (eqs names now) (late what now names)
+  check_arrival what names (Some (Some was)) = ensure (eqs names was) (redated what was names)
+  check_arrival what names (Some None) = ensure (not (eqs names now)) (backdated what copy now)
 
   -- one of the plugin API; without a first release it is passed over
   unfoldable pub check_constant_arrival : List Const → Const → Verdict

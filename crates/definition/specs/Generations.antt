@@ -1,6 +1,5 @@
 -- Generations: check_generations of layout.rs, verdicts 40 to 46. Assumes nothing.
-use Rattle.std.specs.Prelude.{List, Bool, ◌&&◌, cond, ℕ, ◌+◌, ◌^◌, eqb, ltb}
-use Rattle.std.proofs.Math.Option.{Option, none, some}
+use Rattle.std.specs.Prelude.{List, Bool, ◌&&◌, cond, ℕ, ◌+◌, ◌^◌, eqb, ltb, Option, Some, None}
 use Rattle.record.specs.Base.{Str, eqs, any}
 use Rattle.record.specs.Schema.{Value, integer, words, Const, Struct, Version}
 use Rattle.record.specs.Steps.{constant_in}
@@ -35,8 +34,8 @@ module _ (now : Str) (copy : Option Str) (vs : List Version) where
 
   -- 01: an absent released generation constant is skipped
   unfoldable pub check_against : Option Str → Str → Str → ℕ → Option Const → Verdict
-  check_against touched root k is none = pass
-  check_against touched root k is (some c) = check_from touched root k is c.value
+  check_against touched root k is None = pass
+  check_against touched root k is (Some c) = check_from touched root k is c.value
 
   -- the current structures and constants, the released constants, the first changed type under each root, and a root
   unfoldable pub check_generation : List Struct → List Const → List Const → (Str → Option Str) → Str → Verdict

@@ -1,6 +1,5 @@
 -- How a pass is put together. 01, What a check returns: the first violation is the verdict. Assumes nothing.
-use Rattle.std.specs.Prelude.{List, [], ◌∷◌, Bool, true, false, ◌&&◌}
-use Rattle.std.proofs.Math.Option.{Option, none, some}
+use Rattle.std.specs.Prelude.{List, [], ◌∷◌, Bool, true, false, ◌&&◌, Option, Some, None}
 use Rattle.record.specs.Base.{Str, or_else}
 use Rattle.definition.specs.Verdicts.{Verdict, pass, stop}
 
@@ -26,8 +25,8 @@ module _ {A : Type 0} where
 
   -- this verdict where nothing is found, else that of what is
   unfoldable pub on_found : Option A → Verdict → (A → Verdict) → Verdict
-  on_found none v f = v
-  on_found (some a) v f = f a
+  on_found None v f = v
+  on_found (Some a) v f = f a
 
   unfoldable pub empty : List A → Bool
   empty [] = true

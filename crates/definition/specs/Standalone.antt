@@ -1,6 +1,5 @@
 -- Standalone families: check_standalone of layout.rs, verdicts 38 and 39. Assumes nothing.
-use Rattle.std.specs.Prelude.{List, ◌∷◌, map, Bool, not}
-use Rattle.std.proofs.Math.Option.{Option}
+use Rattle.std.specs.Prelude.{List, ◌∷◌, map, Bool, not, Option}
 use Rattle.std.specs.Bool.{beq}
 use Rattle.record.specs.Base.{Str, is_some, map_option, find}
 use Rattle.record.specs.Schema.{Family, Variant}

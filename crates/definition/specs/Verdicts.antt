@@ -1,7 +1,6 @@
 -- The verdicts: the words and numbers of 01, What a check returns, and the messages of layout.rs byte for byte. Written by tools/verdicts.py.
 -- Assumes nothing.
-use Rattle.std.specs.Prelude.{[], ◌∷◌, ◌++◌, Bool, true, false, ℕ}
-use Rattle.std.proofs.Math.Option.{Option, none, some}
+use Rattle.std.specs.Prelude.{[], ◌∷◌, ◌++◌, Bool, true, false, ℕ, Option, Some, None}
 use Rattle.record.specs.Base.{Str, bytes, decimal, signed}
 use Rattle.record.specs.Fill.{joined}
 
@@ -78,8 +77,8 @@ item_text (within o n) = o ++ (bytes "::" ++ n)
 
 -- the release that the copy is of
 unfoldable pub copy_of : Option Str → Str
-copy_of none = bytes "a release before 0.8.0"
-copy_of (some r) = r
+copy_of None = bytes "a release before 0.8.0"
+copy_of (Some r) = r
 
 unfoldable pub standing_of : Bool → Str
 standing_of true = bytes "standalone"
@@ -87,8 +86,8 @@ standing_of false = bytes "not standalone"
 
 -- the field that a layout gained, or none of a new name
 unfoldable pub change_text : Option Str → Str
-change_text none = bytes "changed"
-change_text (some f) = bytes "gained " ++ f
+change_text None = bytes "changed"
+change_text (Some f) = bytes "gained " ++ f
 
 -- 11
 unfoldable pub described : Verdict

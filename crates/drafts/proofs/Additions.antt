@@ -1,8 +1,8 @@
 -- An addition is a head and one type with its parts; the result of adding it says what the draft said, and then what the type says. Assumes nothing.
+use Rattle.std.specs.Prelude.{Option, Some, None, Ok, Err}
 use mathlib.Core.Path.{◌≡◌, refl, sym, ap, ◌∙◌, subst}
 use mathlib.Core.List.Memᴰ
 use mathlib.Core.List.{List, [], ◌∷◌, ◌++◌, map, append-nil, Memᴰ}
-use mathlib.Core.Option.{Option, none, some}
 use mathlib.Core.Bool.{Bool, true, false, ◌&&◌, ◌||◌, cond, false≢true}
 use Prim.Native.Nat.{ℕ, zero, suc, ◌+◌, ◌-◌, ◌≤◌, ◌<◌}
 use native.Mathlib.Omega.{arith}
@@ -18,10 +18,6 @@ use Rattle.record.specs.Reading.{Rec, read, reading, ok, onto, continued, parse,
 use Rattle.record.specs.declared.command.Cursor.{Cursor}
 use Rattle.record.specs.declared.refusal.Side.TheVariants.{Current}
 use Rattle.record.specs.declared.refusal.Refusal.TheVariants as R
-use Rattle.record.specs.declared.judge.Judged.{Judged}
-use Rattle.record.specs.declared.judge.Judged.TheVariants.{Next, Done, Refused}
-use Rattle.record.specs.declared.letters.Letters.{Letters}
-use Rattle.record.specs.declared.letters.Letters.TheVariants.{Good, Odd}
 use Rattle.record.proofs.Accepted.{Passed, passed, Lets, onto-ok, parsed-is}
 use Rattle.drafts.specs.Content.{Content, content_at, contents_of}
 use Rattle.drafts.specs.Packing.{texts_of, covered, written, packed_pool, moved_to, packed_commands}
@@ -34,7 +30,8 @@ use Rattle.texts.proofs.LetterLaws.{fine-well, fine-clean, well-fine, clean-join
 use Rattle.record.proofs.WholeTexts.{parse-lies, texts-lie}
 use Rattle.drafts.proofs.Links.{went, Chain}
 use Rattle.drafts.proofs.Chains.{Quiet, AllMoved, chain-all, chain-after}
-use Rattle.drafts.proofs.Results.{Result, result, kept-short, AllLie, good-letters, nothing-begins, packed-letters, all_moved, pool-small, pool-letters, parse-all}
+use Rattle.drafts.proofs.Results.{Resulting, result, kept-short, AllLie, good-letters, nothing-begins, packed-letters, all_moved, pool-small, pool-letters, parse-all}
+use Rattle.record.specs.Judge.{Judged}
 
 -- a command that may stand in an addition is judged as in any record --------------------------------------------------------------
 
@@ -47,16 +44,16 @@ module _ (s : Str) (pool : Str) (c : Cursor) (j : Judged) (l : Lets j) where
   unfolding addition_at addition_as judged_at judged_with
   judges e = past (ltb c.at (length s)) refl e
     where
-      past : (b : Bool) → ltb c.at (length s) ≡ b → cond b (addition_as s pool c (get_or s c.at 0) (operands (get_or s c.at 0))) (Refused R.Cut c.at) ≡ j → Judges s pool c j
+      past : (b : Bool) → ltb c.at (length s) ≡ b → cond b (addition_as s pool c (get_or s c.at 0) (operands (get_or s c.at 0))) (Err (R.Cut, c.at)) ≡ j → Judges s pool c j
       past false q h = absurd (subst Lets (sym h) l)
       past true q h = row (operands (get_or s c.at 0)) refl h
         where
           row : (o : Option Str) → operands (get_or s c.at 0) ≡ o → addition_as s pool c (get_or s c.at 0) o ≡ j → Judges s pool c j
-          row none q2 h = absurd (subst Lets (sym h) l)
-          row (some os) q2 h = cut (ltb (length s - c.at) (1 + widths os)) refl (may_stand c (get_or s c.at 0)) refl (may_add c.last (get_or s c.at 0)) refl h
+          row None q2 h = absurd (subst Lets (sym h) l)
+          row (Some os) q2 h = cut (ltb (length s - c.at) (1 + widths os)) refl (may_stand c (get_or s c.at 0)) refl (may_add c.last (get_or s c.at 0)) refl h
             where
               cut : (b : Bool) → ltb (length s - c.at) (1 + widths os) ≡ b → (t : Bool) → may_stand c (get_or s c.at 0) ≡ t → (u : Bool) → may_add c.last (get_or s c.at 0) ≡ u
-                  → cond b (Refused R.Cut c.at) (cond (t && u) (faulted c.at (ready s c (get_or s c.at 0) (1 + widths os)) (faults_from Current pool (drop c.at s) 1 os)) (Refused R.Misplaced c.at)) ≡ j → Judges s pool c j
+                  → cond b (Err (R.Cut, c.at)) (cond (t && u) (faulted c.at (ready s c (get_or s c.at 0) (1 + widths os)) (faults_from Current pool (drop c.at s) 1 os)) (Err (R.Misplaced, c.at))) ≡ j → Judges s pool c j
               cut true q3 t q4 u q5 h = absurd (subst Lets (sym h) l)
               cut false q3 false q4 u q5 h = absurd (subst Lets (sym h) l)
               cut false q3 true q4 false q5 h = absurd (subst Lets (sym h) l)
@@ -104,12 +101,12 @@ may-type : (b : ℕ) → may_add 1 b ≡ true → is_type b ≡ true
 unfolding may_add
 may-type b h = h
 
-done-byte : (s : Str) (pool : Str) (c : Cursor) → judged_at Current s pool c ≡ Done → get_or s c.at 0 ≡ 15
+done-byte : (s : Str) (pool : Str) (c : Cursor) → judged_at Current s pool c ≡ Ok None → get_or s c.at 0 ≡ 15
 unfolding ready
-done-byte s pool c e = let p = passed Current s pool c Done tt e in go p (eqb (get_or s c.at 0) 15) refl p.is-ready
+done-byte s pool c e = let p = passed Current s pool c (Ok None) tt e in go p (eqb (get_or s c.at 0) 15) refl p.is-ready
   where
-    go : (p : Passed Current s pool c Done) (t : Bool) → eqb (get_or s c.at 0) 15 ≡ t
-        → cond t (cond (eqb (c.at + (1 + widths p.row)) (length s)) Done (Refused R.Misplaced (c.at + (1 + widths p.row)))) (Next (command_of (get_or s c.at 0) (drop c.at s)) (advanced c (get_or s c.at 0) (1 + widths p.row))) ≡ Done
+    go : (p : Passed Current s pool c (Ok None)) (t : Bool) → eqb (get_or s c.at 0) 15 ≡ t
+        → cond {A = Judged} t (cond (eqb (c.at + (1 + widths p.row)) (length s)) (Ok None) (Err (R.Misplaced, c.at + (1 + widths p.row)))) (Ok (Some (command_of (get_or s c.at 0) (drop c.at s), advanced c (get_or s c.at 0) (1 + widths p.row)))) ≡ Ok None
         → get_or s c.at 0 ≡ 15
     go p true q h = eqb-true (get_or s c.at 0) 15 q
     go p false q h = absurd (let y : ◌≡◌ {A = ℕ} 0 1 = cc in omega arith)
@@ -122,11 +119,11 @@ module _ (s : Str) (pool : Str) where
     where
       go : (j : Judged) → addition_at s pool c ≡ j → continued c.at (parse_addition k s pool) j ≡ ok ps
           → ((d : Cursor) (qs : List ℕ) → parse_addition k s pool d ≡ ok qs → parse k Current s pool d ≡ ok qs) → continued c.at (parse k Current s pool) (judged_at Current s pool c) ≡ ok ps
-      go (Next d j) e h ih =
+      go (Ok (Some (d, j))) e h ih =
           let t = onto-ok c.at (parse_addition k s pool j) ps h in
-          rw (judges s pool c (Next d j) tt e).as-current (rw (ih j t.more t.parsed-so) (ap ok t.whole))
-      go Done e h ih = rw (judges s pool c Done tt e).as-current h
-      go (Refused r q) e h ih = absurd (let z : ◌≡◌ {A = ℕ} 0 1 = cc in omega arith)
+          rw (judges s pool c (Ok (Some (d, j))) tt e).as-current (rw (ih j t.more t.parsed-so) (ap ok t.whole))
+      go (Ok None) e h ih = rw (judges s pool c (Ok None) tt e).as-current h
+      go (Err (r, q)) e h ih = absurd (let z : ◌≡◌ {A = ℕ} 0 1 = cc in omega arith)
 
   -- after the type only its parts
   pub only_parts : (k : ℕ) (c : Cursor) (ps : List ℕ) → parse_addition k s pool c ≡ ok ps → (c.last ≡ 0 → ⊥) → (c.last ≡ 1 → ⊥) → (at : ℕ) → Memᴰ at ps → is_part (get_or s at 0) ≡ true
@@ -140,16 +137,16 @@ module _ (s : Str) (pool : Str) where
 
       go : (j : Judged) → addition_at s pool c ≡ j → continued c.at (parse_addition k s pool) j ≡ ok ps
           → ((d : Cursor) (qs : List ℕ) → parse_addition k s pool d ≡ ok qs → (d.last ≡ 0 → ⊥) → (d.last ≡ 1 → ⊥) → Memᴰ at qs → is_part (get_or s at 0) ≡ true) → is_part (get_or s at 0) ≡ true
-      go (Next d j) e h ih =
+      go (Ok (Some (d, j))) e h ih =
           let t = onto-ok c.at (parse_addition k s pool j) ps h in
-          let x = judges s pool c (Next d j) tt e in
+          let x = judges s pool c (Ok (Some (d, j))) tt e in
           let w = went Current s pool c d j x.as-current in
           let q = may_part c.last (get_or s c.at 0) x.shaped a b w.going in
           let f = part-far (get_or s c.at 0) q in
           let l : get_or s c.at 0 ≡ j.last = ap (λ (y : Cursor). y.last) w.next in
           at_head t.more q (ih j t.more t.parsed-so (λ z. omega arith) (λ z. omega arith)) (subst (λ (y : List ℕ). Memᴰ at y) (sym t.whole) m)
-      go Done e h ih = let q : [] ≡ ps = cc in absurd (Memᴰ.not-nil (subst (λ (l : List ℕ). Memᴰ at l) (sym q) m))
-      go (Refused r q) e h ih = absurd (let z : ◌≡◌ {A = ℕ} 0 1 = cc in omega arith)
+      go (Ok None) e h ih = let q : [] ≡ ps = cc in absurd (Memᴰ.not-nil (subst (λ (l : List ℕ). Memᴰ at l) (sym q) m))
+      go (Err (r, q)) e h ih = absurd (let z : ◌≡◌ {A = ℕ} 0 1 = cc in omega arith)
 
   -- head, one type, its parts
   pub record Shaped (ps : List ℕ) : Type 0 where
@@ -178,9 +175,9 @@ module _ (s : Str) (pool : Str) where
   second (suc k) c ps l h = go (addition_at s pool c) refl h
     where
       go : (j : Judged) → addition_at s pool c ≡ j → continued c.at (parse_addition k s pool) j ≡ ok ps → Second (suc k) c ps
-      go (Next d j) e h =
+      go (Ok (Some (d, j))) e h =
           let t = onto-ok c.at (parse_addition k s pool j) ps h in
-          let x = judges s pool c (Next d j) tt e in
+          let x = judges s pool c (Ok (Some (d, j))) tt e in
           let w = went Current s pool c d j x.as-current in
           let b = may-type (get_or s c.at 0) (ap (λ (y : ℕ). may_add y (get_or s c.at 0)) (sym l) ∙ x.shaped) in
           let f = type-far (get_or s c.at 0) b in
@@ -193,13 +190,13 @@ module _ (s : Str) (pool : Str) where
             is-type = b;
             are-parts = only_parts k j t.more t.parsed-so (λ z. omega arith) (λ z. omega arith);
           }
-      go Done e h =
-          let x = judges s pool c Done tt e in
+      go (Ok None) e h =
+          let x = judges s pool c (Ok None) tt e in
           let f = type-far (get_or s c.at 0) (may-type (get_or s c.at 0) (ap (λ (y : ℕ). may_add y (get_or s c.at 0)) (sym l) ∙ x.shaped)) in
           let q = done-byte s pool c x.as-current in
           let z = f.1 in
           absurd (omega arith)
-      go (Refused r q) e h = absurd (let z : ◌≡◌ {A = ℕ} 0 1 = cc in omega arith)
+      go (Err (r, q)) e h = absurd (let z : ◌≡◌ {A = ℕ} 0 1 = cc in omega arith)
 
   pub shape : (k : ℕ) (ps : List ℕ) → parse_addition k s pool start ≡ ok ps → Shaped ps
   unfolding parse_addition continued
@@ -207,9 +204,9 @@ module _ (s : Str) (pool : Str) where
   shape (suc k) ps h = go (addition_at s pool start) refl h
     where
       go : (j : Judged) → addition_at s pool start ≡ j → continued 0 (parse_addition k s pool) j ≡ ok ps → Shaped ps
-      go (Next d j) e h =
+      go (Ok (Some (d, j))) e h =
           let t = onto-ok 0 (parse_addition k s pool j) ps h in
-          let x = judges s pool start (Next d j) tt e in
+          let x = judges s pool start (Ok (Some (d, j))) tt e in
           let w = went Current s pool start d j x.as-current in
           let one = may-first (get_or s 0 0) x.shaped in
           let l : j.last ≡ 1 = sym (ap (λ (y : Cursor). y.last) w.next) ∙ one in
@@ -226,17 +223,17 @@ module _ (s : Str) (pool : Str) where
             is-type = u.is-type;
             are-parts = u.are-parts;
           }
-      go Done e h =
-          let x = judges s pool start Done tt e in
+      go (Ok None) e h =
+          let x = judges s pool start (Ok None) tt e in
           let one = may-first (get_or s 0 0) x.shaped in
           let q = done-byte s pool start x.as-current in
           absurd (omega arith)
-      go (Refused r q) e h = absurd (let z : ◌≡◌ {A = ℕ} 0 1 = cc in omega arith)
+      go (Err (r, q)) e h = absurd (let z : ◌≡◌ {A = ℕ} 0 1 = cc in omega arith)
 
 -- what an accepted addition has passed
 pub record Addable (a : Rec) (ps : List ℕ) : Type 0 where
   pub pool-short : length a.pool ≤ 16384
-  pub letters : odd_letter a.pool ≡ Good
+  pub letters : odd_letter a.pool ≡ None
   pub parses : parse (length a.stream + 1) Current a.stream a.pool start ≡ ok ps
   pub are-commands : ps ≡ commands_at a.stream 0
   pub shaped : Shaped a.stream a.pool ps
@@ -245,12 +242,12 @@ pub addable : (a : Rec) (ps : List ℕ) → addition a ≡ ok ps → Addable a p
 unfolding addition concluded_addition stream_limit pool_limit parsed
 addable a ps h = go (leb (length a.stream) 32768) (leb (length a.pool) 16384) refl (odd_letter a.pool) refl h
   where
-    go : (x y : Bool) → leb (length a.pool) 16384 ≡ y → (l : Letters) → odd_letter a.pool ≡ l
+    go : (x y : Bool) → leb (length a.pool) 16384 ≡ y → (l : Option ℕ) → odd_letter a.pool ≡ l
         → concluded_addition (x && y) l (parse_addition (length a.stream + 1) a.stream a.pool start) ≡ ok ps → Addable a ps
     go false y e l g h = absurd (let z : ◌≡◌ {A = ℕ} 0 1 = cc in omega arith)
     go true false e l g h = absurd (let z : ◌≡◌ {A = ℕ} 0 1 = cc in omega arith)
-    go true true e (Odd i) g h = absurd (let z : ◌≡◌ {A = ℕ} 0 1 = cc in omega arith)
-    go true true e Good g h = record {
+    go true true e (Some i) g h = absurd (let z : ◌≡◌ {A = ℕ} 0 1 = cc in omega arith)
+    go true true e None g h = record {
       pool-short = leb-true (length a.pool) 16384 e;
       letters = g;
       parses = addition-parse a.stream a.pool (length a.stream + 1) start ps h;
@@ -292,7 +289,7 @@ module _ (r : Rec) (t : Schema) (h : reading Current r ≡ read t) (a : Rec) (xs
   p1-letters : odd_place p1 ≡ length p1
   p1-letters = pool-letters Current r t h (commands_at r.stream 0) (texts-lie Current r t h)
 
-  pub added-letters : odd_letter (added r a).pool ≡ Good
+  pub added-letters : odd_letter (added r a).pool ≡ None
   unfolding added
   added-letters =
       good-letters (p1 ++ q2)
@@ -329,7 +326,7 @@ module _ (r : Rec) (t : Schema) (h : reading Current r ≡ read t) (a : Rec) (xs
       subst (λ (x : List Content). Chain Current (p1 ++ q2) k (written f a.stream qs) x) (append-nil (map (content_at a.stream a.pool) qs)) c4
 
   -- the draft's commands, then the type's
-  pub added-result : Result Current (added r a) (contents_of r ++ map (content_at a.stream a.pool) qs)
+  pub added-result : Resulting Current (added r a) (contents_of r ++ map (content_at a.stream a.pool) qs)
   unfolding added packed_commands contents_of
   added-result =
       let ps = commands_at r.stream 0 in

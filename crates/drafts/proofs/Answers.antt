@@ -1,7 +1,7 @@
 -- 02, W-210: the result of an edit is refused by 8 or 9 alone; the commands of draft and added type are in it with their contents. Assumes nothing.
+use Rattle.std.specs.Prelude.{Option, Some, None}
 use mathlib.Core.Path.{◌≡◌, sym, ap, ◌∙◌}
 use mathlib.Core.List.{List, ◌++◌, map}
-use mathlib.Core.Option.{Option, none, some}
 use mathlib.Core.Logic.{◌⊎◌, inl, inr}
 use Prim.Native.Nat.{ℕ}
 use native.Mathlib.Omega.{arith}
@@ -15,7 +15,6 @@ use Rattle.record.specs.declared.refusal.Side.{Side}
 use Rattle.record.specs.declared.refusal.Side.TheVariants.{Current}
 use Rattle.record.specs.declared.refusal.Refusal.{Refusal}
 use Rattle.record.specs.declared.refusal.Refusal.TheVariants as R
-use Rattle.record.specs.declared.letters.Letters.TheVariants.{Good}
 use Rattle.drafts.specs.Content.{Content, content_at, contents_of}
 use Rattle.drafts.specs.Parts.{held_rec, parts_of}
 use Rattle.drafts.specs.Addition.{addition}
@@ -26,8 +25,8 @@ use Rattle.drafts.proofs.Additions.{added-result, added-letters}
 
 vast-or : (s : Schema) (o : Option Opened) (n : Refusal) (p : ℕ) → vast_or s o ≡ refuse n p → n ≡ R.Vast
 unfolding vast_or
-vast-or s none n p h = absurd (let z : ◌≡◌ {A = ℕ} 0 1 = cc in omega arith)
-vast-or s (some t) n p h = cc
+vast-or s None n p h = absurd (let z : ◌≡◌ {A = ℕ} 0 1 = cc in omega arith)
+vast-or s (Some t) n p h = cc
 
 long-or-vast : (side : Side) (r : Rec) → Settled side r → (n : Refusal) (p : ℕ) → reading side r ≡ refuse n p → (n ≡ R.Long) ⊎ (n ≡ R.Vast)
 unfolding sizes_of
@@ -36,7 +35,7 @@ long-or-vast side r (by-sizes e a b) n p h =
     inr (vast-or (schema_from r (commands_at r.stream 0)) (find (vast (schema_from r (commands_at r.stream 0))) (opened r.stream r.pool (commands_at r.stream 0))) n p (sym e ∙ h))
 
 module _ (r : Rec) (t : Schema) (h : reading Current r ≡ read t) where
-  pub removed-letters : (v : Str) → odd_letter (removed v r).pool ≡ Good
+  pub removed-letters : (v : Str) → odd_letter (removed v r).pool ≡ None
   unfolding removed
   removed-letters v =
       good-letters (removed v r).pool (pool-letters Current r t h (without r.stream r.pool v (commands_at r.stream 0)) (rest-lies Current r t h v))

@@ -1,4 +1,5 @@
 -- A stream put together from a chain: the reading finds its commands, and they say what the chain says. Assumes nothing.
+use Rattle.std.specs.Prelude.{Some, None, Ok}
 use mathlib.Core.Path.{◌≡◌, refl, sym, ap, ap₂, ◌∙◌, subst}
 use mathlib.Core.List.{List, [], ◌∷◌, ◌++◌, map, append_assoc}
 use Prim.Native.Nat.{ℕ, zero, suc, ◌+◌, ◌-◌, ◌≤◌, ◌<◌}
@@ -13,7 +14,6 @@ use Rattle.record.specs.Judge.{may_stand, advanced, faults_from, ready, judged_w
 use Rattle.record.specs.Reading.{ok, onto, continued, parse}
 use Rattle.record.specs.declared.command.Cursor.{Cursor}
 use Rattle.record.specs.declared.refusal.Side.{Side}
-use Rattle.record.specs.declared.judge.Judged.TheVariants.{Next, Done}
 use Rattle.drafts.specs.Content.{Content, content_as, content_at}
 use Rattle.drafts.proofs.Links.{Link, Chain}
 
@@ -43,7 +43,7 @@ module _ (side : Side) (p : Str) where
     long : k.at + length z ≤ length S
     long = let a = length-append pre (z ++ y) in let b = length-append z y in omega arith
 
-    link-judged : judged_at side S p k ≡ Next (command_of (get_or z 0 0) (z ++ y)) (advanced k (get_or z 0 0) (length z))
+    link-judged : judged_at side S p k ≡ Ok (Some (command_of (get_or z 0 0) (z ++ y), advanced k (get_or z 0 0) (length z)))
     unfolding judged_at judged_with ready
     link-judged =
         let n = l.sized in
@@ -56,7 +56,7 @@ module _ (side : Side) (p : Str) where
     link-says = ap₂ (content_as p) rest-is byte ∙ l.says y
 
   -- 0F behind a front
-  end-judged : (pre : Str) (k : Cursor) → length pre ≡ k.at → (k.last ≡ 0 → ⊥) → judged_at side (pre ++ (15 ∷ [])) p k ≡ Done
+  end-judged : (pre : Str) (k : Cursor) → length pre ≡ k.at → (k.last ≡ 0 → ⊥) → judged_at side (pre ++ (15 ∷ [])) p k ≡ Ok None
   unfolding judged_at judged_with ready operands bytes widths faults_from may_stand
   end-judged pre k e n =
       let a = length-append pre (15 ∷ []) in

@@ -1,38 +1,29 @@
 -- The calls of a shelf: the code's answers are the definition's. Assumes nothing.
+use Rattle.std.specs.Prelude.{Ok, Err, Some, None, Result, ⊤}
 use mathlib.Core.Path.{◌≡◌, refl, sym, ap, ap₂, ◌∙◌, subst}
 use mathlib.Core.List.{List, [], ◌∷◌}
-use mathlib.Core.Option.{none, some}
 use mathlib.Core.Bool.{Bool, true, false, ◌&&◌, ◌||◌, cond}
 use Prim.Native.Nat.{ℕ, suc, ◌≤◌, ◌<◌}
 use native.Mathlib.Omega.{arith}
 use lib.ListN.{length, get_or, take, drop}
 use lib.Dec.{ltb}
 use borrow.Author.Tests.{lt-ltb, le-ltb}
-use types.Run.{OneOf}
-use denote.Enum.Declared.{tag_of}
 use Rattle.record.specs.Base.{Str, any, find}
 use Rattle.record.specs.Scalars.{Scalar, scalars_of, built_in, built_in_rows}
 use Rattle.record.specs.Reading.{Rec, rec, schema_of, read, refuse}
 use Rattle.record.specs.Read.{reading_of}
 use Rattle.record.specs.declared.refusal.Refusal.{Refusal}
-use Rattle.record.specs.declared.read.Outcome.{Outcome}
-use Rattle.record.specs.declared.read.Outcome.TheVariants.{Refused}
-use Rattle.record.specs.contracts.read.Outcome as outcome-type
 use Rattle.record.proofs.ScalarLaws.{built_in-rows}
 use Rattle.drafts.specs.Parts.{part, after_part, held_rec, read_held, parts_of}
 use Rattle.drafts.specs.Code.{HeldRead}
 use Rattle.drafts.specs.Edits.{Edited, refused, declined, settled}
-use Rattle.drafts.specs.Answering.{edited_as, Says, Opens}
+use Rattle.drafts.specs.Answering.{edited_as, Says, Opens, Opened}
 use Rattle.drafts.specs.Shelf.{Row, is_free, is_named, good_name, row_of, forged, bytes_of, shelve, shelved, has_row, set_read, set_draft, brought_back, brought_from, back_from, back_draft}
 use Rattle.drafts.specs.Shelving.{row_at, rows_of, first_of, row_for, shelved_as}
 use Rattle.drafts.specs.Holding.{Short, Settable}
 use Rattle.drafts.specs.declared.saying.DraftAnswer.{DraftAnswer}
-use Rattle.drafts.specs.declared.opening.Opening.{Opening}
-use Rattle.drafts.specs.declared.opening.Opening.TheVariants.{Barred}
 use Rattle.drafts.specs.declared.shelved.Shelf.{Shelf}
 use Rattle.drafts.specs.declared.shelved.ShelfAnswer.{ShelfAnswer}
-use Rattle.drafts.specs.contracts.opening.Opening as opening-type
-use Rattle.drafts.proofs.Outcomes.{readable, ready}
 use Rattle.drafts.proofs.RowLaws.{rows_long, rows_at, first_any}
 
 -- an answer with its shelf
@@ -72,68 +63,68 @@ module _ (w : List Scalar) (s : Shelf) (n draft held : Str) (row : ℕ) (k : row
     unfolding set_draft
     set-forged d r g a e = with-is d s r (declined 58 0) held a e ∙ rw (is_row, lt-ltb row 8 h, ← f, g)
 
-    module _ (g : b ≡ false) (o : Outcome) (i : HeldRead w draft o) where
+    module _ (g : b ≡ false) (o : Result ⊤ (Refusal × ℕ)) (i : HeldRead w draft o) where
       read_is : set_draft w (rows_of s) n draft held ≡ set_read n (held_rec w draft) (rows_of s) held (read_held w draft)
       unfolding set_draft
       read_is = rw (is_row, lt-ltb row 8 h, ← f, g)
 
-      pub set-refused : (m : Refusal) (p : ℕ) (d : DraftAnswer) (r : ShelfAnswer) → o ≡ Refused m p → Says d (refused 0 m p 0) → r ≡ answered d s → shelved_as r held ≡ set_draft w (rows_of s) n draft held
+      pub set-refused : (m : Refusal) (p : ℕ) (d : DraftAnswer) (r : ShelfAnswer) → o ≡ Err (m, p) → Says d (refused 0 m p 0) → r ≡ answered d s → shelved_as r held ≡ set_draft w (rows_of s) n draft held
       unfolding set_read
       set-refused m p d r q a e =
           let z : read_held w draft ≡ refuse m p = sym i.answer ∙ ap (reading_of (held_rec w draft)) q in
           with-is d s r (refused 0 m p 0) held a e ∙ sym (read_is ∙ rw z)
 
-      module _ (q : OneOf (0 ∷ []) (tag_of outcome-type.the_type o)) (x st p : Str) (u : x ≡ after_part draft) (v : st ≡ part draft) (y : p ≡ part x) where
+      module _ (q : o ≡ Ok tt) (x st p : Str) (u : x ≡ after_part draft) (v : st ≡ part draft) (y : p ≡ part x) where
         pub set-able : Settable s row n held × Short st p
         unfolding held_rec
         set-able = (
           record { row_is = k; row_in = h; valid = sym f ∙ g },
           record {
-            short = subst (λ (z : Str). length z ≤ 32768) (sym v) (i.short (readable o q));
-            small = subst (λ (z : Str). length z ≤ 16384) (sym (y ∙ ap part u)) (i.small (readable o q));
+            short = subst (λ (z : Str). length z ≤ 32768) (sym v) (i.short q);
+            small = subst (λ (z : Str). length z ≤ 16384) (sym (y ∙ ap part u)) (i.small q);
           },
         )
 
         pub set-done : (after : Str) (r : ShelfAnswer) → shelved_as r after ≡ shelve n (parts_of (rec st p [])) (rows_of s) held → shelved_as r after ≡ set_draft w (rows_of s) n draft held
         unfolding set_read held_rec parts_of
         set-done after r e =
-            let z : read_held w draft ≡ read (schema_of (held_rec w draft)) = sym i.answer ∙ ap (reading_of (held_rec w draft)) (readable o q) in
+            let z : read_held w draft ≡ read (schema_of (held_rec w draft)) = sym i.answer ∙ ap (reading_of (held_rec w draft)) q in
             e ∙ ap₂ (λ (a b : Str). shelve n (parts_of (rec a b [])) (rows_of s) held) v (y ∙ ap part u) ∙ sym (read_is ∙ rw z)
 
 -- coming back ---------------------------------------------------------------------------------------------------------------
 
-module _ (w : List Scalar) (s : Shelf) (b draft : Str) (copy : Rec) (o : Opening) (h : Opens w b copy o) where
-  pub back-shut : (side : ℕ) (n : Refusal) (p : ℕ) (d : DraftAnswer) (r : ShelfAnswer) → o ≡ Barred side n p → Says d (refused side n p 0) → r ≡ answered d s
+module _ (w : List Scalar) (s : Shelf) (b draft : Str) (copy : Rec) (o : Opened) (h : Opens w b copy o) where
+  pub back-shut : (side : ℕ) (n : Refusal) (p : ℕ) (d : DraftAnswer) (r : ShelfAnswer) → o ≡ Err (side, n, p) → Says d (refused side n p 0) → r ≡ answered d s
       → shelved_as r draft ≡ shelved (brought_from w copy draft b) (rows_of s)
   back-shut side n p d r g a e =
       with-is d s r (refused side n p 0) draft a e ∙ ap (λ (x : Edited). shelved x (rows_of s)) (sym ((subst (Opens w b copy) g h).backs draft))
 
-  pub back-open : (x st p after : Str) (d : DraftAnswer) (r : ShelfAnswer) → OneOf (0 ∷ []) (tag_of opening-type.the_type o) → x ≡ after_part b → st ≡ part b → p ≡ part x
+  pub back-open : (x st p after : Str) (d : DraftAnswer) (r : ShelfAnswer) → o ≡ Ok tt → x ≡ after_part b → st ≡ part b → p ≡ part x
       → edited_as d after ≡ settled 0 draft (schema_of copy) (rec st p w) (read (schema_of (rec st p w))) → r ≡ answered d s
       → shelved_as r after ≡ shelved (brought_from w copy draft b) (rows_of s)
   unfolding brought_back held_rec
   back-open x st p after d r g u v y a e =
-      let k = subst (Opens w b copy) (ready o g) h in
+      let k = subst (Opens w b copy) g h in
       let z : rec st p w ≡ held_rec w b = ap₂ (λ (i j : Str). rec i j w) v (y ∙ ap part u) in
       ap (λ (i : ShelfAnswer). shelved_as i after) e
       ∙ ap (λ (i : Edited). shelved i (rows_of s)) (a ∙ ap (λ (i : Rec). settled 0 draft (schema_of copy) i (read (schema_of i))) z ∙ rw (k.now, k.was))
 
 -- the first row that passes a test, as the code finds it
-find_none : (q : Row → Bool) (l : List Row) → length l ≤ first_of q l → find q l ≡ none
+find_none : (q : Row → Bool) (l : List Row) → length l ≤ first_of q l → find q l ≡ None
 unfolding find first_of
 find_none q [] h = refl
 find_none q (r ∷ l) h = go (q r) h (find_none q l)
   where
-    go : (t : Bool) → suc (length l) ≤ cond t 0 (suc (first_of q l)) → (length l ≤ first_of q l → find q l ≡ none) → cond t (some r) (find q l) ≡ none
+    go : (t : Bool) → suc (length l) ≤ cond t 0 (suc (first_of q l)) → (length l ≤ first_of q l → find q l ≡ None) → cond t (Some r) (find q l) ≡ None
     go true h ih = absurd (omega arith)
     go false h ih = ih (omega arith)
 
-find_at : (q : Row → Bool) (d : Row) (l : List Row) → first_of q l < length l → find q l ≡ some (get_or l (first_of q l) d)
+find_at : (q : Row → Bool) (d : Row) (l : List Row) → first_of q l < length l → find q l ≡ Some (get_or l (first_of q l) d)
 unfolding find first_of
 find_at q d [] h = absurd (omega arith)
 find_at q d (r ∷ l) h = go (q r) h (find_at q d l)
   where
-    go : (t : Bool) → cond t 0 (suc (first_of q l)) < suc (length l) → (first_of q l < length l → find q l ≡ some (get_or l (first_of q l) d)) → cond t (some r) (find q l) ≡ some (get_or (r ∷ l) (cond t 0 (suc (first_of q l))) d)
+    go : (t : Bool) → cond t 0 (suc (first_of q l)) < suc (length l) → (first_of q l < length l → find q l ≡ Some (get_or l (first_of q l) d)) → cond t (Some r) (find q l) ≡ Some (get_or (r ∷ l) (cond t 0 (suc (first_of q l))) d)
     go true h ih = refl
     go false h ih = ih (omega arith)
 
@@ -154,8 +145,8 @@ module _ (w : List Scalar) (s : Shelf) (n draft held : Str) (copy : Rec) (b : Bo
     unfolding back_draft back_from row_of bytes_of
     back_found x y after r h u v e =
         let l = rows_long s in
-        let i : find (is_named n) (rows_of s) ≡ some (row_at s row) =
-        find_at (is_named n) (row_at s row) (rows_of s) (omega arith) ∙ ap some (ap (λ (j : ℕ). get_or (rows_of s) j (row_at s row)) (sym k) ∙ rows_at s row (row_at s row) h) in
+        let i : find (is_named n) (rows_of s) ≡ Some (row_at s row) =
+        find_at (is_named n) (row_at s row) (rows_of s) (omega arith) ∙ ap Some (ap (λ (j : ℕ). get_or (rows_of s) j (row_at s row)) (sym k) ∙ rows_at s row (row_at s row) h) in
         let z : y ≡ take (get_or s.lens row 0) (drop (get_or s.starts row 0) held) = v ∙ ap (take (get_or s.lens row 0)) u in
         e ∙ ap (λ (j : Str). shelved (brought_from w copy draft j) (rows_of s)) z ∙ rw (← f, g, i)
 

@@ -1,7 +1,7 @@
 -- From the judged commands of a record: all of them, those after a type's parts, and those without a type, written anew, are chains. Assumes nothing.
+use Rattle.std.specs.Prelude.{Some, None, Result, Ok, Err}
 use mathlib.Core.Path.{◌≡◌, refl, sym, ap, ◌∙◌, subst}
 use mathlib.Core.List.{List, [], ◌∷◌, ◌++◌, map, Memᴰ}
-use mathlib.Core.Option.{some}
 use mathlib.Core.Bool.{Bool, true, false, ◌||◌, cond, false≢true}
 use Prim.Native.Nat.{ℕ, zero, suc, ◌+◌, ◌<◌}
 use native.Mathlib.Omega.{arith}
@@ -18,8 +18,6 @@ use Rattle.record.specs.declared.command.Cursor.{Cursor}
 use Rattle.record.specs.declared.command.Command.{Command}
 use Rattle.record.specs.declared.refusal.Side.{Side}
 use Rattle.record.specs.declared.judge.Fault.TheVariants.{Fine}
-use Rattle.record.specs.declared.judge.Judged.{Judged}
-use Rattle.record.specs.declared.judge.Judged.TheVariants.{Next, Done, Refused}
 use Rattle.record.proofs.Basics.{both}
 use Rattle.record.proofs.Accepted.{Rest, onto-ok}
 use Rattle.drafts.specs.Content.{Operand, Content, content_as, content_at, operands_with}
@@ -30,6 +28,7 @@ use Rattle.drafts.specs.Edits.{named, after_parts, without}
 use Rattle.drafts.proofs.Pools.{Moved}
 use Rattle.drafts.proofs.Moving.{Same, row_same, length-row}
 use Rattle.drafts.proofs.Links.{flag-kept, Link, Chain, Went, went, stopped}
+use Rattle.record.specs.Judge.{Judged}
 
 -- a cursor at another place
 abbrev pub shift : ℕ → Cursor → Cursor
@@ -123,7 +122,7 @@ module _ (side : Side) (s p p2 : Str) (f : ℕ → ℕ) (small : length p2 < 655
   abbrev pub AllMoved : List ℕ → Type 0
   AllMoved ps = (at : ℕ) → Memᴰ at ps → (u : Text) → Memᴰ u (texts_at s at) → Moved f p p2 u
 
-  pub link : (at : ℕ) (k : Cursor) (row : Str) → operands (get_or s at 0) ≡ some row → may_stand k (get_or s at 0) ≡ true → faults_from side p (drop at s) 1 row ≡ Fine
+  pub link : (at : ℕ) (k : Cursor) (row : Str) → operands (get_or s at 0) ≡ Some row → may_stand k (get_or s at 0) ≡ true → faults_from side p (drop at s) 1 row ≡ Fine
       → (get_or s at 0 ≡ 15 → ⊥) → ((u : Text) → Memᴰ u (texts_at s at) → Moved f p p2 u)
       → Link side p2 k (written_at f s at) (content_at s p at)
   unfolding written_at content_at content_as operands_with row_with texts_at texts_with
@@ -166,7 +165,7 @@ module _ (side : Side) (s p p2 : Str) (f : ℕ → ℕ) (small : length p2 < 655
     chain-all zero c ps h m a = absurd (let z : ◌≡◌ {A = ℕ} 0 1 = cc in omega arith)
     chain-all (suc n) c ps h m a = go (judged_at side s p c) refl h (λ k qs e l b. chain-all n k qs e l b)
       where
-        step : (d : Command) (k : Cursor) → judged_at side s p c ≡ Next d k → Rest c.at (parse n side s p k) ps
+        step : (d : Command) (k : Cursor) → judged_at side s p c ≡ Ok (Some (d, k)) → Rest c.at (parse n side s p k) ps
             → ((k : Cursor) (qs : List ℕ) → parse n side s p k ≡ ok qs → AllMoved qs → (b : ℕ) → Chained (shift b k) qs) → Chained (shift a c) ps
         step d k e t ih =
             let w = went side s p c d k e in
@@ -177,9 +176,9 @@ module _ (side : Side) (s p p2 : Str) (f : ℕ → ℕ) (small : length p2 < 655
 
         go : (j : Judged) → judged_at side s p c ≡ j → continued c.at (parse n side s p) j ≡ ok ps
             → ((k : Cursor) (qs : List ℕ) → parse n side s p k ≡ ok qs → AllMoved qs → (b : ℕ) → Chained (shift b k) qs) → Chained (shift a c) ps
-        go (Next d k) e h ih = step d k e (onto-ok c.at (parse n side s p k) ps h) ih
-        go Done e h ih = ended c ps h (shift a c) (stopped side s p c e)
-        go (Refused r q) e h ih = absurd (let z : ◌≡◌ {A = ℕ} 0 1 = cc in omega arith)
+        go (Ok (Some (d, k))) e h ih = step d k e (onto-ok c.at (parse n side s p k) ps h) ih
+        go (Ok None) e h ih = ended c ps h (shift a c) (stopped side s p c e)
+        go (Err (r, q)) e h ih = absurd (let z : ◌≡◌ {A = ℕ} 0 1 = cc in omega arith)
 
     -- the commands after a type's parts, begun anywhere but at the front
     pub chain-after : (n : ℕ) (c : Cursor) (ps : List ℕ) → parse n side s p c ≡ ok ps → Quiet c.last → AllMoved (after_parts s ps) → (k : Cursor) → (k.last ≡ 0 → ⊥) → Chained k (after_parts s ps)
@@ -199,7 +198,7 @@ module _ (side : Side) (s p p2 : Str) (f : ℕ → ℕ) (small : length p2 < 655
             let r3 = subst (λ (x : Parent). Chained (record { at = k.at + length (written_at f s c.at); last = b; parent = x }) qs) (sym (parent-anew c k b q)) r2 in
             linked c k j qs w (stands-anew c k b q w.stands u z) m r3
 
-        step : (d : Command) (j : Cursor) → judged_at side s p c ≡ Next d j → Rest c.at (parse n side s p j) ps
+        step : (d : Command) (j : Cursor) → judged_at side s p c ≡ Ok (Some (d, j)) → Rest c.at (parse n side s p j) ps
             → ((j : Cursor) (qs : List ℕ) → parse n side s p j ≡ ok qs → Quiet j.last → AllMoved (after_parts s qs) → Chained k (after_parts s qs)) → Chained k (after_parts s ps)
         step d j e t ih =
             let w = went side s p c d j e in
@@ -208,9 +207,9 @@ module _ (side : Side) (s p p2 : Str) (f : ℕ → ℕ) (small : length p2 < 655
 
         go : (j : Judged) → judged_at side s p c ≡ j → continued c.at (parse n side s p) j ≡ ok ps
             → ((j : Cursor) (qs : List ℕ) → parse n side s p j ≡ ok qs → Quiet j.last → AllMoved (after_parts s qs) → Chained k (after_parts s qs)) → Chained k (after_parts s ps)
-        go (Next d j) e h ih = step d j e (onto-ok c.at (parse n side s p j) ps h) ih
-        go Done e h ih = let q : [] ≡ ps = cc in subst (λ (l : List ℕ). Chained k (after_parts s l)) q (ended c [] refl k z)
-        go (Refused r q) e h ih = absurd (let z : ◌≡◌ {A = ℕ} 0 1 = cc in omega arith)
+        go (Ok (Some (d, j))) e h ih = step d j e (onto-ok c.at (parse n side s p j) ps h) ih
+        go (Ok None) e h ih = let q : [] ≡ ps = cc in subst (λ (l : List ℕ). Chained k (after_parts s l)) q (ended c [] refl k z)
+        go (Err (r, q)) e h ih = absurd (let z : ◌≡◌ {A = ℕ} 0 1 = cc in omega arith)
 
     pub named-type : (v : Str) (at : ℕ) → named s p v at ≡ true → is_type (get_or s at 0) ≡ true
     unfolding named
@@ -237,9 +236,9 @@ module _ (side : Side) (s p p2 : Str) (f : ℕ → ℕ) (small : length p2 < 655
         go : (j : Judged) → judged_at side s p c ≡ j → continued c.at (parse n side s p) j ≡ ok ps
             → ((k : Cursor) (qs : List ℕ) → parse n side s p k ≡ ok qs → AllMoved (without s p v qs) → (b : ℕ) → Chained (shift b k) (without s p v qs))
             → Chained (shift a c) (without s p v ps)
-        go (Next d k) e h ih =
+        go (Ok (Some (d, k))) e h ih =
             let t = onto-ok c.at (parse n side s p k) ps h in
             subst (λ (l : List ℕ). Chained (shift a c) (without s p v l)) t.whole
             (type k (went side s p c d k e) t.more t.parsed-so (named s p v c.at) refl (subst (λ (l : List ℕ). AllMoved (without s p v l)) (sym t.whole) m) ih)
-        go Done e h ih = let q : [] ≡ ps = cc in subst (λ (l : List ℕ). Chained (shift a c) (without s p v l)) q (ended c [] refl (shift a c) (stopped side s p c e))
-        go (Refused r q) e h ih = absurd (let z : ◌≡◌ {A = ℕ} 0 1 = cc in omega arith)
+        go (Ok None) e h ih = let q : [] ≡ ps = cc in subst (λ (l : List ℕ). Chained (shift a c) (without s p v l)) q (ended c [] refl (shift a c) (stopped side s p c e))
+        go (Err (r, q)) e h ih = absurd (let z : ◌≡◌ {A = ℕ} 0 1 = cc in omega arith)

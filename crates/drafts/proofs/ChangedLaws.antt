@@ -1,4 +1,5 @@
 -- Counting over tables. Assumes nothing.
+use Rattle.std.specs.Prelude.{Option, Some, None}
 use mathlib.Core.Path.{◌≡◌, refl, sym, ap, ap₂, subst, ◌∙◌}
 use mathlib.Core.List.{List, [], ◌∷◌, map}
 use mathlib.Core.Bool.{Bool, true, false, not, cond}
@@ -7,8 +8,6 @@ use native.Mathlib.Numerals.{add-one}
 use native.Mathlib.Omega.{arith}
 use lib.ListN.{length, get_or, drop, replicate, drop_of_length-le}
 use lib.Seq.{drop-cons}
-use types.Run.{OneOf}
-use denote.Enum.Declared.{tag_of}
 use Rattle.record.specs.Base.{Str, is_some, filter_b}
 use Rattle.record.specs.Scalars.{Scalar}
 use Rattle.record.specs.Index.{IndexRoom, Indexed}
@@ -17,9 +16,6 @@ use Rattle.layout.specs.Layout.{TypeLayout, type_in}
 use Rattle.layout.specs.Handles.{type_name, layout_of}
 use Rattle.layout.specs.Table.{TypesTable, FoundType}
 use Rattle.layout.specs.Tables.{Tables}
-use Rattle.layout.specs.declared.table.TypeFound.{TypeFound}
-use Rattle.layout.specs.declared.table.TypeFound.TheVariants.{NoType, At}
-use Rattle.layout.specs.contracts.table.TypeFound as found_type
 use Rattle.definition.specs.Fields.{eq_places, same_as, changed}
 use Rattle.drafts.specs.Count.{gone, count_changed}
 use Rattle.drafts.specs.Counted.{layouts_of, Legible, Rooms, IsThere, Gone}
@@ -27,25 +23,21 @@ use Rattle.drafts.proofs.Arrays.{zeros-long}
 
 -- look-ups ---------------------------------------------------------------------------------------------------------------------------------
 
-none_found : (r : TypeFound) → OneOf (0 ∷ []) (tag_of found_type.the_type r) → r ≡ NoType
-none_found NoType h = refl
-none_found (At i) h = absurd (omega (arith, h))
-
-module _ (b q : Str) (u : List ℕ) (n : Str) (f : TypeFound) (l : FoundType b q u n f) where
-  pub there-none : OneOf (0 ∷ []) (tag_of found_type.the_type f) → IsThere b q u n false
+module _ (b q : Str) (u : List ℕ) (n : Str) (f : Option ℕ) (l : FoundType b q u n f) where
+  pub there-none : f ≡ None → IsThere b q u n false
   unfolding is_some
-  there-none h = record { answer = λ t w. rw (l.layout t w, none_found f h) }
+  there-none h = record { answer = λ t w. rw (l.layout t w, h) }
 
-  pub there-some : (i : ℕ) → f ≡ At i → IsThere b q u n true
+  pub there-some : (i : ℕ) → f ≡ Some i → IsThere b q u n true
   unfolding is_some
   there-some i h = record { answer = λ t w. rw (l.layout t w, h) }
 
-module _ (s p b q : Str) (w : List Scalar) (t z u y : List ℕ) (h : ℕ) (a : Tables (rec b q w) u y) (f : TypeFound) (l : FoundType b q u (type_name s p h) f) where
-  pub same_none : OneOf (0 ∷ []) (tag_of found_type.the_type f) → false ≡ same_as (type_in (type_name s p h) (layouts_of (rec b q w))) (layout_of (rec s p w) h)
+module _ (s p b q : Str) (w : List Scalar) (t z u y : List ℕ) (h : ℕ) (a : Tables (rec b q w) u y) (f : Option ℕ) (l : FoundType b q u (type_name s p h) f) where
+  pub same_none : f ≡ None → false ≡ same_as (type_in (type_name s p h) (layouts_of (rec b q w))) (layout_of (rec s p w) h)
   unfolding same_as
-  same_none g = rw (l.layout a.types w, none_found f g)
+  same_none g = rw (l.layout a.types w, g)
 
-  pub same_some : (i : ℕ) (r : Bool) → f ≡ At i → r ≡ eq_places (layout_of (rec b q w) (get_or u i 0)).fields (layout_of (rec s p w) h).fields
+  pub same_some : (i : ℕ) (r : Bool) → f ≡ Some i → r ≡ eq_places (layout_of (rec b q w) (get_or u i 0)).fields (layout_of (rec s p w) h).fields
       → r ≡ same_as (type_in (type_name s p h) (layouts_of (rec b q w))) (layout_of (rec s p w) h)
   unfolding same_as
   same_some i r g e = rw (l.layout a.types w, g) e

@@ -1,12 +1,14 @@
 -- The places that stay: their sizes, how many of their bytes stand before an end, and their bytes moved to the front. Assumes nothing.
 use mathlib.Core.Path.{◌≡◌, refl, sym, ap, ap₂, ◌∙◌}
 use mathlib.Core.List.{List, [], ◌∷◌, ◌++◌, map, append_assoc, append-nil}
+use mathlib.Core.Logic.{◌⊎◌, inl, inr}
 use mathlib.Core.Bool.{Bool, true, false, ◌||◌, cond}
-use Prim.Native.Nat.{ℕ, zero, suc, ◌+◌, ◌-◌, ◌≤◌, ◌<◌}
+use Prim.Native.Nat.{ℕ, zero, suc, ◌+◌, ◌-◌, ◌≤◌, ◌<◌, min}
 use native.Mathlib.Omega.{arith}
 use lib.ListN.{length, get_or, take, drop, set, length-append, length-set, length-map, drop_of_length-le, get_or-map}
 use lib.Seq.{take_all, take-suc, take-suc-set, drop-cons, length-take-le, get_or-append-add, get_or-drop, set_at}
-use borrow.Author.Tests.{eq-eqb, ne_eqb, le-ltb, lt-ltb}
+use lib.Dec.{ltb}
+use borrow.Author.Tests.{eq-eqb, ne_eqb, le-ltb, lt-ltb, ltb-true, ltb-false}
 use Rattle.record.specs.Base.{Str}
 use Rattle.record.specs.Fill.{fronted}
 use Rattle.drafts.specs.Packing.{kept}
@@ -74,40 +76,26 @@ size-but xs ys row e = ap (λ (l : List ℕ). set l row 0) e
 
 -- which bytes lie in a place ------------------------------------------------------------------------------------------------
 
-module _ (starts sizes : List ℕ) (i : ℕ) (a : i < length starts) (b : i < length sizes) where
-  covering-on : (at : ℕ) → covering (drop i starts) (drop i sizes) at ≡ (in_place at (place_row (get_or starts i 0) (get_or sizes i 0)) || covering (drop (i + 1) starts) (drop (i + 1) sizes) at)
-  unfolding covering in_place
-  covering-on at =
-      let n : suc i ≡ i + 1 = omega arith in
-      ap₂ (λ (x y : List ℕ). covering x y at) (drop-cons starts i 0 a) (drop-cons sizes i 0 b)
-      ∙ ap (λ (k : ℕ). in_place at (place_row (get_or starts i 0) (get_or sizes i 0)) || covering (drop k starts) (drop k sizes) at) n
+module _ (starts sizes : List ℕ) (at : ℕ) where
+  module _ (a z : ℕ) (xs zs : List ℕ) (p : starts ≡ a ∷ xs) (q : sizes ≡ z ∷ zs) (b : Bool) (e : b ≡ in_place at (place_row a z)) where
+    covering-on : covering starts sizes at ≡ (b || covering xs zs at)
+    unfolding covering in_place
+    covering-on = rw (p, q, e)
 
-  before_on : (end : ℕ) → all_before (drop i starts) (drop i sizes) end ≡ bytes_before end (get_or starts i 0) (get_or sizes i 0) + all_before (drop (i + 1) starts) (drop (i + 1) sizes) end
-  unfolding all_before
-  before_on end =
-      let n : suc i ≡ i + 1 = omega arith in
-      ap₂ (λ (x y : List ℕ). all_before x y end) (drop-cons starts i 0 a) (drop-cons sizes i 0 b)
-      ∙ ap (λ (k : ℕ). bytes_before end (get_or starts i 0) (get_or sizes i 0) + all_before (drop k starts) (drop k sizes) end) n
-
-module _ (starts sizes : List ℕ) (at i : ℕ) (v : covering starts sizes at ≡ covering (drop i starts) (drop i sizes) at) where
-  module _ (g : i < length starts) (h : i < length sizes) (b : Bool) (e : b ≡ in_place at (place_row (get_or starts i 0) (get_or sizes i 0))) where
-    pub covers-on : b ≡ false → covering starts sizes at ≡ covering (drop (i + 1) starts) (drop (i + 1) sizes) at
-    covers-on f = v ∙ covering-on starts sizes i g h at ∙ rw (← e, f)
+    pub covers-on : b ≡ false → covering starts sizes at ≡ covering xs zs at
+    covers-on f = covering-on ∙ rw f
 
     pub covers-here : b ≡ true → true ≡ covering starts sizes at
-    covers-here f = sym (v ∙ covering-on starts sizes i g h at ∙ rw (← e, f))
+    covers-here f = sym (covering-on ∙ rw f)
 
-  pub covers-short : length sizes ≤ i → false ≡ covering starts sizes at
+  pub covers-end : (starts ≡ []) ⊎ (sizes ≡ []) → false ≡ covering starts sizes at
   unfolding covering
-  covers-short h = sym (v ∙ ap (λ (x : List ℕ). covering (drop i starts) x at) (drop_of_length-le sizes {i = i} h) ∙ go (drop i starts))
+  covers-end (inl e) = rw e
+  covers-end (inr e) = rw e (go starts)
     where
-      go : (x : List ℕ) → covering x [] at ≡ false
+      go : (x : List ℕ) → false ≡ covering x [] at
       go [] = refl
       go (a ∷ x) = refl
-
-  pub covers-end : length starts ≤ i → false ≡ covering starts sizes at
-  unfolding covering
-  covers-end h = sym (v ∙ ap (λ (x : List ℕ). covering x (drop i sizes) at) (drop_of_length-le starts {i = i} h))
 
 -- how many bytes stand before an end ----------------------------------------------------------------------------------------
 
@@ -124,44 +112,60 @@ module _ (end start size : ℕ) where
   unfolding bytes_before
   before-whole h k = rw (le-ltb end start h, le-ltb (end - start) size k)
 
-module _ (starts sizes : List ℕ) (end : ℕ) where
-  abbrev pub SumTo : ℕ → ℕ → Type 0
-  SumTo sum i = sum + all_before (drop i starts) (drop i sizes) end ≡ all_before starts sizes end
-
-  pub sum-start : SumTo 0 0
-  sum-start = omega arith
-
-  module _ (sum i x : ℕ) (v : SumTo sum i) (g : i < length starts) (h : i < length sizes) (e : x ≡ bytes_before end (get_or starts i 0) (get_or sizes i 0)) where
-    pub sum-on : SumTo (sum + x) (i + 1)
-    sum-on = let z = before_on starts sizes i g h end in omega arith
-
-    pub sum_fits : Spaced starts sizes → end < 18446744073709551616 → sum + x < 18446744073709551616
-    sum_fits s k =
-        let z = before_on starts sizes i g h end in
-        let f = s.few end in
-        omega arith
-
-  pub sum-short : (sum i : ℕ) → SumTo sum i → length sizes ≤ i → sum ≡ all_before starts sizes end
-  unfolding all_before
-  sum-short sum i v h =
-      let z : all_before (drop i starts) (drop i sizes) end ≡ 0 = ap (λ (t : List ℕ). all_before (drop i starts) t end) (drop_of_length-le sizes {i = i} h) ∙ go (drop i starts) in
-      omega arith
+  pub bytes-least : (d r : ℕ) → d ≡ end - start → r ≡ min size d → r ≡ bytes_before end start size
+  bytes-least d r e f = go (ltb end start) (ltb (end - start) size) refl refl
     where
-      go : (x : List ℕ) → all_before x [] end ≡ 0
-      go [] = refl
-      go (a ∷ x) = refl
+      go : (a b : Bool) → ltb end start ≡ a → ltb (end - start) size ≡ b → r ≡ bytes_before end start size
+      go true b h k = let x = ltb-true end start h in let z : r ≡ 0 = omega arith in z ∙ before-none x
+      go false true h k =
+          let x = ltb-false end start h in
+          let y = ltb-true (end - start) size k in
+          let z : r ≡ end - start = omega arith in
+          z ∙ before-some x y
+      go false false h k =
+          let x = ltb-false end start h in
+          let y = ltb-false (end - start) size k in
+          let z : r ≡ size = omega arith in
+          z ∙ before-whole x y
 
-  pub sum-end : (sum i : ℕ) → SumTo sum i → length starts ≤ i → sum ≡ all_before starts sizes end
-  unfolding all_before
-  sum-end sum i v h =
-      let z : all_before (drop i starts) (drop i sizes) end ≡ 0 = ap (λ (t : List ℕ). all_before t (drop i sizes) end) (drop_of_length-le starts {i = i} h) in
-      omega arith
+module _ (starts sizes : List ℕ) (end : ℕ) where
+  -- the sum so far, and the places that are left
+  abbrev pub SumTo : ℕ → List ℕ → List ℕ → Type 0
+  SumTo sum xs zs = sum + all_before xs zs end ≡ all_before starts sizes end
 
-pub least_first : (a b : ℕ) → a < b → a ≡ least a b
-least_first a b h = rw (lt-ltb a b h)
+  pub sum-start : (xs zs : List ℕ) → xs ≡ starts → zs ≡ sizes → SumTo 0 xs zs
+  sum-start xs zs p q = rw (p, q) (omega arith)
 
-pub least-second : (a b : ℕ) → b ≤ a → b ≡ least a b
-least-second a b h = rw (le-ltb a b h)
+  module _ (sum : ℕ) (left right : List ℕ) (v : SumTo sum left right) where
+    module _ (a z : ℕ) (xs zs : List ℕ) (p : left ≡ a ∷ xs) (q : right ≡ z ∷ zs) (x : ℕ) (e : x ≡ bytes_before end a z) where
+      before_on : all_before left right end ≡ x + all_before xs zs end
+      unfolding all_before
+      before_on = rw (p, q, e)
+
+      pub sum-on : SumTo (sum + x) xs zs
+      sum-on = let n = before_on in omega arith
+
+      pub sum_fits : Spaced starts sizes → end < 18446744073709551616 → sum + x < 18446744073709551616
+      sum_fits s k = let n = before_on in let f = s.few end in omega arith
+
+    none_before : (left ≡ []) ⊎ (right ≡ []) → all_before left right end ≡ 0
+    unfolding all_before
+    none_before (inl e) = rw e
+    none_before (inr e) = rw e (go left)
+      where
+        go : (x : List ℕ) → all_before x [] end ≡ 0
+        go [] = refl
+        go (a ∷ x) = refl
+
+    pub sum-end : (left ≡ []) ⊎ (right ≡ []) → sum ≡ all_before starts sizes end
+    sum-end h = let n = none_before h in omega arith
+
+pub least-min : (a b r : ℕ) → r ≡ min a b → r ≡ least a b
+least-min a b r e = go (ltb a b) refl
+  where
+    go : (t : Bool) → ltb a b ≡ t → r ≡ cond t a b
+    go true h = let k = ltb-true a b h in omega arith
+    go false h = let k = ltb-false a b h in omega arith
 
 module _ (starts sizes : List ℕ) (l : length starts ≡ 8) (len : ℕ) where
   moved-long : length (starts_after starts sizes len) ≡ 8
@@ -236,9 +240,6 @@ module _ (c : ℕ → Bool) (old : Str) where
 
     pub closing-add : i < length held → length old < 18446744073709551616 → end + 1 < 18446744073709551616
     closing-add h g = let k = front-few in let l = same-long in omega arith
-
-    pub closing-less : i < length held → length old - (i + 1) < length old - i
-    closing-less h = let l = same-long in omega arith
 
     next : i < length old → kept c 0 (take (i + 1) old) ≡ front ++ kept c i (get_or old i 0 ∷ [])
     next h =

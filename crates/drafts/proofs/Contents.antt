@@ -1,7 +1,7 @@
 -- A schema is read off what its commands say: equal contents, equal schema; and whether a type is vast too. Assumes nothing.
+use Rattle.std.specs.Prelude.{Option, None}
 use mathlib.Core.Path.{◌≡◌, refl, sym, ap, ap₂, ◌∙◌}
 use mathlib.Core.List.{List, [], ◌∷◌, ◌++◌, map}
-use mathlib.Core.Option.{Option, none}
 use mathlib.Core.Bool.{Bool, true, false, ◌||◌, cond}
 use Prim.Native.Nat.{ℕ}
 use lib.ListN.{get_or, drop}
@@ -13,7 +13,7 @@ use Rattle.record.specs.Le.{u16_at, u32_at, u64_at}
 use Rattle.record.specs.Operands.{flag_at, opt_number_at}
 use Rattle.record.specs.Commands.{operands, wide, family_at, commands_at}
 use Rattle.record.specs.Schema.{Schema, Heading, words, integer, Const, Alias, Enum, EnumValue, BitField, Member, Key, Field, Struct, Variant, Family, Version}
-use Rattle.record.specs.Lists.{listed, anything, nothing, a_key, a_field, number_of, heads, constants, aliases, values, enums, members, bitfields, keys, fields, structs, variants, families, unstored, versions, family_of}
+use Rattle.record.specs.Lists.{listed, anything, nothing, a_key, a_field, heads, constants, aliases, values, enums, members, bitfields, keys, fields, structs, variants, families, unstored, versions, family_of}
 use Rattle.record.specs.Shapes.{fam_prefix}
 use Rattle.record.specs.Reading.{Rec, release_of, unreleased_of, schema_from, schema_of, Opened, opened_at, opened}
 use Rattle.record.specs.CommandTexts.{no_text}
@@ -27,9 +27,9 @@ text_in (maybe o) = []
 text_in (plain s) = []
 
 abbrev pub opt_in : Operand → Option Str
-opt_in (text s) = none
+opt_in (text s) = None
 opt_in (maybe o) = o
-opt_in (plain s) = none
+opt_in (plain s) = None
 
 abbrev pub plain_in : Operand → Str
 plain_in (text s) = []
@@ -80,7 +80,7 @@ abbrev pub bitfield_in : Content → List Member → BitField
 bitfield_in d l = record { name = text_arg 0 d; size = u32_at (plain_arg 1 d) 0; since = opt_arg 2 d; members = l }
 
 abbrev pub member_in : Content → Member
-member_in d = record { name = text_arg 0 d; bit = u32_at (plain_arg 1 d) 0; width = number_of (opt_number_at (plain_arg 2 d) 0); since = opt_arg 3 d }
+member_in d = record { name = text_arg 0 d; bit = u32_at (plain_arg 1 d) 0; width = opt_number_at (plain_arg 2 d) 0; since = opt_arg 3 d }
 
 abbrev pub struct_in : Content → List Field → Struct
 struct_in d l = record { name = text_arg 0 d; slot = opt_arg 1 d; version = opt_arg 2 d; fields = l }
@@ -106,10 +106,10 @@ field_in d k = record {
   kind = text_arg 1 d;
   typ = opt_arg 2 d;
   element = opt_arg 3 d;
-  count = number_of (opt_number_at (plain_arg 4 d) 0);
-  rows = number_of (opt_number_at (plain_arg 5 d) 0);
-  cols = number_of (opt_number_at (plain_arg 6 d) 0);
-  size = number_of (opt_number_at (plain_arg 7 d) 0);
+  count = opt_number_at (plain_arg 4 d) 0;
+  rows = opt_number_at (plain_arg 5 d) 0;
+  cols = opt_number_at (plain_arg 6 d) 0;
+  size = opt_number_at (plain_arg 7 d) 0;
   key = k;
 }
 

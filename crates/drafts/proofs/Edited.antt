@@ -1,4 +1,5 @@
 -- What an edit does to the schema: the type is appended, or the first of the name is taken out; all else stays. Assumes nothing.
+use Rattle.std.specs.Prelude.{Some, None, Result, Ok, Err}
 use mathlib.Core.Path.{◌≡◌, refl, sym, ap, ap₂, ◌∙◌, subst}
 use mathlib.Core.List.Memᴰ
 use mathlib.Core.List.{List, [], ◌∷◌, ◌++◌, map, map-append, append-nil, Memᴰ}
@@ -18,8 +19,6 @@ use Rattle.record.specs.Reading.{Rec, schema_of, read, reading, ok, continued, p
 use Rattle.record.specs.declared.command.Cursor.{Cursor}
 use Rattle.record.specs.declared.refusal.Side.{Side}
 use Rattle.record.specs.declared.refusal.Side.TheVariants.{Current}
-use Rattle.record.specs.declared.judge.Judged.{Judged}
-use Rattle.record.specs.declared.judge.Judged.TheVariants.{Next, Done, Refused}
 use Rattle.record.proofs.Basics.{both}
 use Rattle.record.proofs.Accepted.{onto-ok}
 use Rattle.record.specs.CommandTexts.{no_text}
@@ -33,6 +32,7 @@ use Rattle.drafts.proofs.Chains.{Quiet, no_part, part-quiet, type-quiet}
 use Rattle.drafts.proofs.Results.{removed-result, parse-all}
 use Rattle.drafts.proofs.Additions.{type-far, added-result, body, body-tail}
 use Rattle.drafts.proofs.Sections.{Apart, Section, rest-same, types_of, OneType, a_struct, a-family, one_type}
+use Rattle.record.specs.Judge.{Judged}
 
 module _ (s p : Str) where
   number_is : (at : ℕ) → (content_at s p at).number ≡ get_or s at 0
@@ -181,11 +181,11 @@ module _ (side : Side) (s p : Str) where
 
       go : (j : Judged) → judged_at side s p c ≡ j → continued c.at (parse k side s p) j ≡ ok ps
           → ((j : Cursor) (qs : List ℕ) → parse k side s p j ≡ ok qs → Quiet j.last → Behind qs) → Behind ps
-      go (Next d j) e h ih =
+      go (Ok (Some (d, j))) e h ih =
           let t = onto-ok c.at (parse k side s p j) ps h in
           subst (λ (l : List ℕ). Behind l) t.whole (part j (went side s p c d j e) t.more t.parsed-so (is_part (get_or s c.at 0)) refl ih)
-      go Done e h ih = let q : [] ≡ ps = cc in subst (λ (l : List ℕ). Behind l) q (record { parts = []; whole = refl; are-parts = λ a m. absurd (Memᴰ.not-nil m); apart = tt })
-      go (Refused r q) e h ih = absurd (let z : ◌≡◌ {A = ℕ} 0 1 = cc in omega arith)
+      go (Ok None) e h ih = let q : [] ≡ ps = cc in subst (λ (l : List ℕ). Behind l) q (record { parts = []; whole = refl; are-parts = λ a m. absurd (Memᴰ.not-nil m); apart = tt })
+      go (Err (r, q)) e h ih = absurd (let z : ◌≡◌ {A = ℕ} 0 1 = cc in omega arith)
 
   -- the first type of a name, cut out
   pub record CutOut (v : Str) (ps : List ℕ) : Type 0 where
@@ -246,12 +246,12 @@ module _ (side : Side) (s p : Str) where
 
       go : (j : Judged) → judged_at side s p c ≡ j → continued c.at (parse k side s p) j ≡ ok ps
           → ((j : Cursor) (qs : List ℕ) → parse k side s p j ≡ ok qs → any (named s p v) qs ≡ true → CutOut v qs) → CutOut v ps
-      go (Next d j) e h ih =
+      go (Ok (Some (d, j))) e h ih =
           let t = onto-ok c.at (parse k side s p j) ps h in
           subst (λ (l : List ℕ). CutOut v l) t.whole
           (type j (went side s p c d j e) t.more t.parsed-so (named s p v c.at) refl (subst (λ (l : List ℕ). any (named s p v) l ≡ true) (sym t.whole) y) ih)
-      go Done e h ih = let q : [] ≡ ps = cc in absurd (false≢true (subst (λ (l : List ℕ). any (named s p v) l ≡ true) (sym q) y))
-      go (Refused r q) e h ih = absurd (let z : ◌≡◌ {A = ℕ} 0 1 = cc in omega arith)
+      go (Ok None) e h ih = let q : [] ≡ ps = cc in absurd (false≢true (subst (λ (l : List ℕ). any (named s p v) l ≡ true) (sym q) y))
+      go (Err (r, q)) e h ih = absurd (let z : ◌≡◌ {A = ℕ} 0 1 = cc in omega arith)
 
 neither : (x y : Bool) → (x || y) ≡ false → (x ≡ false) × (y ≡ false)
 neither true y h = absurd (false≢true (sym h))

@@ -1,7 +1,7 @@
 -- A draft, its edits, its counts and its coming back from a shelf on bytes, computed. Assumes nothing.
+use Rattle.std.specs.Prelude.{Option, Some, None}
 use mathlib.Core.Path.{◌≡◌, refl}
 use mathlib.Core.List.{List, [], ◌∷◌, ◌++◌}
-use mathlib.Core.Option.{Option, none, some}
 use mathlib.Core.Bool.{Bool, false}
 use Prim.Native.Nat.{ℕ}
 use native.Mathlib.Omega.{arith}
@@ -110,7 +110,7 @@ unfolding record_of
 three-calls = setting (bytes "a") ∷ editing record_of (removing (bytes "t")) ∷ setting (bytes "b") ∷ []
 
 unfoldable pub no_names : Str → Option Rec
-no_names n = none
+no_names n = None
 
 -- what 02 asks for, in this order: the draft equals its copy, and the count is 0; an addition fits into the room to the byte; with a byte less it is 10;
 -- a series of an addition, the same again, which is 55, and the first structure taken out; two drafts held one behind the other, with no byte between;
@@ -123,7 +123,7 @@ pub record Computed : Type 0 where
       (record { changed = 2; buffer = fronted (fronted lent (parts_of both)) (parts_of one) })
   pub fits : ◌≡◌ {A = Bool} (forged (length begin.held) begin.rows) false
   pub both-held : ◌≡◌ {A = Str} (calls built_in begin three-calls).held (parts_of record_of ++ parts_of bare)
-  pub a-holds : ◌≡◌ {A = Option Rec} (named built_in begin no_names three-calls (bytes "a")) (some record_of)
+  pub a-holds : ◌≡◌ {A = Option Rec} (named built_in begin no_names three-calls (bytes "a")) (Some record_of)
   pub is-back : ◌≡◌ {A = DraftState} (calls built_in begin (three-calls ++ backing record_of (bytes "a") ∷ [])).kept
       (record { changed = 0; buffer = fronted (fronted lent (parts_of bare)) (parts_of record_of) })
   pub copy_read : ◌≡◌ {A = Reading} (reading Released record_of) (read (schema_of record_of))

@@ -1,19 +1,19 @@
 -- The search for a type. Assumes nothing.
+use Rattle.std.specs.Prelude.{Some, None}
 use mathlib.Core.Path.{◌≡◌, refl, sym, ap, ◌∙◌}
 use mathlib.Core.List.{List, [], ◌∷◌, ◌++◌, append_assoc, append-nil}
-use mathlib.Core.Bool.{Bool, true, false}
+use mathlib.Core.Bool.{Bool, true, false, ◌||◌}
 use Prim.Native.Nat.{ℕ, ◌≤◌, ◌<◌}
 use native.Mathlib.Omega.{arith}
 use lib.ListN.{get_or, drop}
 use lib.Dec.{eqb}
-use borrow.Author.Tests.{eq-eqb, ne_eqb, lt-ltb}
+use borrow.Author.Tests.{ne_eqb, lt-ltb, eqb-false}
 use Rattle.record.specs.Base.{Str, any, eqs}
 use Rattle.record.specs.Stretch.{text_of}
 use Rattle.record.specs.Operands.{text_at}
 use Rattle.record.specs.Commands.{commands_at}
 use Rattle.record.specs.Seek.{after_at}
 use Rattle.record.specs.declared.text.Text.{Text}
-use Rattle.record.specs.declared.seek.Sought.TheVariants.{Nowhere, At}
 use Rattle.record.proofs.Stream.{commands-next, commands-stop, step-found}
 use Rattle.record.proofs.SeekLaws.{stepped, ended-there}
 use Rattle.drafts.specs.Addition.{is_type, is_part}
@@ -23,25 +23,32 @@ use Rattle.drafts.specs.Found.{TypeAt}
 use Rattle.drafts.proofs.PutLaws.{range-end}
 
 module _ (b : ℕ) where
-  pub type-eight : b ≡ 8 → true ≡ is_type b
+  pub type-in : 8 ≤ b → b ≤ 9 → true ≡ is_type b
   unfolding is_type
-  type-eight e = rw (eq-eqb b 8 e)
+  type-in h k = go (eqb b 8) (eqb b 9) refl refl
+    where
+      go : (x y : Bool) → eqb b 8 ≡ x → eqb b 9 ≡ y → true ≡ (x || y)
+      go true y e f = refl
+      go false true e f = refl
+      go false false e f = let p = eqb-false b 8 e in let q = eqb-false b 9 f in absurd (omega arith)
 
-  pub type-nine : (b ≡ 8 → ⊥) → (r : Bool) → r ≡ eqb b 9 → r ≡ is_type b
+  pub type-out : (b ≡ 8 → ⊥) → (b ≡ 9 → ⊥) → false ≡ is_type b
   unfolding is_type
-  type-nine n r e = rw (ne_eqb b 8 n) e
+  type-out n m = rw (ne_eqb b 8 n, ne_eqb b 9 m)
 
-  pub part-ten : b ≡ 10 → true ≡ is_part b
+  pub part-in : 10 ≤ b → b ≤ 12 → true ≡ is_part b
   unfolding is_part
-  part-ten e = rw (eq-eqb b 10 e)
+  part-in h k = go (eqb b 10) (eqb b 11) (eqb b 12) refl refl refl
+    where
+      go : (x y z : Bool) → eqb b 10 ≡ x → eqb b 11 ≡ y → eqb b 12 ≡ z → true ≡ (x || y || z)
+      go true y z e f g = refl
+      go false true z e f g = refl
+      go false false true e f g = refl
+      go false false false e f g = let p = eqb-false b 10 e in let q = eqb-false b 11 f in let r = eqb-false b 12 g in absurd (omega arith)
 
-  pub part-eleven : (b ≡ 10 → ⊥) → b ≡ 11 → true ≡ is_part b
+  pub part-out : (b ≡ 10 → ⊥) → (b ≡ 11 → ⊥) → (b ≡ 12 → ⊥) → false ≡ is_part b
   unfolding is_part
-  part-eleven n e = rw (ne_eqb b 10 n, eq-eqb b 11 e)
-
-  pub part-twelve : (b ≡ 10 → ⊥) → (b ≡ 11 → ⊥) → eqb b 12 ≡ is_part b
-  unfolding is_part
-  part-twelve n m = rw (ne_eqb b 10 n, ne_eqb b 11 m)
+  part-out n m o = rw (ne_eqb b 10 n, ne_eqb b 11 m, ne_eqb b 12 o)
 
 module _ (s p n : Str) (at b : ℕ) (e : b ≡ get_or s at 0) (t : Bool) (f : t ≡ is_type b) where
   pub named_other : t ≡ false → false ≡ named s p n at
@@ -95,7 +102,7 @@ pub finding-start : (s p n : Str) → Finding s p n 0
 finding-start s p n = record { front = []; split = refl; below = λ e h l. refl; none = λ l. refl; stays = λ l. refl }
 
 module _ (s p n : Str) (at k : ℕ) (c : Finding s p n at) (e : k ≡ after_at s at) where
-  pub finding-none : k ≡ 0 → TypeAt s p n Nowhere
+  pub finding-none : k ≡ 0 → TypeAt s p n None
   unfolding any
   finding-none z = ap (any (named s p n)) c.split ∙ c.none (commands_at s at) ∙ rw (commands-none s at k e z)
 
@@ -114,7 +121,7 @@ module _ (s p n : Str) (at k : ℕ) (c : Finding s p n at) (e : k ≡ after_at s
           stays = λ l. ap (without s p n) (o l) ∙ c.stays (at ∷ l) ∙ ap (λ (y : List ℕ). c.front ++ y) (rw g) ∙ sym (o (without s p n l));
         }
 
-    pub finding-here : (j : ℕ) → (k ≡ 0 → ⊥) → t ≡ true → commands_at s j ≡ after_parts s (commands_at s k) → TypeAt s p n (At at j)
+    pub finding-here : (j : ℕ) → (k ≡ 0 → ⊥) → t ≡ true → commands_at s j ≡ after_parts s (commands_at s k) → TypeAt s p n (Some (at, j))
     unfolding any without chosen
     finding-here j z h q =
         let g : named s p n at ≡ true = sym f ∙ h in

@@ -1,4 +1,5 @@
 -- The cases of reading a record in a buffer. Assumes nothing.
+use Rattle.std.specs.Prelude.{Result, Ok, Err, ⊤}
 use mathlib.Core.Path.{◌≡◌, refl, sym, ap, ap₂, subst, ◌∙◌}
 use mathlib.Core.List.{List}
 use mathlib.Core.Bool.{Bool, true, false, ◌&&◌, cond}
@@ -14,10 +15,9 @@ use Rattle.record.specs.Reading.{Rec, rec, refuse, reading, stream_limit, pool_l
 use Rattle.record.specs.Read.{reading_of, Exact, Read}
 use Rattle.record.specs.declared.refusal.Side.TheVariants.{Current}
 use Rattle.record.specs.declared.refusal.Refusal.TheVariants as R
-use Rattle.record.specs.declared.read.Outcome.{Outcome}
-use Rattle.record.specs.declared.read.Outcome.TheVariants.{Readable, Refused}
 use Rattle.drafts.specs.Parts.{stated, part, after_part, held_rec, read_held}
 use Rattle.drafts.specs.Code.{HeldRead}
+use Rattle.record.specs.declared.refusal.Refusal.{Refusal}
 
 module _ (b : Str) where
   pub stated-cut : length b < 4 → 0 ≡ stated b
@@ -37,19 +37,19 @@ module _ (b : Str) where
     unfolding after_part
     after_read h = h ∙ ap₂ (λ (k : ℕ) (l : Str). drop k l) e d
 
-refusal : (w : List Scalar) (b : Str) → refuse R.Long 0 ≡ read_held w b → HeldRead w b (Refused R.Long 0)
+refusal : (w : List Scalar) (b : Str) → refuse R.Long 0 ≡ read_held w b → HeldRead w b (Err (R.Long, 0))
 refusal w b e = record { answer = e; exact = λ z. absurd (other z); short = λ z. absurd (other z); small = λ z. absurd (other z) }
   where
-    other : Refused R.Long 0 ≡ Readable → ⊥
+    other : ◌≡◌ {A = Result ⊤ (Refusal × ℕ)} (Err (R.Long, 0)) (Ok tt) → ⊥
     other z = let y : ◌≡◌ {A = ℕ} 0 1 = cc in omega arith
 
 module _ (w : List Scalar) (b : Str) (n : ℕ) (e : n ≡ stated b) where
-  pub held-long : 32768 < n → HeldRead w b (Refused R.Long 0)
+  pub held-long : 32768 < n → HeldRead w b (Err (R.Long, 0))
   unfolding read_held stream_limit
   held-long h = refusal w b (rw (← e, lt-leb n 32768 h))
 
   module _ (x : Str) (f : x ≡ after_part b) (m : ℕ) (g : m ≡ stated x) where
-    pub held-wide : 16384 < m → HeldRead w b (Refused R.Long 0)
+    pub held-wide : 16384 < m → HeldRead w b (Err (R.Long, 0))
     unfolding read_held pool_limit
     held-wide h = refusal w b (rw (← f, ← g, lt-leb m 16384 h) (either (leb (stated b) stream_limit)))
       where
@@ -57,7 +57,7 @@ module _ (w : List Scalar) (b : Str) (n : ℕ) (e : n ≡ stated b) where
         either true = refl
         either false = refl
 
-    pub held-record : n ≤ 32768 → m ≤ 16384 → (s p : Str) → s ≡ part b → p ≡ part x → (r : Outcome) → Read Current (rec s p w) r → HeldRead w b r
+    pub held-record : n ≤ 32768 → m ≤ 16384 → (s p : Str) → s ≡ part b → p ≡ part x → (r : Result ⊤ (Refusal × ℕ)) → Read Current (rec s p w) r → HeldRead w b r
     unfolding read_held stream_limit pool_limit held_rec part
     held-record h k s p i j r a =
         let q : rec s p w ≡ held_rec w b = ap₂ (λ (y z : Str). rec y z w) i (j ∙ ap part f) in

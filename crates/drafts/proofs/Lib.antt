@@ -29,7 +29,6 @@ pub mod AnswerLaws
 pub mod SettleLaws
 pub mod SumLaws
 pub mod FinishLaws
-pub mod Outcomes
 pub mod Arrays
 pub mod RowLaws
 pub mod PlaceLaws

@@ -1,26 +1,22 @@
 -- Marks on the bytes of texts, one text after the other; ranks; and the marked bytes. Assumes nothing.
+use Rattle.std.specs.Prelude.{Option, Some, None}
 use mathlib.Core.Path.{◌≡◌, refl, sym, ap, ap₂, subst, ◌∙◌}
 use mathlib.Core.List.{List, [], ◌∷◌, ◌++◌, append_assoc, append-nil}
-use mathlib.Core.Option.{Option, none, some}
+use mathlib.Core.Logic.{◌⊎◌, inl, inr}
 use mathlib.Core.Bool.{Bool, true, false, ◌&&◌, ◌||◌, not, cond}
-use Prim.Native.Nat.{ℕ, suc, ◌+◌, ◌≤◌, ◌<◌}
+use Prim.Native.Nat.{ℕ, suc, ◌+◌, ◌-◌, ◌≤◌, ◌<◌, min}
 use native.Mathlib.Numerals.{add-one}
 use native.Mathlib.Omega.{arith}
-use lib.ListN.{length, get_or, take, drop, set, length-set, drop_of_length-le}
-use lib.Seq.{drop-cons, get_or-set_same, get_or-set_other}
+use lib.ListN.{length, get_or, take, drop, replicate, length-append, length-drop, length-replicate, get_or-append, get_or-replicate, drop_of_length-le, set, length-set}
+use lib.Seq.{drop-cons, get_or-set_same, get_or-set_other, length-take-le, get_or-take, get_or-drop, get_or-append-add}
 use lib.Dec.{eqb, ltb, leb}
-use borrow.Author.Tests.{le-leb, lt-ltb, le-ltb, ne_eqb, eq-eqb, eqb-true, eqb-false, ltb-true, ltb-false, leb-true}
-use types.Run.{OneOf}
-use denote.Enum.Declared.{tag_of}
+use borrow.Author.Tests.{le-leb, lt-leb, lt-ltb, le-ltb, ne_eqb, eq-eqb, eqb-true, eqb-false, ltb-true, ltb-false}
 use Rattle.record.specs.Base.{Str, any, with_some}
 use Rattle.record.specs.Operands.{opt_text_at}
 use Rattle.record.specs.Commands.{operands, wide, commands_at}
 use Rattle.record.specs.Seek.{after_at}
 use Rattle.record.specs.declared.text.Text.{Text}
-use Rattle.record.specs.declared.operands.OptText.{OptText}
-use Rattle.record.specs.declared.operands.OptText.TheVariants.{Absent, Given}
-use Rattle.record.specs.contracts.operands.OptText.{the_type}
-use Rattle.record.specs.CommandTexts.{no_text, given, texts_from, texts_with, texts_at}
+use Rattle.record.specs.CommandTexts.{no_text, texts_from, texts_with, texts_at}
 use Rattle.drafts.specs.Packing.{texts_of, covers, covered, kept}
 use Rattle.drafts.specs.Code.{or_none, up_to, operand_texts, Marks, is_marked, marks_before, Ranked}
 use Rattle.drafts.proofs.PutLaws.{range-end, range-stop, range-on}
@@ -75,92 +71,126 @@ marking-end {whole} {rest} {m} {a} p e =
 -- one text -----------------------------------------------------------------------------------------------------------------------------
 
 -- the bytes from a start on and below a place are marked
-pub record MarkedTo (before m : List ℕ) (start len i : ℕ) : Type 0 where
-  pub long : length m ≡ length before
-  pub each : (q : ℕ) → q < length before → get_or m q 0 ≡ cond (leb start q && ltb q i) 1 (get_or before q 0)
-  pub ahead : start ≤ i
-  pub within : i ≤ start + len
+module _ (m : List ℕ) (s e : ℕ) (a : s ≤ e) (b : e ≤ length m) where
+  abbrev ones : List ℕ
+  ones = replicate (e - s) 1
 
-pub marked_start : (m : List ℕ) (i len : ℕ) → MarkedTo m m i len i
-marked_start m i len = record { long = refl; each = λ q h. go q (leb i q) refl; ahead = omega arith; within = omega arith }
+  abbrev post : List ℕ
+  post = drop (e - s) (drop s m)
+
+  abbrev filled : List ℕ
+  filled = take s m ++ (ones ++ post)
+
+  front_long : length (take s m) ≡ s
+  front_long = length-take-le s m (omega arith)
+
+  filled-long : length filled ≡ length m
+  filled-long =
+      let n = front_long in
+      let r : length ones ≡ e - s = length-replicate (e - s) 1 in
+      let x = length-append (take s m) (ones ++ post) in
+      let y = length-append ones post in
+      let z = length-drop (e - s) (drop s m) in
+      let w = length-drop s m in
+      omega arith
+
+  filled-low : (q : ℕ) → q < s → get_or filled q 0 ≡ get_or m q 0
+  filled-low q h = let n = front_long in get_or-append (take s m) (ones ++ post) 0 q (omega arith) ∙ get_or-take s m q 0 h
+
+  filled-past : (q : ℕ) → s ≤ q → get_or filled q 0 ≡ get_or (ones ++ post) (q - s) 0
+  filled-past q h =
+      let n = front_long in
+      let z : length (take s m) + (q - s) ≡ q = omega arith in
+      subst (λ (k : ℕ). get_or filled k 0 ≡ get_or (ones ++ post) (q - s) 0) z (get_or-append-add (take s m) (ones ++ post) (q - s) 0)
+
+  filled-in : (q : ℕ) → s ≤ q → q < e → get_or filled q 0 ≡ 1
+  filled-in q h k =
+      let r : length ones ≡ e - s = length-replicate (e - s) 1 in
+      filled-past q h ∙ get_or-append ones post 0 (q - s) (omega arith) ∙ get_or-replicate (e - s) (q - s) 1 0 (omega arith)
+
+  filled-high : (q : ℕ) → e ≤ q → get_or filled q 0 ≡ get_or m q 0
+  filled-high q h =
+      let r : length ones ≡ e - s = length-replicate (e - s) 1 in
+      let z : length ones + (q - e) ≡ q - s = omega arith in
+      let y : s + (e - s + (q - e)) ≡ q = omega arith in
+      filled-past q (omega arith)
+      ∙ subst (λ (k : ℕ). get_or (ones ++ post) k 0 ≡ get_or post (q - e) 0) z (get_or-append-add ones post (q - e) 0)
+      ∙ get_or-drop (e - s) (drop s m) (q - e) 0
+      ∙ get_or-drop s m (e - s + (q - e)) 0
+      ∙ ap (λ (k : ℕ). get_or m k 0) y
+
+-- the bytes of a text, as far as the marks go
+pub text-filled : (m ys : List ℕ) (t : Text) (s e : ℕ) → e ≡ min (length m) (t.start + t.len) → s ≡ min e t.start → ys ≡ replicate (length (take (e - s) (drop s m))) 1
+    → Marks (t ∷ []) m (take s m ++ (ys ++ drop (e - s) (drop s m)))
+unfolding covered any covers
+text-filled m ys t s e p q r =
+    let a : s ≤ e = omega arith in
+    let b : e ≤ length m = omega arith in
+    let l = length-drop s m in
+    let n : length (take (e - s) (drop s m)) ≡ e - s = length-take-le (e - s) (drop s m) (omega arith) in
+    rw (r, n) (record { long = filled-long m s e a b; each = λ i h. go a b i h (ltb i s) (ltb i e) refl refl })
   where
-    go : (q : ℕ) (b : Bool) → leb i q ≡ b → get_or m q 0 ≡ cond (leb i q && ltb q i) 1 (get_or m q 0)
-    go q true e = let l = leb-true i q e in rw (e, le-ltb q i l)
-    go q false e = rw e
+    unmarked : (x : Bool) (v : ℕ) → v ≡ cond (x && false || false) 1 v
+    unmarked true v = refl
+    unmarked false v = refl
 
-module _ (before m : List ℕ) (start len i : ℕ) (c : MarkedTo before m start len i) where
-  pub marked-on : i < start + len → i < length m → MarkedTo before (set m i 1) start len (i + 1)
-  marked-on k h =
-      let s = c.ahead in
-      record { long = length-set m i 1 ∙ c.long; each = λ q l. go q l (eqb q i) refl; ahead = omega arith; within = omega arith }
-    where
-      other : (q : ℕ) → (q ≡ i → ⊥) → (b : Bool) → ltb q i ≡ b → ltb q (i + 1) ≡ ltb q i
-      other q ne true e = let l = ltb-true q i e in rw (e, lt-ltb q (i + 1) (omega arith))
-      other q ne false e = let l = ltb-false q i e in rw (e, le-ltb q (i + 1) (omega arith))
+    go : (a : s ≤ e) (b : e ≤ length m) (i : ℕ) → i < length m → (x y : Bool) → ltb i s ≡ x → ltb i e ≡ y
+        → get_or (filled m s e a b) i 0 ≡ cond (leb t.start i && ltb i (t.start + t.len) || false) 1 (get_or m i 0)
+    go a b i h true y u v = let k = ltb-true i s u in filled-low m s e a b i k ∙ rw (lt-leb t.start i (omega arith))
+    go a b i h false true u v =
+        let k = ltb-false i s u in
+        let l = ltb-true i e v in
+        filled-in m s e a b i k l ∙ rw (le-leb t.start i (omega arith), lt-ltb i (t.start + t.len) (omega arith))
+    go a b i h false false u v =
+        let k = ltb-false i e v in
+        filled-high m s e a b i k ∙ rw (le-ltb i (t.start + t.len) (omega arith)) (unmarked (leb t.start i) (get_or m i 0))
 
-      go : (q : ℕ) → q < length before → (b : Bool) → eqb q i ≡ b → get_or (set m i 1) q 0 ≡ cond (leb start q && ltb q (i + 1)) 1 (get_or before q 0)
-      go q l true e =
-          let z = eqb-true q i e in
-          let s = c.ahead in
-          rw (le-leb start q (omega arith), lt-ltb q (i + 1) (omega arith)) (subst (λ (x : ℕ). get_or (set m i 1) x 0 ≡ 1) (sym z) (get_or-set_same m i 1 0 h))
-      go q l false e =
-          let ne = eqb-false q i e in
-          rw (other q ne (ltb q i) refl) (get_or-set_other m i q 1 0 ne ∙ c.each q l)
-
-  module _ (t : Text) (a : start ≡ t.start) (b : len ≡ t.len) where
-    pub marked-end : start + len ≤ i → Marks (t ∷ []) before m
-    unfolding covered any covers
-    marked-end h = record { long = c.long; each = λ q l. let w = c.within in let e : i ≡ start + len = omega arith in c.each q l ∙ (rw (e, ← a, ← b) (go (leb start q && ltb q (start + len)) (get_or before q 0))) }
-      where
-        go : (b : Bool) (v : ℕ) → cond b 1 v ≡ cond (b || false) 1 v
-        go true v = refl
-        go false v = refl
-
-    pub marked-past : length m ≤ i → Marks (t ∷ []) before m
-    unfolding covered any covers
-    marked-past l = record { long = c.long; each = λ q h. let n = c.long in let w = c.within in c.each q h ∙ (rw (lt-ltb q i (omega arith), ← a, ← b, lt-ltb q (start + len) (omega arith)) (go (leb start q) (get_or before q 0))) }
-      where
-        go : (b : Bool) (v : ℕ) → cond (b && true) 1 v ≡ cond (b && true || false) 1 v
-        go true v = refl
-        go false v = refl
-
-module _ (t : OptText) (m a : List ℕ) where
-  pub given-none : OneOf (0 ∷ []) (tag_of the_type t) → Marks (with_some (given t) []) m m
+module _ (t : Option Text) (m a : List ℕ) where
+  pub given-none : t ≡ None → Marks (with_some t []) m m
   unfolding with_some
-  given-none h = go t h
-    where
-      go : (t : OptText) → OneOf (0 ∷ []) (tag_of the_type t) → Marks (with_some (given t) []) m m
-      go Absent h = marks-none m
-      go (Given v) h = absurd (omega (arith, h))
+  given-none h = rw h (marks-none m)
 
-  pub given-some : (v : Text) → t ≡ Given v → Marks (v ∷ []) m a → Marks (with_some (given t) []) m a
+  pub given-some : (v : Text) → t ≡ Some v → Marks (v ∷ []) m a → Marks (with_some t []) m a
   unfolding with_some
   given-some v e h = rw e h
 
 -- operands, rows, commands ---------------------------------------------------------------------------------------------------------------
 
-pub text-letter : (o : ℕ) → (o ≡ 70 → ⊥) → (o ≡ 78 → ⊥) → (o ≡ 87 → ⊥) → (o ≡ 86 → ⊥) → false ≡ no_text o
+pub plain-letter : (o : ℕ) → (o ≡ 70) ⊎ (o ≡ 78) → true ≡ no_text o
 unfolding no_text
-text-letter o h1 h2 h3 h4 = rw (ne_eqb o 70 h1, ne_eqb o 78 h2, ne_eqb o 87 h3, ne_eqb o 86 h4)
+plain-letter o (inl e) = rw e
+plain-letter o (inr e) = rw e
+
+pub wide-letter : (o : ℕ) → 86 ≤ o → o ≤ 87 → true ≡ no_text o
+unfolding no_text
+wide-letter o h k = go (eqb o 86) refl
+  where
+    go : (x : Bool) → eqb o 86 ≡ x → true ≡ no_text o
+    go true e = rw (eqb-true o 86 e)
+    go false e = let p = eqb-false o 86 e in let q : o ≡ 87 = omega arith in rw q
+
+pub text-letter : (o : ℕ) → ((o ≡ 70) ⊎ (o ≡ 78) → ⊥) → (o ≡ 87 → ⊥) → (o ≡ 86 → ⊥) → false ≡ no_text o
+unfolding no_text
+text-letter o h k l = rw (ne_eqb o 70 (λ e. h (inl e)), ne_eqb o 78 (λ e. h (inr e)), ne_eqb o 87 k, ne_eqb o 86 l)
 
 module _ (x : Str) (i o : ℕ) (b : Bool) (e : b ≡ no_text o) (m : List ℕ) where
   pub operand-plain : b ≡ true → Marks (operand_texts x i o) m m
   unfolding operand_texts
   operand-plain h = rw (← e, h) (marks-none m)
 
-  pub operand-text : (a : List ℕ) (t : OptText) → b ≡ false → t ≡ opt_text_at x i → Marks (with_some (given t) []) m a → Marks (operand_texts x i o) m a
+  pub operand-text : (a : List ℕ) (t : Option Text) → b ≡ false → t ≡ opt_text_at x i → Marks (with_some t []) m a → Marks (operand_texts x i o) m a
   unfolding operand_texts
   operand-text a t h k p = rw (← e, h, ← k) p
 
 module _ (x l : Str) (i k : ℕ) where
   pub texts-on : (o w : ℕ) → k < length l → o ≡ get_or l k 0 → w ≡ wide o → texts_from x i (drop k l) ≡ operand_texts x i o ++ texts_from x (i + w) (drop (k + 1) l)
   unfolding texts_from operand_texts with_some
-  texts-on o w h e g = rw (add-one, drop-cons l k 0, ← e, g) (go (no_text o) (given (opt_text_at x i)))
+  texts-on o w h e g = rw (add-one, drop-cons l k 0, ← e, g) (go (no_text o) (opt_text_at x i))
     where
       go : (b : Bool) (t : Option Text) → cond b (texts_from x (i + wide o) (drop (suc k) l)) (with_some t (texts_from x (i + wide o) (drop (suc k) l))) ≡ cond b [] (with_some t []) ++ texts_from x (i + wide o) (drop (suc k) l)
       go true t = refl
-      go false none = refl
-      go false (some v) = refl
+      go false None = refl
+      go false (Some v) = refl
 
   pub texts-end : length l ≤ k → texts_from x i (drop k l) ≡ []
   unfolding texts_from
@@ -168,14 +198,13 @@ module _ (x l : Str) (i k : ℕ) where
 
 texts-with : (x : Str) (o : Option Str) → texts_with x o ≡ texts_from x 1 (or_none o)
 unfolding texts_with or_none texts_from
-texts-with x none = refl
-texts-with x (some os) = refl
+texts-with x None = refl
+texts-with x (Some os) = refl
 
-pub command-marked : (s x l letters m a : Str) (place b n : ℕ) → b ≡ get_or s place 0 → take n letters ≡ or_none (operands b) → l ≡ take n letters → x ≡ drop place s
-    → Marks (texts_from x 1 l) m a → Marks (texts_at s place) m a
+pub command-marked : (s x l m a : Str) (place b : ℕ) → b ≡ get_or s place 0 → l ≡ or_none (operands b) → x ≡ drop place s → Marks (texts_from x 1 l) m a → Marks (texts_at s place) m a
 unfolding texts_at
-command-marked s x l letters m a place b n e g h j p =
-    subst (λ (ts : List Text). Marks ts m a) (ap₂ (λ (y z : Str). texts_from y 1 z) j (h ∙ g) ∙ sym (texts-with (drop place s) (operands b)) ∙ ap (λ (y : ℕ). texts_with (drop place s) (operands y)) e) p
+command-marked s x l m a place b e h j p =
+    subst (λ (ts : List Text). Marks ts m a) (ap₂ (λ (y z : Str). texts_from y 1 z) j h ∙ sym (texts-with (drop place s) (operands b)) ∙ ap (λ (y : ℕ). texts_with (drop place s) (operands y)) e) p
 
 module _ (s : Str) (place to : ℕ) where
   abbrev Texts : ℕ → List Text

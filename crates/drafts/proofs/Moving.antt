@@ -1,7 +1,7 @@
 -- One command written anew with the starts of its texts moved: it says the same, and is without fault if it was. Assumes nothing.
+use Rattle.std.specs.Prelude.{Option, Some, None}
 use mathlib.Core.Path.{◌≡◌, refl, sym, ap, ap₂, ◌∙◌}
 use mathlib.Core.List.{List, [], ◌∷◌, ◌++◌, append_assoc, Memᴰ}
-use mathlib.Core.Option.{some}
 use mathlib.Core.Bool.{Bool, true, false, cond, false≢true}
 use Prim.Native.Nat.{ℕ, zero, suc, ◌+◌, ◌*◌, ◌/◌, ◌%◌, ◌<◌}
 use native.Mathlib.Omega.{arith}
@@ -17,12 +17,10 @@ use Rattle.record.specs.Commands.{wide, widths}
 use Rattle.record.specs.Lists.{opt_of}
 use Rattle.record.specs.Judge.{worse_of, missing_in, if_absent, text_fault, operand_fault, faults_from}
 use Rattle.record.specs.declared.text.Text.{Text}
-use Rattle.record.specs.declared.operands.OptText.{OptText}
-use Rattle.record.specs.declared.operands.OptText.TheVariants.{Absent, Given}
 use Rattle.record.specs.declared.refusal.Side.{Side}
 use Rattle.record.specs.declared.judge.Fault.{Fault}
 use Rattle.record.specs.declared.judge.Fault.TheVariants.{Fine, Outside, Missing}
-use Rattle.record.specs.CommandTexts.{no_text, given, texts_from}
+use Rattle.record.specs.CommandTexts.{no_text, texts_from}
 use Rattle.record.proofs.Sides.{worse-both}
 use Rattle.drafts.specs.Content.{text, maybe, plain, Operand, bytes_at, operand_at, operands_at}
 use Rattle.drafts.specs.Packing.{moved_start, le2, operand_bytes, row_bytes}
@@ -61,41 +59,41 @@ halves n = omega arith
 
 -- a text with its start moved ------------------------------------------------------------------------------------------------
 
-abbrev pub moved_opt : (ℕ → ℕ) → OptText → OptText
-moved_opt f Absent = Absent
-moved_opt f (Given t) = Given (text_as (f t.start) t.len)
+abbrev pub moved_opt : (ℕ → ℕ) → Option Text → Option Text
+moved_opt f None = None
+moved_opt f (Some t) = Some (text_as (f t.start) t.len)
 
 pub record IsAbsent (t : Text) : Type 0 where
   pub start_is : t.start ≡ 65535
   pub len_is : t.len ≡ 0
 
-pub opt-absent : (t : Text) → opt_text t ≡ Absent → IsAbsent t
+pub opt-absent : (t : Text) → opt_text t ≡ None → IsAbsent t
 unfolding opt_text
 opt-absent t h = go (eqb t.start 65535) refl (eqb t.len 0) refl h
   where
-    go : (a : Bool) → eqb t.start 65535 ≡ a → (b : Bool) → eqb t.len 0 ≡ b → cond a (cond b Absent (Given t)) (Given t) ≡ Absent → IsAbsent t
+    go : (a : Bool) → eqb t.start 65535 ≡ a → (b : Bool) → eqb t.len 0 ≡ b → cond a (cond b None (Some t)) (Some t) ≡ None → IsAbsent t
     go true e true g h = record { start_is = eqb-true t.start 65535 e; len_is = eqb-true t.len 0 g }
     go true e false g h = absurd (let z : ◌≡◌ {A = ℕ} 0 1 = cc in omega arith)
     go false e b g h = absurd (let z : ◌≡◌ {A = ℕ} 0 1 = cc in omega arith)
 
-pub opt-given : (t u : Text) → opt_text t ≡ Given u → t ≡ u
+pub opt-given : (t u : Text) → opt_text t ≡ Some u → t ≡ u
 unfolding opt_text
 opt-given t u h = go (eqb t.start 65535) (eqb t.len 0) h
   where
-    go : (a b : Bool) → cond a (cond b Absent (Given t)) (Given t) ≡ Given u → t ≡ u
+    go : (a b : Bool) → cond a (cond b None (Some t)) (Some t) ≡ Some u → t ≡ u
     go true true h = absurd (let z : ◌≡◌ {A = ℕ} 0 1 = cc in omega arith)
     go true false h = cc
     go false b h = cc
 
-given-small : (a l : ℕ) → a < 65535 → opt_text (text_as a l) ≡ Given (text_as a l)
+given-small : (a l : ℕ) → a < 65535 → opt_text (text_as a l) ≡ Some (text_as a l)
 unfolding opt_text
 given-small a l h = rw (ne_eqb a 65535 (λ e. omega arith))
 
 module _ (f : ℕ → ℕ) (t : Text) where
-  pub opt-moved : (o : OptText) → opt_text t ≡ o → ((u : Text) → o ≡ Given u → f u.start < 65535) → opt_text (text_as (moved_start f o) t.len) ≡ moved_opt f o
+  pub opt-moved : (o : Option Text) → opt_text t ≡ o → ((u : Text) → o ≡ Some u → f u.start < 65535) → opt_text (text_as (moved_start f o) t.len) ≡ moved_opt f o
   unfolding opt_text
-  opt-moved Absent e h = let a = opt-absent t e in rw a.len_is
-  opt-moved (Given u) e h =
+  opt-moved None e h = let a = opt-absent t e in rw a.len_is
+  opt-moved (Some u) e h =
       let q = opt-given t u e in
       ap (λ (l : ℕ). opt_text (text_as (f u.start) l)) (ap (λ (x : Text). x.len) q) ∙ given-small (f u.start) u.len (h u refl)
 
@@ -133,14 +131,14 @@ module _ (side : Side) (x z : Str) where
 
 -- a text operand, by its optional text before and after
 module _ (p p2 : Str) (small : length p2 < 65535) (f : ℕ → ℕ) where
-  pub opt_same : (o : OptText) → ((u : Text) → o ≡ Given u → Moved f p p2 u) → opt_of p2 (moved_opt f o) ≡ opt_of p o
+  pub opt_same : (o : Option Text) → ((u : Text) → o ≡ Some u → Moved f p p2 u) → opt_of p2 (moved_opt f o) ≡ opt_of p o
   unfolding text_of
-  opt_same Absent m = refl
-  opt_same (Given u) m = ap some (m u refl).same
+  opt_same None m = refl
+  opt_same (Some u) m = ap Some (m u refl).same
 
-  pub fault-same : (absent : Fault) (o : OptText) → ((u : Text) → o ≡ Given u → Moved f p p2 u) → text_fault p absent o ≡ Fine → text_fault p2 absent (moved_opt f o) ≡ Fine
-  fault-same absent Absent m e = e
-  fault-same absent (Given u) m e = let k = m u refl in rw (le-leb (f u.start + u.len) (length p2) k.inside, k.begins, k.ends)
+  pub fault-same : (absent : Fault) (o : Option Text) → ((u : Text) → o ≡ Some u → Moved f p p2 u) → text_fault p absent o ≡ Fine → text_fault p2 absent (moved_opt f o) ≡ Fine
+  fault-same absent None m e = e
+  fault-same absent (Some u) m e = let k = m u refl in rw (le-leb (f u.start + u.len) (length p2) k.inside, k.begins, k.ends)
 
   -- the row ----------------------------------------------------------------------------------------------------------------------
 
@@ -183,15 +181,15 @@ module _ (p p2 : Str) (small : length p2 < 65535) (f : ℕ → ℕ) where
         let g = plain-head (pre ++ (bytes_at x i (wide o) ++ rest)) i o b in
         (rw q (ap plain b), rw q (plain-fault (pre ++ (bytes_at x i (wide o) ++ rest)) i o q g h))
 
-    module _ (z : Str) (i o : ℕ) (tz : text_at z i ≡ text_as (moved_start f (opt_text_at x i)) (get_or x (i + 2) 0)) (m : (u : Text) → opt_text_at x i ≡ Given u → Moved f p p2 u) where
+    module _ (z : Str) (i o : ℕ) (tz : text_at z i ≡ text_as (moved_start f (opt_text_at x i)) (get_or x (i + 2) 0)) (m : (u : Text) → opt_text_at x i ≡ Some u → Moved f p p2 u) where
       opt-after : opt_text_at z i ≡ moved_opt f (opt_text_at x i)
       unfolding opt_text_at text_at
       opt-after = ap opt_text tz ∙ opt-moved f (text_at x i) (opt_text (text_at x i)) refl (λ u e. let n = (m u e).inside in omega arith)
 
-      text_says : (q : OptText) → opt_text_at x i ≡ q → text_fault p Outside q ≡ Fine → text_of p2 (text_at z i) ≡ text_of p (text_at x i)
+      text_says : (q : Option Text) → opt_text_at x i ≡ q → text_fault p Outside q ≡ Fine → text_of p2 (text_at z i) ≡ text_of p (text_at x i)
       unfolding opt_text_at text_of text_at
-      text_says Absent e h = absurd (let z : ◌≡◌ {A = ℕ} 0 1 = cc in omega arith)
-      text_says (Given u) e h =
+      text_says None e h = absurd (let z : ◌≡◌ {A = ℕ} 0 1 = cc in omega arith)
+      text_says (Some u) e h =
           let q : text_at x i ≡ u = opt-given (text_at x i) u e in
           let n : get_or x (i + 2) 0 ≡ u.len = ap (λ (t : Text). t.len) q in
           let t2 : text_at z i ≡ text_as (f u.start) u.len = tz ∙ ap₂ text_as (ap (moved_start f) e) n in
@@ -209,7 +207,7 @@ module _ (p p2 : Str) (small : length p2 < 65535) (f : ℕ → ℕ) where
           go (long e k l n) = absurd (false≢true (sym q ∙ rw (e, k, l, n)))
           go (texts e k l n) = rw (e, k, l, n) at h
 
-      module _ (z : Str) (tz : text_at z i ≡ text_as (moved_start f (opt_text_at x i)) (get_or x (i + 2) 0)) (m : (u : Text) → opt_text_at x i ≡ Given u → Moved f p p2 u)
+      module _ (z : Str) (tz : text_at z i ≡ text_as (moved_start f (opt_text_at x i)) (get_or x (i + 2) 0)) (m : (u : Text) → opt_text_at x i ≡ Some u → Moved f p p2 u)
           (a : eqb o 63 ≡ true → flag_at z 4 ≡ flag_at x 4) where
         required : eqb o 84 ≡ true → if_absent side x o ≡ Outside
         unfolding if_absent
@@ -273,7 +271,7 @@ module _ (p p2 : Str) (small : length p2 < 65535) (f : ℕ → ℕ) where
         length-append (operand_bytes f x i o) (row_bytes f x (i + wide o) os) ∙ ap₂ (λ (a b : ℕ). a + b) (length-operand i o) (length-row (i + wide o) os)
 
     -- of the texts of a row
-    text-member : (i o : ℕ) (os : Str) (u : Text) → no_text o ≡ false → opt_text_at x i ≡ Given u → Memᴰ u (texts_from x i (o ∷ os))
+    text-member : (i o : ℕ) (os : Str) (u : Text) → no_text o ≡ false → opt_text_at x i ≡ Some u → Memᴰ u (texts_from x i (o ∷ os))
     unfolding texts_from with_some
     text-member i o os u q e = rw (q, e) (Memᴰ.head refl)
 
@@ -281,14 +279,14 @@ module _ (p p2 : Str) (small : length p2 < 65535) (f : ℕ → ℕ) where
     unfolding texts_from with_some
     text-later i o os u m = go (no_text o) (opt_text_at x i)
       where
-        go : (t : Bool) (k : OptText) → Memᴰ u (cond t (texts_from x (i + wide o) os) (with_some (given k) (texts_from x (i + wide o) os)))
+        go : (t : Bool) (k : Option Text) → Memᴰ u (cond t (texts_from x (i + wide o) os) (with_some k (texts_from x (i + wide o) os)))
         go true k = m
-        go false Absent = m
-        go false (Given v) = Memᴰ.tail m
+        go false None = m
+        go false (Some v) = Memᴰ.tail m
 
     -- one operand, written behind a front
     operand_same : (pre rest : Str) (i o : ℕ) → length pre ≡ i → operand_fault side p x i o ≡ Fine
-        → ((u : Text) → no_text o ≡ false → opt_text_at x i ≡ Given u → Moved f p p2 u)
+        → ((u : Text) → no_text o ≡ false → opt_text_at x i ≡ Some u → Moved f p p2 u)
         → (eqb o 63 ≡ true → flag_at (pre ++ (operand_bytes f x i o ++ rest)) 4 ≡ flag_at x 4)
         → (operand_at p2 (pre ++ (operand_bytes f x i o ++ rest)) i o ≡ operand_at p x i o) × (operand_fault side p2 (pre ++ (operand_bytes f x i o ++ rest)) i o ≡ Fine)
     operand_same pre rest i o e h m a = go (no_text o) refl
@@ -299,7 +297,7 @@ module _ (p p2 : Str) (small : length p2 < 65535) (f : ℕ → ℕ) where
         go false q =
             let z : Str = pre ++ (operand_bytes f x i o ++ rest) in
             let tz = text-written pre rest i o e q in
-            let n : (u : Text) → opt_text_at x i ≡ Given u → Moved f p p2 u = λ u k. m u q k in
+            let n : (u : Text) → opt_text_at x i ≡ Some u → Moved f p p2 u = λ u k. m u q k in
             (text-operand i o q h z tz n a, text-faultless i o q h z tz n a)
 
     pub row_same : (pre rest : Str) (i : ℕ) (os : Str) → length pre ≡ i → faults_from side p x i os ≡ Fine

@@ -1,4 +1,5 @@
 -- Packing by marks and ranks is the packing of the definition. Assumes nothing.
+use Rattle.std.specs.Prelude.{Some, None}
 use mathlib.Core.Path.{◌≡◌, refl, sym, ap, ap₂, subst, ◌∙◌}
 use mathlib.Core.List.{List, [], ◌∷◌, ◌++◌, append_assoc}
 use mathlib.Core.Bool.{Bool, true, false, not, cond}
@@ -15,7 +16,6 @@ use Rattle.record.specs.Commands.{commands_at, step_at}
 use Rattle.record.specs.declared.text.Text.{Text}
 use Rattle.record.specs.declared.command.Command.{Command}
 use Rattle.record.specs.declared.command.Cursor.{Cursor}
-use Rattle.record.specs.declared.command.Step.TheVariants.{Next, Stop}
 use Rattle.record.proofs.Stream.{commands-next, commands-stop, step-found, along}
 use Rattle.record.proofs.WriterLaws.{puts_then, puts-as}
 use Rattle.record.specs.CommandTexts.{texts_at}
@@ -34,10 +34,10 @@ pub upto_all : (s : Str) (at : ℕ) → up_to (length s) (commands_at s at) ≡ 
 unfolding up_to
 upto_all s at = along s (λ (i : ℕ). up_to (length s) (commands_at s i) ≡ commands_at s i) stop next at
   where
-    stop : (i : ℕ) → step_at s i ≡ Stop → up_to (length s) (commands_at s i) ≡ commands_at s i
+    stop : (i : ℕ) → step_at s i ≡ None → up_to (length s) (commands_at s i) ≡ commands_at s i
     stop i e = rw (commands-stop s i e)
 
-    next : (i : ℕ) (c : Command) (k : Cursor) → step_at s i ≡ Next c k → up_to (length s) (commands_at s k.at) ≡ commands_at s k.at → up_to (length s) (commands_at s i) ≡ commands_at s i
+    next : (i : ℕ) (c : Command) (k : Cursor) → step_at s i ≡ Some (c, k) → up_to (length s) (commands_at s k.at) ≡ commands_at s k.at → up_to (length s) (commands_at s i) ≡ commands_at s i
     next i c k e h =
         let f = step-found s i c k e in
         let a = f.on in

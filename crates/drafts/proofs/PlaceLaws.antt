@@ -16,9 +16,6 @@ use Rattle.drafts.proofs.RowLaws.{rows_on, rows_end}
 -- one place -----------------------------------------------------------------------------------------------------------------
 
 module _ (at start size : ℕ) where
-  pub ends-before : at < start → true ≡ ltb at (start + size)
-  ends-before h = sym (lt-ltb at (start + size) (omega arith))
-
   pub ends-after : start ≤ at → ltb (at - start) size ≡ ltb at (start + size)
   ends-after h = go (ltb (at - start) size) refl
     where

@@ -1,14 +1,15 @@
 -- Puts one after the other in a loop, and a command written anew operand by operand. Assumes nothing.
+use Rattle.std.specs.Prelude.{Option, Some, None}
 use mathlib.Core.Path.{◌≡◌, refl, sym, ap, ap₂, ◌∙◌}
 use mathlib.Core.List.{List, [], ◌∷◌, ◌++◌, append_assoc, append-nil}
-use mathlib.Core.Option.{Option, none, some}
-use mathlib.Core.Bool.{true}
-use Prim.Native.Nat.{ℕ, zero, suc, ◌+◌, ◌-◌, ◌≤◌, ◌<◌}
+use mathlib.Core.Bool.{Bool, true, false, cond}
+use Prim.Native.Nat.{ℕ, zero, suc, ◌+◌, ◌-◌, ◌≤◌, ◌<◌, min}
 use native.Mathlib.Numerals.{add-one}
 use native.Mathlib.Omega.{arith}
-use lib.ListN.{length, get_or, take, drop, drop_of_length-le}
+use lib.ListN.{length, get_or, drop, drop_of_length-le}
 use lib.Seq.{drop-cons, get_or-drop}
-use borrow.Author.Tests.{le-leb, lt-leb, lt-ltb, le-ltb, ne_eqb}
+use lib.Dec.{ltb, leb}
+use borrow.Author.Tests.{lt-ltb, le-ltb, ne_eqb, ltb-true, ltb-false, leb-true, leb-false}
 use Rattle.record.specs.Base.{Str}
 use Rattle.record.specs.Fill.{joined}
 use Rattle.record.specs.Write.{largest, Puts}
@@ -16,10 +17,6 @@ use Rattle.record.specs.Operands.{text_at, opt_text_at}
 use Rattle.record.specs.Commands.{operands, wide, commands_at, step_at}
 use Rattle.record.specs.Seek.{after_at}
 use Rattle.record.specs.declared.text.Text.{Text}
-use Rattle.record.specs.declared.operands.OptText.{OptText}
-use Rattle.record.specs.declared.operands.OptText.TheVariants.{Given}
-use Rattle.record.specs.declared.command.Step.{Step}
-use Rattle.record.specs.declared.command.Step.TheVariants.{Next, Stop}
 use Rattle.record.proofs.Stream.{commands-next, commands-stop}
 use Rattle.record.proofs.SeekLaws.{stepped, ended-there}
 use Rattle.record.proofs.WriterLaws.{puts_none, puts_then, puts-as}
@@ -27,6 +24,8 @@ use Rattle.record.specs.CommandTexts.{no_text}
 use Rattle.drafts.specs.Content.{bytes_at}
 use Rattle.drafts.specs.Packing.{le2, moved_start, operand_bytes, row_bytes, row_with, written_at, written}
 use Rattle.drafts.specs.Code.{or_none, up_to, rank_at, start_of, text_bytes}
+use Rattle.record.specs.Commands.{Step}
+use Rattle.record.specs.declared.command as D
 
 -- a loop of puts: some bytes are put, and the rest is left -----------------------------------------------------------------------
 
@@ -62,29 +61,29 @@ module _ (x : Str) (i n : ℕ) where
 -- starts -----------------------------------------------------------------------------------------------------------------------------
 
 module _ (t : List ℕ) (a : ℕ) where
-  pub rank-in : a < length t → get_or t a 0 ≡ rank_at t a
+  pub rank-least : (length t ≡ 0 → ⊥) → (i : ℕ) → i ≡ min a (length t - 1) → get_or t i 0 ≡ rank_at t a
   unfolding rank_at
-  rank-in h = rw (lt-ltb a (length t) h)
-
-  pub rank-past : length t ≤ a → get_or t (length t - 1) 0 ≡ rank_at t a
-  unfolding rank_at
-  rank-past h = rw (le-ltb a (length t) h)
+  rank-least n i e = go (ltb a (length t)) refl
+    where
+      go : (b : Bool) → ltb a (length t) ≡ b → get_or t i 0 ≡ cond b (get_or t a 0) (get_or t (length t - 1) 0)
+      go true h = let k = ltb-true a (length t) h in let q : i ≡ a = omega arith in rw q
+      go false h = let k = ltb-false a (length t) h in let q : i ≡ length t - 1 = omega arith in rw q
 
   module _ (base rank : ℕ) (e : rank ≡ rank_at t a) where
-    pub start-in : base + rank ≤ 65535 → base + rank ≡ start_of base t a
+    pub start-least : (r : ℕ) → r ≡ min (base + rank) 65535 → r ≡ start_of base t a
     unfolding start_of
-    start-in h = rw (← e, le-leb (base + rank) 65535 h)
+    start-least r f = go (leb (base + rank) 65535) refl ∙ rw (← e)
+      where
+        go : (b : Bool) → leb (base + rank) 65535 ≡ b → r ≡ cond (leb (base + rank) 65535) (base + rank) 65535
+        go true h = let k = leb-true (base + rank) 65535 h in rw h (omega arith)
+        go false h = let k = leb-false (base + rank) 65535 h in rw h (omega arith)
 
-    pub start-over : 65535 < base + rank → 65535 ≡ start_of base t a
-    unfolding start_of
-    start-over h = rw (← e, lt-leb (base + rank) 65535 h)
-
-pub rank-none : (t : List ℕ) (a : ℕ) → length t ≤ a → length t ≡ 0 → 0 ≡ rank_at t a
+pub rank-none : (t : List ℕ) (a : ℕ) → length t ≡ 0 → 0 ≡ rank_at t a
 unfolding rank_at
-rank-none [] a h e = rw (le-ltb a 0 (omega arith))
-rank-none (x ∷ t) a h e = absurd (omega arith)
+rank-none [] a e = rw (le-ltb a 0 (omega arith))
+rank-none (x ∷ t) a e = absurd (omega arith)
 
-pub start-given : (f : ℕ → ℕ) (t : OptText) (v : Text) (r : ℕ) → t ≡ Given v → r ≡ f v.start → r ≡ moved_start f t
+pub start-given : (f : ℕ → ℕ) (t : Option Text) (v : Text) (r : ℕ) → t ≡ Some v → r ≡ f v.start → r ≡ moved_start f t
 start-given f t v r e h = rw e h
 
 -- operands ---------------------------------------------------------------------------------------------------------------------------
@@ -125,7 +124,7 @@ module _ (f : ℕ → ℕ) (x y : Str) (i o : ℕ) where
     value-put h = plainly 8 (rw h) (rw h)
 
 module _ (f : ℕ → ℕ) (x : Str) (i o : ℕ) (h1 : o ≡ 70 → ⊥) (h2 : o ≡ 78 → ⊥) (h3 : o ≡ 87 → ⊥) (h4 : o ≡ 86 → ⊥) where
-  pub text-put : (out after : Str) (at r m : ℕ) (t : OptText) (v : Text) → t ≡ opt_text_at x i → m ≡ moved_start f t → v ≡ text_at x i → Puts out at (text_bytes m v.len) after r → Puts out at (operand_bytes f x i o) after r
+  pub text-put : (out after : Str) (at r m : ℕ) (t : Option Text) (v : Text) → t ≡ opt_text_at x i → m ≡ moved_start f t → v ≡ text_at x i → Puts out at (text_bytes m v.len) after r → Puts out at (operand_bytes f x i o) after r
   unfolding operand_bytes no_text text_bytes text_at
   text-put out after at r m t v a b d p =
       puts-as p (rw (ne_eqb o 70 h1, ne_eqb o 78 h2, ne_eqb o 87 h3, ne_eqb o 86 h4, ← a, ← b) (ap (λ (z : Text). le2 m ++ z.len ∷ []) d))
@@ -143,14 +142,14 @@ module _ (f : ℕ → ℕ) (x l : Str) (i k : ℕ) where
 
 row-with : (f : ℕ → ℕ) (x : Str) (o : Option Str) → row_with f x o ≡ row_bytes f x 1 (or_none o)
 unfolding row_with or_none row_bytes
-row-with f x none = refl
-row-with f x (some os) = refl
+row-with f x None = refl
+row-with f x (Some os) = refl
 
-pub command-put : (f : ℕ → ℕ) (s x l letters out mid after : Str) (place at q r b n : ℕ) → b ≡ get_or s place 0 → Puts out at (b ∷ []) mid q → take n letters ≡ or_none (operands b)
-    → l ≡ take n letters → x ≡ drop place s → Puts mid q (row_bytes f x 1 l) after r → Puts out at (written_at f s place) after r
+pub command-put : (f : ℕ → ℕ) (s x l out mid after : Str) (place at q r b : ℕ) → b ≡ get_or s place 0 → Puts out at (b ∷ []) mid q → l ≡ or_none (operands b)
+    → x ≡ drop place s → Puts mid q (row_bytes f x 1 l) after r → Puts out at (written_at f s place) after r
 unfolding written_at
-command-put f s x l letters out mid after place at q r b n e p g h j a =
-    puts-as (puts_then p a) (ap (λ (y : Str). b ∷ y) (ap₂ (λ (y z : Str). row_bytes f y 1 z) j (h ∙ g) ∙ sym (row-with f (drop place s) (operands b))) ∙ ap (λ (y : ℕ). y ∷ row_with f (drop place s) (operands y)) e)
+command-put f s x l out mid after place at q r b e p h j a =
+    puts-as (puts_then p a) (ap (λ (y : Str). b ∷ y) (ap₂ (λ (y z : Str). row_bytes f y 1 z) j h ∙ sym (row-with f (drop place s) (operands b))) ∙ ap (λ (y : ℕ). y ∷ row_with f (drop place s) (operands y)) e)
 
 -- the commands up to a place --------------------------------------------------------------------------------------------------------------
 
@@ -159,9 +158,9 @@ module _ (s : Str) (place to : ℕ) where
   unfolding up_to
   range-end h = go (step_at s place) refl
     where
-      go : (t : Step) → step_at s place ≡ t → up_to to (commands_at s place) ≡ []
-      go (Next c k) e = rw (commands-next s place c k e, le-ltb place to h)
-      go Stop e = rw (commands-stop s place e)
+      go : (t : Step D.Command.Command) → step_at s place ≡ t → up_to to (commands_at s place) ≡ []
+      go (Some (c, k)) e = rw (commands-next s place c k e, le-ltb place to h)
+      go None e = rw (commands-stop s place e)
 
   module _ (n : ℕ) (e : n ≡ after_at s place) where
     pub range-stop : n ≡ 0 → up_to to (commands_at s place) ≡ []

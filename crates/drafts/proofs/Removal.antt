@@ -1,7 +1,7 @@
 -- A type that is there can always be taken out: the result is neither too long nor vast. Assumes nothing.
+use Rattle.std.specs.Prelude.{Option, Some, None}
 use mathlib.Core.Path.{◌≡◌, refl, sym, ap, ◌∙◌}
 use mathlib.Core.List.{List, [], ◌∷◌, ◌++◌, map, map-append}
-use mathlib.Core.Option.{Option, none, some}
 use mathlib.Core.Bool.{Bool, true, false, ◌||◌, cond}
 use Prim.Native.Nat.{ℕ, ◌+◌, ◌≤◌}
 use native.Mathlib.Omega.{arith}
@@ -46,21 +46,21 @@ opened-on ys a (d ∷ xs) = rw (fields-end ys a xs) (go (eqb d.number 9) (eqb d.
     go false false e = e
 
 module _ {A : Type 0} (p : A → Bool) where
-  find-second : (a b : List A) → find p (a ++ b) ≡ none → find p b ≡ none
+  find-second : (a b : List A) → find p (a ++ b) ≡ None → find p b ≡ None
   unfolding find
   find-second [] b h = h
   find-second (x ∷ a) b h = go (p x) h (find-second a b)
     where
-      go : (t : Bool) → cond t (some x) (find p (a ++ b)) ≡ none → (find p (a ++ b) ≡ none → find p b ≡ none) → find p b ≡ none
+      go : (t : Bool) → cond t (Some x) (find p (a ++ b)) ≡ None → (find p (a ++ b) ≡ None → find p b ≡ None) → find p b ≡ None
       go true h ih = absurd (let z : ◌≡◌ {A = ℕ} 0 1 = cc in omega arith)
       go false h ih = ih h
 
-  find-without : (a b c : List A) → find p (a ++ (b ++ c)) ≡ none → find p (a ++ c) ≡ none
+  find-without : (a b c : List A) → find p (a ++ (b ++ c)) ≡ None → find p (a ++ c) ≡ None
   unfolding find
   find-without [] b c h = find-second b c h
   find-without (x ∷ a) b c h = go (p x) h (find-without a b c)
     where
-      go : (t : Bool) → cond t (some x) (find p (a ++ (b ++ c))) ≡ none → (find p (a ++ (b ++ c)) ≡ none → find p (a ++ c) ≡ none) → cond t (some x) (find p (a ++ c)) ≡ none
+      go : (t : Bool) → cond t (Some x) (find p (a ++ (b ++ c))) ≡ None → (find p (a ++ (b ++ c)) ≡ None → find p (a ++ c) ≡ None) → cond t (Some x) (find p (a ++ c)) ≡ None
       go true h ih = absurd (let z : ◌≡◌ {A = ℕ} 0 1 = cc in omega arith)
       go false h ih = ih h
 
@@ -109,9 +109,9 @@ module _ (r : Rec) (t : Schema) (h : reading Current r ≡ read t) (v : Str) (y 
   find-same : (l : List (List Field)) → find (vast_fields (schema_of (removed v r))) l ≡ find (vast_fields t) l
   unfolding find
   find-same [] = refl
-  find-same (fs ∷ l) = rw (same-vast fs) (ap (λ (o : Option (List Field)). cond (vast_fields t fs) (some fs) o) (find-same l))
+  find-same (fs ∷ l) = rw (same-vast fs) (ap (λ (o : Option (List Field)). cond (vast_fields t fs) (Some fs) o) (find-same l))
 
-  none-vast : find (vast_fields (schema_of (removed v r))) (opened_fields (contents_of (removed v r))) ≡ none
+  none-vast : find (vast_fields (schema_of (removed v r))) (opened_fields (contents_of (removed v r))) ≡ None
   unfolding contents_of
   none-vast =
       let u = cut_out Current r.stream r.pool v (length r.stream + 1) start (commands_at r.stream 0) (parse-all Current r t h) y in
@@ -123,7 +123,7 @@ module _ (r : Rec) (t : Schema) (h : reading Current r ≡ read t) (v : Str) (y 
       let k : opened_fields (contents_of r) ≡ opened_fields (map c u.front) ++ (opened_fields sec ++ opened_fields (map c u.back)) =
       ap opened_fields e ∙ opened-on (sec ++ map c u.back) (type-apart r.stream r.pool u.at (map c u.parts ++ map c u.back) u.is-type) (map c u.front)
       ∙ ap (λ (l : List (List Field)). opened_fields (map c u.front) ++ l) (opened-on (map c u.back) u.apart sec) in
-      let m : find (vast_fields t) (opened_fields (map c u.front) ++ opened_fields (map c u.back)) ≡ none =
+      let m : find (vast_fields t) (opened_fields (map c u.front) ++ opened_fields (map c u.back)) ≡ None =
       find-without (vast_fields t) (opened_fields (map c u.front)) (opened_fields sec) (opened_fields (map c u.back)) (ap (find (vast_fields t)) (sym k) ∙ none-vast-in Current r t h) in
       find-same (opened_fields (contents_of (removed v r))) ∙ ap (find (vast_fields t)) (ap opened_fields g ∙ opened-on (map c u.back) u.apart (map c u.front)) ∙ m
 

@@ -1,4 +1,5 @@
 -- The result of packing commands: it is read, but for its length and its sizes, and its commands say what those packed said. Assumes nothing.
+use Rattle.std.specs.Prelude.{Option, Some, None, Result}
 use mathlib.Core.Path.{◌≡◌, refl, sym, ap, ◌∙◌, subst}
 use mathlib.Core.List.Memᴰ
 use mathlib.Core.List.{List, [], ◌∷◌, ◌++◌, map, append-nil, Memᴰ}
@@ -21,8 +22,6 @@ use Rattle.record.specs.declared.text.Text.{Text}
 use Rattle.record.specs.declared.command.Cursor.{Cursor}
 use Rattle.record.specs.declared.refusal.Side.{Side}
 use Rattle.record.specs.declared.refusal.Refusal.TheVariants as R
-use Rattle.record.specs.declared.letters.Letters.{Letters}
-use Rattle.record.specs.declared.letters.Letters.TheVariants.{Good, Odd}
 use Rattle.record.proofs.Accepted.{accepting, parsed-is}
 use Rattle.drafts.specs.Content.{Content, content_at, contents_of}
 use Rattle.drafts.specs.Packing.{texts_of, covered, kept, written, packed_pool, moved_to, packed_commands, stream_of}
@@ -51,11 +50,11 @@ chain-long side p k (z ∷ zs) (d ∷ ds) c =
     let n = c.0.sized in
     omega arith
 
-pub record Result (side : Side) (r : Rec) (ds : List Content) : Type 0 where
+pub record Resulting (side : Side) (r : Rec) (ds : List Content) : Type 0 where
   pub parsed-all : parsed side r ≡ ok (commands_at r.stream 0)
   pub says : contents_of r ≡ ds
 
-pub result : (side : Side) (p : Str) (w : List Scalar) (zs : List Str) (ds : List Content) → Chain side p start zs ds → Result side (rec (stream_of zs) p w) ds
+pub result : (side : Side) (p : Str) (w : List Scalar) (zs : List Str) (ds : List Content) → Chain side p start zs ds → Resulting side (rec (stream_of zs) p w) ds
 unfolding stream_of parsed contents_of
 result side p w zs ds c =
     let a = chain-long side p start zs ds c in
@@ -69,7 +68,7 @@ pub data Settled (side : Side) (r : Rec) : Type 0 where
   too_long : reading side r ≡ refuse R.Long 0 → Settled side r
   by-sizes : reading side r ≡ sizes_of r (commands_at r.stream 0) → length r.stream ≤ 32768 → length r.pool ≤ 16384 → Settled side r
 
-pub settles : (side : Side) (r : Rec) (ds : List Content) → Result side r ds → odd_letter r.pool ≡ Good → Settled side r
+pub settles : (side : Side) (r : Rec) (ds : List Content) → Resulting side r ds → odd_letter r.pool ≡ None → Settled side r
 unfolding reading concluded stream_limit pool_limit
 settles side r ds b g = go (leb (length r.stream) 32768) (leb (length r.pool) 16384) refl refl
   where
@@ -78,7 +77,7 @@ settles side r ds b g = go (leb (length r.stream) 32768) (leb (length r.pool) 16
     go true false e f = too_long (rw (e, f))
     go false y e f = too_long (rw e)
 
-pub settles-read : (side : Side) (r : Rec) (ds : List Content) → Result side r ds → odd_letter r.pool ≡ Good → length r.stream ≤ 32768 → length r.pool ≤ 16384
+pub settles-read : (side : Side) (r : Rec) (ds : List Content) → Resulting side r ds → odd_letter r.pool ≡ None → length r.stream ≤ 32768 → length r.pool ≤ 16384
     → reading side r ≡ sizes_of r (commands_at r.stream 0)
 unfolding reading concluded stream_limit pool_limit
 settles-read side r ds b g e f = rw (le-leb (length r.stream) 32768 e, le-leb (length r.pool) 16384 f, g, b.parsed-all)
@@ -86,17 +85,17 @@ settles-read side r ds b g e f = rw (le-leb (length r.stream) 32768 e, le-leb (l
 -- what an accepted record has passed, its pool too
 pub record Fit (side : Side) (r : Rec) : Type 0 where
   pub pool-short : length r.pool ≤ 16384
-  pub letters : odd_letter r.pool ≡ Good
+  pub letters : odd_letter r.pool ≡ None
 
 pub fit : (side : Side) (r : Rec) (t : Schema) → reading side r ≡ read t → Fit side r
 unfolding reading concluded pool_limit stream_limit
 fit side r t h = go (leb (length r.stream) 32768) (leb (length r.pool) 16384) refl (odd_letter r.pool) refl (parsed side r) h
   where
-    go : (a b : Bool) → leb (length r.pool) 16384 ≡ b → (l : Letters) → odd_letter r.pool ≡ l → (x : Parsed) → concluded r (a && b) l x ≡ read t → Fit side r
+    go : (a b : Bool) → leb (length r.pool) 16384 ≡ b → (l : Option ℕ) → odd_letter r.pool ≡ l → (x : Parsed) → concluded r (a && b) l x ≡ read t → Fit side r
     go false b e l g x h = absurd (let z : ◌≡◌ {A = ℕ} 0 1 = cc in omega arith)
     go true false e l g x h = absurd (let z : ◌≡◌ {A = ℕ} 0 1 = cc in omega arith)
-    go true true e (Odd i) g x h = absurd (let z : ◌≡◌ {A = ℕ} 0 1 = cc in omega arith)
-    go true true e Good g x h = record { pool-short = leb-true (length r.pool) 16384 e; letters = g }
+    go true true e (Some i) g x h = absurd (let z : ◌≡◌ {A = ℕ} 0 1 = cc in omega arith)
+    go true true e None g x h = record { pool-short = leb-true (length r.pool) 16384 e; letters = g }
 
 -- packing ------------------------------------------------------------------------------------------------------------------------
 
@@ -133,7 +132,7 @@ all_lie : (s p : Str) (ps : List ℕ) → AllLie s p ps → (u : Text) → Mem�
 all_lie s p ps h u m = let w = of-texts s ps u m in h w.0 w.1 u w.2
 
 -- a pool without fault has no odd letter
-pub good-letters : (p : Str) → odd_place p ≡ length p → odd_letter p ≡ Good
+pub good-letters : (p : Str) → odd_place p ≡ length p → odd_letter p ≡ None
 good-letters p e = sym (none-odd p (odd_place p) refl e)
 
 -- behind the last part of a pool stands nothing
@@ -161,7 +160,7 @@ without_in s p v (a ∷ ps) at m = go (named s p v a) m (without_in s p v ps at)
     go false (Memᴰ.head e) ih = Memᴰ.head e
     go false (Memᴰ.tail n) ih = Memᴰ.tail (ih n)
 
-pub packed-letters : (s p : Str) (ps : List ℕ) → AllLie s p ps → odd_letter p ≡ Good → odd_place (packed_pool s p ps) ≡ length (packed_pool s p ps)
+pub packed-letters : (s p : Str) (ps : List ℕ) → AllLie s p ps → odd_letter p ≡ None → odd_place (packed_pool s p ps) ≡ length (packed_pool s p ps)
 unfolding packed_pool
 packed-letters s p ps h e = covered-letters (texts_of s ps) p (all_lie s p ps h) (letters-good p e)
 
@@ -193,7 +192,7 @@ module _ (side : Side) (r : Rec) (t : Schema) (h : reading side r ≡ read t) wh
   unfolding parsed
   parse-all = (accepting side r t h).parsed-all
 
-  pub removed-result : (v : Str) → Result side (removed v r) (map (content_at r.stream r.pool) (without r.stream r.pool v (commands_at r.stream 0)))
+  pub removed-result : (v : Str) → Resulting side (removed v r) (map (content_at r.stream r.pool) (without r.stream r.pool v (commands_at r.stream 0)))
   unfolding removed packed_commands
   removed-result v =
       let ps = without r.stream r.pool v (commands_at r.stream 0) in

@@ -1,4 +1,5 @@
 -- The result of an edit read and written. Assumes nothing.
+use Rattle.std.specs.Prelude.{Ok, Err, Option, Some, None, Result, ⊤}
 use mathlib.Core.Path.{◌≡◌, refl, sym, ap, ap₂, subst, ◌∙◌}
 use mathlib.Core.List.{List, [], ◌∷◌}
 use mathlib.Core.Bool.{Bool, true, false, ◌&&◌}
@@ -8,8 +9,6 @@ use lib.ListN.{length, take, drop}
 use lib.Seq.{take_at}
 use lib.Dec.{leb}
 use borrow.Author.Tests.{le-leb, lt-leb, leb-true, leb-false}
-use types.Run.{OneOf}
-use denote.Enum.Declared.{tag_of}
 use Rattle.record.specs.Base.{Str, any}
 use Rattle.record.specs.Letters.{odd_letter}
 use Rattle.record.specs.Fill.{fronted}
@@ -22,12 +21,6 @@ use Rattle.record.specs.Read.{reading_of, Read}
 use Rattle.record.specs.declared.refusal.Side.TheVariants.{Current}
 use Rattle.record.specs.declared.refusal.Refusal.{Refusal}
 use Rattle.record.specs.declared.refusal.Refusal.TheVariants as R
-use Rattle.record.specs.declared.read.Outcome.{Outcome}
-use Rattle.record.specs.declared.read.Outcome.TheVariants.{Refused}
-use Rattle.record.specs.declared.seek.Sought.{Sought}
-use Rattle.record.specs.declared.seek.Sought.TheVariants.{At}
-use Rattle.record.specs.contracts.read.Outcome as outcome-type
-use Rattle.record.specs.contracts.seek.Sought as sought-type
 use Rattle.record.proofs.ScalarLaws.{built_in-rows}
 use Rattle.record.proofs.Accepted.{accepting}
 use Rattle.record.proofs.WriterLaws.{puts_then, puts-exact, puts-front}
@@ -40,13 +33,9 @@ use Rattle.drafts.specs.Edits.{refused, declined, no_room, done, named, removed,
 use Rattle.drafts.specs.Found.{TypeAt}
 use Rattle.drafts.specs.Packed.{front, Packed}
 use Rattle.drafts.specs.Building.{rest_stream, rest_pool, Built}
-use Rattle.drafts.specs.Answering.{edited_as, Says, Both, Opens}
+use Rattle.drafts.specs.Answering.{edited_as, Says, Both, Opens, Opened}
 use Rattle.drafts.specs.declared.pack.Ends.{Ends}
 use Rattle.drafts.specs.declared.saying.DraftAnswer.{DraftAnswer}
-use Rattle.drafts.specs.declared.opening.Opening.{Opening}
-use Rattle.drafts.specs.declared.opening.Opening.TheVariants.{Barred}
-use Rattle.drafts.specs.contracts.opening.Opening as opening-type
-use Rattle.drafts.proofs.Outcomes.{readable, ready, nowhere}
 use Rattle.drafts.proofs.StoreLaws.{parts-long}
 
 -- writing ----------------------------------------------------------------------------------------------------------------------------------
@@ -70,22 +59,22 @@ module _ (s p b : Str) (w : List Scalar) (was t : Schema) (k : ℕ) (r : DraftAn
 
 -- reading ----------------------------------------------------------------------------------------------------------------------------------
 
-module _ (s p b : Str) (w : List Scalar) (was : Schema) (k : ℕ) (o : Outcome) (h : Read Current (rec s p w) o) where
-  pub settle-refused : (n : Refusal) (q : ℕ) (r : DraftAnswer) → o ≡ Refused n q → Says r (refused 0 n q k) → edited_as r b ≡ settled k b was (rec s p w) (reading Current (rec s p w))
+module _ (s p b : Str) (w : List Scalar) (was : Schema) (k : ℕ) (o : Result ⊤ (Refusal × ℕ)) (h : Read Current (rec s p w) o) where
+  pub settle-refused : (n : Refusal) (q : ℕ) (r : DraftAnswer) → o ≡ Err (n, q) → Says r (refused 0 n q k) → edited_as r b ≡ settled k b was (rec s p w) (reading Current (rec s p w))
   unfolding settled
   settle-refused n q r e a = a.is b ∙ ap (settled k b was (rec s p w)) (ap (reading_of (rec s p w)) (sym e) ∙ h.answer)
 
-  module _ (g : OneOf (0 ∷ []) (tag_of outcome-type.the_type o)) where
+  module _ (g : o ≡ Ok tt) where
     was_read : reading Current (rec s p w) ≡ read (schema_of (rec s p w))
-    was_read = sym h.answer ∙ ap (reading_of (rec s p w)) (readable o g)
+    was_read = sym h.answer ∙ ap (reading_of (rec s p w)) g
 
     pub settle_read : (x : Str) (r : DraftAnswer) → edited_as r x ≡ settled k b was (rec s p w) (read (schema_of (rec s p w))) → edited_as r x ≡ settled k b was (rec s p w) (reading Current (rec s p w))
     settle_read x r e = e ∙ ap (settled k b was (rec s p w)) (sym was_read)
 
-pub settle-legible : (s p : Str) (w : List Scalar) (o : Outcome) → Read Current (rec s p w) o → OneOf (0 ∷ []) (tag_of outcome-type.the_type o) → Legible (rec s p w)
+pub settle-legible : (s p : Str) (w : List Scalar) (o : Result ⊤ (Refusal × ℕ)) → Read Current (rec s p w) o → o ≡ Ok tt → Legible (rec s p w)
 settle-legible s p w o h g =
-    let a = accepting Current (rec s p w) (schema_of (rec s p w)) (sym h.answer ∙ ap (reading_of (rec s p w)) (readable o g)) in
-    record { short = a.stream-short; exact = h.exact (readable o g) }
+    let a = accepting Current (rec s p w) (schema_of (rec s p w)) (sym h.answer ∙ ap (reading_of (rec s p w)) g) in
+    record { short = a.stream-short; exact = h.exact g }
 
 -- building ---------------------------------------------------------------------------------------------------------------------------------
 
@@ -101,11 +90,11 @@ too_wide s p w h = rw (lt-leb (length p) 16384 h) (either (leb (length s) stream
     either true = refl
     either false = refl
 
-pub settle-small : (s p : Str) (w : List Scalar) (o : Outcome) → Read Current (rec s p w) o → OneOf (0 ∷ []) (tag_of outcome-type.the_type o) → length p ≤ 16384
+pub settle-small : (s p : Str) (w : List Scalar) (o : Result ⊤ (Refusal × ℕ)) → Read Current (rec s p w) o → o ≡ Ok tt → length p ≤ 16384
 settle-small s p w o h g = go (leb (length p) 16384) refl
   where
     is_read : reading Current (rec s p w) ≡ read (schema_of (rec s p w))
-    is_read = sym h.answer ∙ ap (reading_of (rec s p w)) (readable o g)
+    is_read = sym h.answer ∙ ap (reading_of (rec s p w)) g
 
     go : (x : Bool) → leb (length p) 16384 ≡ x → length p ≤ 16384
     go true e = leb-true (length p) 16384 e
@@ -143,26 +132,26 @@ both_small w b copy h = h.small
 
 -- removing ---------------------------------------------------------------------------------------------------------------------------------
 
-module _ (w : List Scalar) (b : Str) (copy : Rec) (o : Opening) (h : Opens w b copy o) where
-  pub edit-shut : (e : Edit) (k side : ℕ) (n : Refusal) (p : ℕ) (r : DraftAnswer) → o ≡ Barred side n p → Says r (refused side n p k) → edited_as r b ≡ edit w copy k b e
+module _ (w : List Scalar) (b : Str) (copy : Rec) (o : Opened) (h : Opens w b copy o) where
+  pub edit-shut : (e : Edit) (k side : ℕ) (n : Refusal) (p : ℕ) (r : DraftAnswer) → o ≡ Err (side, n, p) → Says r (refused side n p k) → edited_as r b ≡ edit w copy k b e
   edit-shut e k side n p r g a = a.is b ∙ sym ((subst (Opens w b copy) g h).edits k e)
 
-  module _ (g : OneOf (0 ∷ []) (tag_of opening-type.the_type o)) where
+  module _ (g : o ≡ Ok tt) where
     pub open-is-both : Both w b copy
-    open-is-both = subst (Opens w b copy) (ready o g) h
+    open-is-both = subst (Opens w b copy) g h
 
     removing-is : (k : ℕ) (n : Str) → edit w copy k b (removing n) ≡ removed_or k b (schema_of copy) (held_rec w b) n
     unfolding edit edited editing
     removing-is k n = rw (open-is-both.now, open-is-both.was)
 
-    module _ (k : ℕ) (n : Str) (t : Sought) (f : TypeAt (part b) (part (after_part b)) n t) (r : DraftAnswer) where
-      pub remove-none : OneOf (0 ∷ []) (tag_of sought-type.the_type t) → Says r (declined 56 k) → edited_as r b ≡ edit w copy k b (removing n)
+    module _ (k : ℕ) (n : Str) (t : Option (ℕ × ℕ)) (f : TypeAt (part b) (part (after_part b)) n t) (r : DraftAnswer) where
+      pub remove-none : t ≡ None → Says r (declined 56 k) → edited_as r b ≡ edit w copy k b (removing n)
       unfolding removed_or held_rec
       remove-none x a =
-          let z : any (named (part b) (part (after_part b)) n) (commands_at (part b) 0) ≡ false = subst (TypeAt (part b) (part (after_part b)) n) (nowhere t x) f in
+          let z : any (named (part b) (part (after_part b)) n) (commands_at (part b) 0) ≡ false = subst (TypeAt (part b) (part (after_part b)) n) x f in
           a.is b ∙ sym (removing-is k n ∙ rw z)
 
-      pub remove-done : (i j : ℕ) (x : Str) → t ≡ At i j
+      pub remove-done : (i j : ℕ) (x : Str) → t ≡ Some (i, j)
           → edited_as r x ≡ settled k b (schema_of copy) (rec (rest_stream b i j) (rest_pool b i j) w) (reading Current (rec (rest_stream b i j) (rest_pool b i j) w))
           → edited_as r x ≡ edit w copy k b (removing n)
       unfolding removed_or held_rec removed rest_stream rest_pool

@@ -1,15 +1,13 @@
 -- The commands of an addition, by the reading of a current record and the first command out of shape. Assumes nothing.
+use Rattle.std.specs.Prelude.{Option, Some, None, Result, Ok, Err, ⊤}
 use mathlib.Core.Path.{◌≡◌, refl, sym, ap, ◌∙◌, subst}
 use mathlib.Core.List.{List, [], ◌∷◌}
-use mathlib.Core.Option.{Option, none, some}
 use mathlib.Core.Bool.{Bool, true, false, ◌&&◌, cond}
 use Prim.Native.Nat.{ℕ, zero, suc, ◌+◌, ◌-◌, ◌≤◌, ◌<◌}
 use native.Mathlib.Omega.{arith}
 use lib.ListN.{length, get_or, drop}
 use lib.Dec.{eqb, ltb}
 use borrow.Author.Tests.{eqb-true, eqb-false, eq-eqb, ne_eqb, le-leb}
-use types.Run.{OneOf}
-use denote.Enum.Declared.{tag_of}
 use Rattle.record.specs.Base.{Str, find}
 use Rattle.record.specs.Scalars.{Scalar}
 use Rattle.record.specs.Letters.{odd_letter}
@@ -20,28 +18,20 @@ use Rattle.record.specs.Reading.{rec, Opened, opened, vast, schema_from, refuse,
 use Rattle.record.specs.Read.{outcome_of, parsed_from, reading_of, Read}
 use Rattle.record.specs.declared.command.Cursor.{Cursor}
 use Rattle.record.specs.declared.command.Command.{Command}
-use Rattle.record.specs.declared.command.Step.TheVariants as S
 use Rattle.record.specs.declared.refusal.Side.TheVariants.{Current}
 use Rattle.record.specs.declared.refusal.Refusal.{Refusal}
 use Rattle.record.specs.declared.refusal.Refusal.TheVariants as R
 use Rattle.record.specs.declared.judge.Fault.{Fault}
 use Rattle.record.specs.declared.judge.Fault.TheVariants as F
-use Rattle.record.specs.declared.judge.Judged.{Judged}
-use Rattle.record.specs.declared.judge.Judged.TheVariants.{Next, Done, Refused}
-use Rattle.record.specs.declared.letters.Letters.{Letters}
-use Rattle.record.specs.declared.letters.Letters.TheVariants.{Good}
-use Rattle.record.specs.declared.read.Outcome.{Outcome}
-use Rattle.record.specs.declared.read.Outcome.TheVariants as O
-use Rattle.record.specs.contracts.letters.Letters as letters-type
-use Rattle.record.specs.contracts.read.Outcome as outcome-type
 use Rattle.record.proofs.Stream.{step-found}
 use Rattle.record.proofs.SeekLaws.{stepped, after-nearer}
 use Rattle.record.proofs.Accepted.{passed, judged-step, judged-stop}
 use Rattle.record.proofs.ReadLaws.{commands-on, commands-done, commands-refused}
 use Rattle.drafts.specs.Addition.{may_add, addition_at, addition}
 use Rattle.drafts.specs.Judging.{is_first, is_vast, commands_read, refused_at, onward, misfit, addition_from, Shaped}
-use Rattle.drafts.proofs.Outcomes.{readable, good}
 use Rattle.drafts.proofs.JudgingLaws.{comes_first, addition-is, adds_on, adds-done, adds-refused, addition-whole}
+use Rattle.record.specs.Judge.{Judged}
+use Rattle.record.proofs.Basics.{same-parts}
 
 -- the refusals of commands --------------------------------------------------------------------------------------------------------------------
 
@@ -53,25 +43,27 @@ record Refusing (s : Str) (c : Cursor) (m : Refusal) (q : ℕ) : Type 0 where
   ahead : c.at ≤ q
   command : is_vast m ≡ false
   first : is_first m ≡ true → q ≡ c.at
-  here : (d : Command) (k : Cursor) → step_at s c.at ≡ S.Next d k → q ≡ c.at
+  here : (d : Command) (k : Cursor) → step_at s c.at ≡ Some (d, k) → q ≡ c.at
 
 module _ (s : Str) (c : Cursor) (m : Refusal) (q : ℕ) where
-  at_place : (x : Refusal) → is_vast x ≡ false → Refused x c.at ≡ Refused m q → Refusing s c m q
+  at_place : (x : Refusal) → is_vast x ≡ false → ◌≡◌ {A = Judged} (Err (x, c.at)) (Err (m, q)) → Refusing s c m q
   at_place x v e =
-      let a : x ≡ m = cc in
-      let b : c.at ≡ q = cc in
+      let z : ◌≡◌ {A = Refusal × ℕ} (x, c.at) (m, q) = cc in
+      let a = ap (λ (y : Refusal × ℕ). y.0) z in
+      let b = ap (λ (y : Refusal × ℕ). y.1) z in
       record { ahead = omega arith; command = subst (λ (y : Refusal). is_vast y ≡ false) a v; first = λ f. sym b; here = λ d k t. sym b }
 
-  at-end : (b w : ℕ) → b ≡ get_or s c.at 0 → ready s c b w ≡ Refused m q → Refusing s c m q
+  at-end : (b w : ℕ) → b ≡ get_or s c.at 0 → ready s c b w ≡ Err (m, q) → Refusing s c m q
   unfolding ready
   at-end b w i e = go (eqb b 15) refl (eqb (c.at + w) (length s)) e
     where
       go : (t : Bool) → eqb b 15 ≡ t → (u : Bool)
-          → cond t (cond u Done (Refused R.Misplaced (c.at + w))) (Next (command_of b (drop c.at s)) (advanced c b w)) ≡ Refused m q → Refusing s c m q
+          → cond {A = Judged} t (cond u (Ok None) (Err (R.Misplaced, c.at + w))) (Ok (Some (command_of b (drop c.at s), advanced c b w))) ≡ Err (m, q) → Refusing s c m q
       go true z true h = absurd (let z : ◌≡◌ {A = ℕ} 0 1 = cc in omega arith)
       go true z false h =
-          let a : R.Misplaced ≡ m = cc in
-          let p : c.at + w ≡ q = cc in
+          let y : ◌≡◌ {A = Refusal × ℕ} (R.Misplaced, c.at + w) (m, q) = cc in
+          let a = ap (λ (x : Refusal × ℕ). x.0) y in
+          let p = ap (λ (x : Refusal × ℕ). x.1) y in
           record {
             ahead = omega arith;
             command = subst (λ (y : Refusal). is_vast y ≡ false) a refl;
@@ -80,12 +72,12 @@ module _ (s : Str) (c : Cursor) (m : Refusal) (q : ℕ) where
           }
       go false z u h = absurd (let z : ◌≡◌ {A = ℕ} 0 1 = cc in omega arith)
 
-  refusing : (pool : Str) → judged_at Current s pool c ≡ Refused m q → Refusing s c m q
+  refusing : (pool : Str) → judged_at Current s pool c ≡ Err (m, q) → Refusing s c m q
   unfolding judged_at judged_with
   refusing pool e = past (ltb c.at (length s)) (operands (get_or s c.at 0)) e
     where
       whole : (os : Str) (b t : Bool) (f : Fault)
-          → cond b (Refused R.Cut c.at) (cond t (faulted c.at (ready s c (get_or s c.at 0) (1 + widths os)) f) (Refused R.Misplaced c.at)) ≡ Refused m q
+          → cond b (Err (R.Cut, c.at)) (cond t (faulted c.at (ready s c (get_or s c.at 0) (1 + widths os)) f) (Err (R.Misplaced, c.at))) ≡ Err (m, q)
           → Refusing s c m q
       whole os true t f h = at_place R.Cut refl h
       whole os false false f h = at_place R.Misplaced refl h
@@ -94,10 +86,10 @@ module _ (s : Str) (c : Cursor) (m : Refusal) (q : ℕ) where
       whole os false true F.Flag h = at_place R.Flag refl h
       whole os false true F.Fine h = at-end (get_or s c.at 0) (1 + widths os) refl h
 
-      past : (b : Bool) (o : Option Str) → cond b (judged_as Current s pool c (get_or s c.at 0) o) (Refused R.Cut c.at) ≡ Refused m q → Refusing s c m q
+      past : (b : Bool) (o : Option Str) → cond b (judged_as Current s pool c (get_or s c.at 0) o) (Err (R.Cut, c.at)) ≡ Err (m, q) → Refusing s c m q
       past false o h = at_place R.Cut refl h
-      past true none h = at_place R.Unknown refl h
-      past true (some os) h =
+      past true None h = at_place R.Unknown refl h
+      past true (Some os) h =
           whole os (ltb (length s - c.at) (1 + widths os)) (may_stand c (get_or s c.at 0)) (faults_from Current pool (drop c.at s) 1 os) h
 
 -- the first refusal among commands is none of sizes, and not before the cursor
@@ -121,60 +113,62 @@ module _ (s : Str) (pool : Str) where
     where
       go : ((d : Cursor) (m : Refusal) (q : ℕ) → parse k Current s pool d ≡ bad m q → Placed d m q) → (j : Judged) → judged_at Current s pool c ≡ j
           → continued c.at (parse k Current s pool) j ≡ bad m q → Placed c m q
-      go ih (Next d j) e h =
+      go ih (Ok (Some (d, j))) e h =
           let f = step-found s c.at _ _ (judged-step Current s pool c d j e) in
           let on = f.on in
           let r = ih j m q (onto-bad c.at (parse k Current s pool j) m q h) in
           let on2 = r.ahead in
           record { ahead = omega arith; command = r.command }
-      go ih Done e h = absurd (let z : ◌≡◌ {A = ℕ} 0 1 = cc in omega arith)
-      go ih (Refused x p) e h =
+      go ih (Ok None) e h = absurd (let z : ◌≡◌ {A = ℕ} 0 1 = cc in omega arith)
+      go ih (Err (x, p)) e h =
           let a : x ≡ m = cc in
           let b : p ≡ q = cc in
           let r = refusing s c x p pool e in
           let on = r.ahead in
           record { ahead = omega arith; command = subst (λ (y : Refusal). is_vast y ≡ false) a r.command }
 
-  outcome-bad : (x : Parsed) (m : Refusal) (q : ℕ) → O.Refused m q ≡ outcome_of x → x ≡ bad m q
+  outcome-bad : (x : Parsed) (m : Refusal) (q : ℕ) → Err (m, q) ≡ outcome_of x → x ≡ bad m q
   unfolding outcome_of
   outcome-bad (ok ps) m q h = absurd (let z : ◌≡◌ {A = ℕ} 0 1 = cc in omega arith)
-  outcome-bad (bad x p) m q h = let a : m ≡ x = cc in let b : q ≡ p = cc in rw (a, b)
+  outcome-bad (bad x p) m q h = let z : ◌≡◌ {A = Refusal × ℕ} (m, q) (x, p) = cc in ap (λ (y : Refusal × ℕ). bad y.0 y.1) (sym z)
 
-  placed-from : (c : Cursor) (m : Refusal) (q : ℕ) → O.Refused m q ≡ outcome_of (parsed_from Current s pool c) → Placed c m q
+  placed-from : (c : Cursor) (m : Refusal) (q : ℕ) → Err (m, q) ≡ outcome_of (parsed_from Current s pool c) → Placed c m q
   unfolding parsed_from
   placed-from c m q h = placed (length s + 1 - c.at) c m q (outcome-bad (parsed_from Current s pool c) m q h)
 
 -- one command -----------------------------------------------------------------------------------------------------------------------------------
 
-after_next : (s : Str) (at : ℕ) (d : Command) (k : Cursor) → step_at s at ≡ S.Next d k → after_at s at ≡ k.at
+after_next : (s : Str) (at : ℕ) (d : Command) (k : Cursor) → step_at s at ≡ Some (d, k) → after_at s at ≡ k.at
 unfolding after_at
 after_next s at d k e = rw (e, after_at)
 
-after_stop : (s : Str) (at : ℕ) → step_at s at ≡ S.Stop → after_at s at ≡ 0
+after_stop : (s : Str) (at : ℕ) → step_at s at ≡ None → after_at s at ≡ 0
 unfolding after_at
 after_stop s at e = rw (e, after_at)
 
-moved-last : (s : Str) (c : Cursor) (b w : ℕ) (d : Command) (k : Cursor) → ready s c b w ≡ Next d k → k.last ≡ b
+moved-last : (s : Str) (c : Cursor) (b w : ℕ) (d : Command) (k : Cursor) → ready s c b w ≡ Ok (Some (d, k)) → k.last ≡ b
 unfolding ready
 moved-last s c b w d k e = go (eqb b 15) (eqb (c.at + w) (length s)) e
   where
-    go : (t u : Bool) → cond t (cond u Done (Refused R.Misplaced (c.at + w))) (Next (command_of b (drop c.at s)) (advanced c b w)) ≡ Next d k
+    go : (t u : Bool) → cond {A = Judged} t (cond u (Ok None) (Err (R.Misplaced, c.at + w))) (Ok (Some (command_of b (drop c.at s), advanced c b w))) ≡ Ok (Some (d, k))
         → k.last ≡ b
     go true true h = absurd (let z : ◌≡◌ {A = ℕ} 0 1 = cc in omega arith)
     go true false h = absurd (let z : ◌≡◌ {A = ℕ} 0 1 = cc in omega arith)
-    go false u h = let a : advanced c b w ≡ k = cc in ap (λ (j : Cursor). j.last) (sym a)
+    go false u h =
+        let z : ◌≡◌ {A = Option (Command × Cursor)} (Some (command_of b (drop c.at s), advanced c b w)) (Some (d, k)) = cc in
+        ap (λ (j : Cursor). j.last) (sym (same-parts z).1)
 
-module _ (s : Str) (pool : Str) (c : Cursor) (o : Outcome) (e : o ≡ outcome_of (parsed_from Current s pool c)) where
+module _ (s : Str) (pool : Str) (c : Cursor) (o : Result ⊤ (Refusal × ℕ)) (e : o ≡ outcome_of (parsed_from Current s pool c)) where
   -- a reading that passes this command is refused later, if at all
-  not-here : (d : Command) (k : Cursor) → judged_at Current s pool c ≡ Next d k → refused_at o c.at ≡ false
+  not-here : (d : Command) (k : Cursor) → judged_at Current s pool c ≡ Ok (Some (d, k)) → refused_at o c.at ≡ false
   not-here d k j = go o e
     where
       step : c.at < k.at
       step = (step-found s c.at _ _ (judged-step Current s pool c d k j)).on
 
-      go : (x : Outcome) → x ≡ outcome_of (parsed_from Current s pool c) → refused_at x c.at ≡ false
-      go O.Readable f = refl
-      go (O.Refused m q) f =
+      go : (x : Result ⊤ (Refusal × ℕ)) → x ≡ outcome_of (parsed_from Current s pool c) → refused_at x c.at ≡ false
+      go (Ok tt) f = refl
+      go (Err (m, q)) f =
           let r = placed-from s pool k m q (f ∙ commands-on Current s pool c (judged_at Current s pool c) refl d k j) in
           let a = r.ahead in
           let b = step in
@@ -194,41 +188,41 @@ module _ (s : Str) (pool : Str) (c : Cursor) (o : Outcome) (e : o ≡ outcome_of
     fits_last z = go (judged_at Current s pool c) refl
       where
         go : (j : Judged) → judged_at Current s pool c ≡ j → o ≡ outcome_of (addition_from s pool c)
-        go (Next d k) h =
+        go (Ok (Some (d, k))) h =
             let t = judged-step Current s pool c d k h in
             let b = (step-found s c.at _ _ t).on in
             let y : after_at s c.at ≡ 0 = rw (not-here d k h) at z in
             let x = after_next s c.at _ _ t in
             absurd (omega arith)
-        go Done h = e ∙ commands-done Current s pool c (judged_at Current s pool c) refl h ∙ sym (adds-done s pool c (addition_at s pool c) refl (as_plain ∙ h))
-        go (Refused m q) h =
-            e ∙ commands-refused Current s pool c (judged_at Current s pool c) refl m q h
+        go (Ok None) h = e ∙ commands-done Current s pool c (judged_at Current s pool c) refl h ∙ sym (adds-done s pool c (addition_at s pool c) refl (as_plain ∙ h))
+        go (Err (m, q)) h =
+            e ∙ commands-refused Current s pool c (judged_at Current s pool c) refl (m, q) h
             ∙ sym (adds-refused s pool c (addition_at s pool c) refl m q (as_plain ∙ h))
 
   fits_not : may_add c.last (get_or s c.at 0) ≡ false → misfit o c.at ≡ outcome_of (addition_from s pool c)
   fits_not a = go (judged_at Current s pool c) refl
     where
-      third : comes_first (judged_at Current s pool c) ≡ false → addition_at s pool c ≡ Refused R.Misplaced c.at
+      third : comes_first (judged_at Current s pool c) ≡ false → addition_at s pool c ≡ Err (R.Misplaced, c.at)
       third f = addition-is s pool c ∙ rw (f, a)
 
-      said : addition_at s pool c ≡ Refused R.Misplaced c.at → O.Refused R.Misplaced c.at ≡ outcome_of (addition_from s pool c)
+      said : addition_at s pool c ≡ Err (R.Misplaced, c.at) → Err (R.Misplaced, c.at) ≡ outcome_of (addition_from s pool c)
       said h = sym (adds-refused s pool c (addition_at s pool c) refl R.Misplaced c.at h)
 
-      later : (x : Outcome) → refused_at x c.at ≡ false → misfit x c.at ≡ O.Refused R.Misplaced c.at
-      later O.Readable h = refl
-      later (O.Refused m q) h = rw h (either (is_first m))
+      later : (x : Result ⊤ (Refusal × ℕ)) → refused_at x c.at ≡ false → misfit x c.at ≡ Err (R.Misplaced, c.at)
+      later (Ok tt) h = refl
+      later (Err (m, q)) h = rw h (either (is_first m))
         where
-          either : (b : Bool) → cond (b && false) (O.Refused m q) (O.Refused R.Misplaced c.at) ≡ O.Refused R.Misplaced c.at
+          either : (b : Bool) → cond {A = Result ⊤ (Refusal × ℕ)} (b && false) (Err (m, q)) (Err (R.Misplaced, c.at)) ≡ Err (R.Misplaced, c.at)
           either true = refl
           either false = refl
 
       go : (j : Judged) → judged_at Current s pool c ≡ j → misfit o c.at ≡ outcome_of (addition_from s pool c)
-      go (Next d k) h = later o (not-here d k h) ∙ said (third (ap comes_first h))
-      go Done h = rw (e ∙ commands-done Current s pool c (judged_at Current s pool c) refl h) (said (third (ap comes_first h)))
-      go (Refused m q) h = rw (e ∙ commands-refused Current s pool c (judged_at Current s pool c) refl m q h) (either (is_first m) refl)
+      go (Ok (Some (d, k))) h = later o (not-here d k h) ∙ said (third (ap comes_first h))
+      go (Ok None) h = rw (e ∙ commands-done Current s pool c (judged_at Current s pool c) refl h) (said (third (ap comes_first h)))
+      go (Err (m, q)) h = rw (e ∙ commands-refused Current s pool c (judged_at Current s pool c) refl (m, q) h) (either (is_first m) refl)
         where
           either : (b : Bool) → is_first m ≡ b
-              → cond (b && eqb q c.at) (O.Refused m q) (O.Refused R.Misplaced c.at) ≡ outcome_of (addition_from s pool c)
+              → cond (b && eqb q c.at) (Err (m, q)) (Err (R.Misplaced, c.at)) ≡ outcome_of (addition_from s pool c)
           either true f =
               rw (eq-eqb q c.at ((refusing s c m q pool h).first f))
               (sym (adds-refused s pool c (addition_at s pool c) refl m q (addition-is s pool c ∙ rw (h, f))))
@@ -237,24 +231,24 @@ module _ (s : Str) (pool : Str) (c : Cursor) (o : Outcome) (e : o ≡ outcome_of
 -- along the commands ------------------------------------------------------------------------------------------------------------------------------
 
 -- the reading passes a cursor at this place after a command of this number, and the addition's judgement too
-pub record Passing (s : Str) (pool : Str) (o : Outcome) (at last : ℕ) : Type 0 where
+pub record Passing (s : Str) (pool : Str) (o : Result ⊤ (Refusal × ℕ)) (at last : ℕ) : Type 0 where
   pub cursor : Cursor
   pub is_at : cursor.at ≡ at
   pub is_last : cursor.last ≡ last
   pub plain : o ≡ outcome_of (parsed_from Current s pool cursor)
   pub added : outcome_of (addition_from s pool start) ≡ outcome_of (addition_from s pool cursor)
 
-pub record Along (s : Str) (o : Outcome) (at last : ℕ) : Type 0 where
+pub record Along (s : Str) (o : Result ⊤ (Refusal × ℕ)) (at last : ℕ) : Type 0 where
   pub so : (pool : Str) → o ≡ outcome_of (parsed_from Current s pool start) → Passing s pool o at last
 
-pub along-front : (s : Str) (o : Outcome) → Along s o 0 0
+pub along-front : (s : Str) (o : Result ⊤ (Refusal × ℕ)) → Along s o 0 0
 along-front s o = record { so = λ pool e. record { cursor = start; is_at = refl; is_last = refl; plain = e; added = refl } }
 
-module _ (s : Str) (o : Outcome) (at last : ℕ) (w : Along s o at last) (b : ℕ) (i : b ≡ get_or s at 0) (t : Bool) (f : t ≡ may_add last b) where
+module _ (s : Str) (o : Result ⊤ (Refusal × ℕ)) (at last : ℕ) (w : Along s o at last) (b : ℕ) (i : b ≡ get_or s at 0) (t : Bool) (f : t ≡ may_add last b) where
   may : (pool : Str) (p : Passing s pool o at last) → may_add p.cursor.last (get_or s p.cursor.at 0) ≡ t
   may pool p = rw (p.is_at, p.is_last, ← i, ← f)
 
-  pub shape-misfit : (r : Outcome) → t ≡ false → r ≡ misfit o at → Shaped s o r
+  pub shape-misfit : (r : Result ⊤ (Refusal × ℕ)) → t ≡ false → r ≡ misfit o at → Shaped s o r
   shape-misfit r h g = record {
     so = λ pool e.
         let p = w.so pool e in
@@ -291,9 +285,9 @@ module _ (s : Str) (o : Outcome) (at last : ℕ) (w : Along s o at last) (b : �
           to = going.0 ∙ ap (after_at s) (sym p.is_at)
 
           go : (j : Judged) → judged_at Current s pool c ≡ j → Passing s pool o k b
-          go (Next d j) q =
+          go (Ok (Some (d, j))) q =
               let r = judged-step Current s pool c d j q in
-              let l = passed Current s pool c (Next d j) tt q in
+              let l = passed Current s pool c (Ok (Some (d, j))) tt q in
               record {
                 cursor = j;
                 is_at = sym (to ∙ after_next s c.at _ _ r);
@@ -301,12 +295,12 @@ module _ (s : Str) (o : Outcome) (at last : ℕ) (w : Along s o at last) (b : �
                 plain = p.plain ∙ commands-on Current s pool c (judged_at Current s pool c) refl d j q;
                 added = p.added ∙ adds_on s pool c (addition_at s pool c) refl d j (as_plain s pool c o p.plain (may pool p ∙ h) ∙ q);
               }
-          go Done q = absurd (z (to ∙ after_stop s c.at (judged-stop Current s pool c q)))
-          go (Refused m y) q =
+          go (Ok None) q = absurd (z (to ∙ after_stop s c.at (judged-stop Current s pool c q)))
+          go (Err (m, y)) q =
               let st = stepped s c.at k to z in
               let a : y ≡ at = (refusing s c m y pool q).here st.command st.cursor st.step ∙ p.is_at in
-              let e : o ≡ O.Refused m y = p.plain ∙ commands-refused Current s pool c (judged_at Current s pool c) refl m y q in
-              let u : eqb y at ≡ false = sym (ap (λ (x : Outcome). refused_at x at) e) ∙ going.1 in
+              let e : o ≡ Err (m, y) = p.plain ∙ commands-refused Current s pool c (judged_at Current s pool c) refl (m, y) q in
+              let u : eqb y at ≡ false = sym (ap (λ (x : Result ⊤ (Refusal × ℕ)). refused_at x at) e) ∙ going.1 in
               absurd (eqb-false y at u a)
 
       pub shape_on : Along s o k b
@@ -314,7 +308,7 @@ module _ (s : Str) (o : Outcome) (at last : ℕ) (w : Along s o at last) (b : �
 
 -- the functions on the way --------------------------------------------------------------------------------------------------------------------------
 
-module _ (s : Str) (o : Outcome) (at : ℕ) (t : Bool) (f : t ≡ refused_at o at) where
+module _ (s : Str) (o : Result ⊤ (Refusal × ℕ)) (at : ℕ) (t : Bool) (f : t ≡ refused_at o at) where
   pub onward-refused : t ≡ true → 0 ≡ onward s o at
   unfolding onward
   onward-refused h = rw (← f, h)
@@ -323,56 +317,43 @@ module _ (s : Str) (o : Outcome) (at : ℕ) (t : Bool) (f : t ≡ refused_at o a
   unfolding onward
   onward-after k h g = rw (← f, h) g
 
-module _ (o : Outcome) (m : Refusal) (q : ℕ) (e : o ≡ O.Refused m q) where
+module _ (o : Result ⊤ (Refusal × ℕ)) (m : Refusal) (q : ℕ) (e : o ≡ Err (m, q)) where
   pub refused-is : (at : ℕ) → eqb q at ≡ refused_at o at
   refused-is at = rw e
 
   module _ (t : Bool) (f : t ≡ is_vast m) where
-    pub read-vast : t ≡ true → O.Readable ≡ commands_read o
+    pub read-vast : t ≡ true → Ok tt ≡ commands_read o
     read-vast h = rw (e, ← f, h)
 
-    pub read_kept : t ≡ false → O.Refused m q ≡ commands_read o
+    pub read_kept : t ≡ false → Err (m, q) ≡ commands_read o
     read_kept h = rw (e, ← f, h)
-
-pub misfit-none : (o : Outcome) (at : ℕ) → OneOf (0 ∷ []) (tag_of outcome-type.the_type o) → O.Refused R.Misplaced at ≡ misfit o at
-misfit-none o at h = rw (readable o h)
-
-module _ (o : Outcome) (at : ℕ) (m : Refusal) (q : ℕ) (e : o ≡ O.Refused m q) (t : Bool) (f : t ≡ is_first m) where
-  pub misfit-first : t ≡ true → q ≡ at → O.Refused m q ≡ misfit o at
-  misfit-first h g = rw (e, ← f, h, eq-eqb q at g)
-
-  pub misfit-elsewhere : t ≡ true → (q ≡ at → ⊥) → O.Refused R.Misplaced at ≡ misfit o at
-  misfit-elsewhere h g = rw (e, ← f, h, ne_eqb q at g)
-
-  pub misfit-later : t ≡ false → O.Refused R.Misplaced at ≡ misfit o at
-  misfit-later h = rw (e, ← f, h)
 
 -- the whole addition --------------------------------------------------------------------------------------------------------------------------------
 
-module _ (s p : Str) (a : length s ≤ 32768) (b : length p ≤ 16384) (l : Letters) (e : l ≡ odd_letter p)
-    (g : OneOf (0 ∷ []) (tag_of letters-type.the_type l)) where
-  commands-only : (ws : List Scalar) (o : Outcome) → reading_of (rec s p ws) o ≡ reading Current (rec s p ws)
+module _ (s p : Str) (a : length s ≤ 32768) (b : length p ≤ 16384) (l : Option ℕ) (e : l ≡ odd_letter p)
+    (g : l ≡ None) where
+  commands-only : (ws : List Scalar) (o : Result ⊤ (Refusal × ℕ)) → reading_of (rec s p ws) o ≡ reading Current (rec s p ws)
       → commands_read o ≡ outcome_of (parsed Current (rec s p ws))
   unfolding reading stream_limit pool_limit concluded sizes_of vast_or outcome_of parsed
   commands-only ws o h =
-      go (parsed Current (rec s p ws)) refl (rw (le-leb (length s) 32768 a, le-leb (length p) 16384 b, ← e, good l g) at h)
+      go (parsed Current (rec s p ws)) refl (rw (le-leb (length s) 32768 a, le-leb (length p) 16384 b, ← e, g) at h)
     where
-      vasts : (x : Outcome) (v : Option Opened) (ps : List ℕ) → reading_of (rec s p ws) x ≡ vast_or (schema_from (rec s p ws) ps) v
-          → commands_read x ≡ O.Readable
-      vasts O.Readable v ps h = refl
-      vasts (O.Refused m q) none ps h = absurd (let z : ◌≡◌ {A = ℕ} 0 1 = cc in omega arith)
-      vasts (O.Refused m q) (some t) ps h = let y : m ≡ R.Vast = cc in rw y
+      vasts : (x : Result ⊤ (Refusal × ℕ)) (v : Option Opened) (ps : List ℕ) → reading_of (rec s p ws) x ≡ vast_or (schema_from (rec s p ws) ps) v
+          → commands_read x ≡ Ok tt
+      vasts (Ok tt) v ps h = refl
+      vasts (Err (m, q)) None ps h = absurd (let z : ◌≡◌ {A = ℕ} 0 1 = cc in omega arith)
+      vasts (Err (m, q)) (Some t) ps h = let y : m ≡ R.Vast = cc in rw y
 
-      refused : (x : Outcome) (m : Refusal) (q : ℕ) → is_vast m ≡ false → reading_of (rec s p ws) x ≡ refuse m q → commands_read x ≡ O.Refused m q
-      refused O.Readable m q v h = absurd (let z : ◌≡◌ {A = ℕ} 0 1 = cc in omega arith)
-      refused (O.Refused n i) m q v h = let y : n ≡ m = cc in let z : i ≡ q = cc in rw (y, z, v)
+      refused : (x : Result ⊤ (Refusal × ℕ)) (m : Refusal) (q : ℕ) → is_vast m ≡ false → reading_of (rec s p ws) x ≡ refuse m q → commands_read x ≡ Err (m, q)
+      refused (Ok tt) m q v h = absurd (let z : ◌≡◌ {A = ℕ} 0 1 = cc in omega arith)
+      refused (Err (n, i)) m q v h = let y : n ≡ m = cc in let z : i ≡ q = cc in rw (y, z, v)
 
-      go : (x : Parsed) → parsed Current (rec s p ws) ≡ x → reading_of (rec s p ws) o ≡ concluded (rec s p ws) true Good x
+      go : (x : Parsed) → parsed Current (rec s p ws) ≡ x → reading_of (rec s p ws) o ≡ concluded (rec s p ws) true None x
           → commands_read o ≡ outcome_of x
       go (bad m q) f h = refused o m q (placed s p (length s + 1) start m q f).command h
       go (ok ps) f h = vasts o (find (vast (schema_from (rec s p ws) ps)) (opened s p ps)) ps h
 
-  pub addition-shaped : (ws : List Scalar) (o c r : Outcome) → Read Current (rec s p ws) o → c ≡ commands_read o → Shaped s c r
+  pub addition-shaped : (ws : List Scalar) (o c r : Result ⊤ (Refusal × ℕ)) → Read Current (rec s p ws) o → c ≡ commands_read o → Shaped s c r
       → r ≡ outcome_of (addition (rec s p []))
   unfolding parsed_from parsed
   addition-shaped ws o c r h i k =

@@ -1,8 +1,8 @@
 -- 02, W-211: a draft set under a name is held as it was, and so are those under all other names. Assumes nothing.
+use Rattle.std.specs.Prelude.{Option, Some, None}
 use mathlib.Core.Path.{◌≡◌, refl, sym, ap, ap₂, ◌∙◌, subst}
 use mathlib.Core.List.Memᴰ
 use mathlib.Core.List.{List, [], ◌∷◌, ◌++◌, map, append_assoc, Memᴰ}
-use mathlib.Core.Option.{Option, none, some}
 use mathlib.Core.Bool.{Bool, true, false, ◌&&◌, ◌||◌, not, cond, false≢true}
 use Prim.Native.Nat.{ℕ, zero, suc, ◌+◌, ◌≤◌, ◌<◌}
 use native.Mathlib.Omega.{arith}
@@ -21,7 +21,7 @@ use Rattle.drafts.proofs.Pools.{any-mem, text_same}
 
 pub record Under (rows : List Row) (held n x : Str) : Type 0 where
   pub row : Row
-  pub found : row_of n rows ≡ some row
+  pub found : row_of n rows ≡ Some row
   pub holds : bytes_of held row ≡ x
 
 module _ (m : Str) where
@@ -33,31 +33,31 @@ module _ (m : Str) where
   find-put p x (r ∷ rows) a h = go (p r) refl (find-put p x rows a h)
     where
       go : (t : Bool) → p r ≡ t → find (is_named m) (put_first p x rows) ≡ find (is_named m) rows
-          → find (is_named m) (cond t (x ∷ rows) (r ∷ put_first p x rows)) ≡ cond (is_named m r) (some r) (find (is_named m) rows)
+          → find (is_named m) (cond t (x ∷ rows) (r ∷ put_first p x rows)) ≡ cond (is_named m r) (Some r) (find (is_named m) rows)
       go true q e = rw (a, h r q)
-      go false q e = ap (λ (o : Option Row). cond (is_named m r) (some r) o) e
+      go false q e = ap (λ (o : Option Row). cond (is_named m r) (Some r) o) e
 
   -- a row put where none of its name is before it is found
   find-own : (p : Row → Bool) (x : Row) (rows : List Row) → is_named m x ≡ true → any p rows ≡ true → ((r : Row) → p r ≡ false → Memᴰ r rows → is_named m r ≡ false)
-      → find (is_named m) (put_first p x rows) ≡ some x
+      → find (is_named m) (put_first p x rows) ≡ Some x
   unfolding find put_first any
   find-own p x [] a b h = absurd (false≢true b)
   find-own p x (r ∷ rows) a b h = go (p r) refl b (λ c. find-own p x rows a c (λ u q l. h u q (Memᴰ.tail l)))
     where
-      go : (t : Bool) → p r ≡ t → (t || any p rows) ≡ true → (any p rows ≡ true → find (is_named m) (put_first p x rows) ≡ some x)
-          → find (is_named m) (cond t (x ∷ rows) (r ∷ put_first p x rows)) ≡ some x
+      go : (t : Bool) → p r ≡ t → (t || any p rows) ≡ true → (any p rows ≡ true → find (is_named m) (put_first p x rows) ≡ Some x)
+          → find (is_named m) (cond t (x ∷ rows) (r ∷ put_first p x rows)) ≡ Some x
       go true q b e = rw a
       go false q b e = rw (h r q (Memᴰ.head refl)) (e b)
 
   -- rows that keep their names are found in the same order
-  find-map : (f : Row → Row) (rows : List Row) (r : Row) → ((u : Row) → is_named m (f u) ≡ is_named m u) → find (is_named m) rows ≡ some r → find (is_named m) (map f rows) ≡ some (f r)
+  find-map : (f : Row → Row) (rows : List Row) (r : Row) → ((u : Row) → is_named m (f u) ≡ is_named m u) → find (is_named m) rows ≡ Some r → find (is_named m) (map f rows) ≡ Some (f r)
   unfolding find
   find-map f [] r h e = absurd (let z : ◌≡◌ {A = ℕ} 0 1 = cc in omega arith)
   find-map f (u ∷ rows) r h e = go (is_named m u) refl (find-map f rows r h) e
     where
-      go : (t : Bool) → is_named m u ≡ t → (find (is_named m) rows ≡ some r → find (is_named m) (map f rows) ≡ some (f r)) → cond t (some u) (find (is_named m) rows) ≡ some r
-          → cond (is_named m (f u)) (some (f u)) (find (is_named m) (map f rows)) ≡ some (f r)
-      go true q ih e = let z : u ≡ r = cc in rw (h u, q) (ap (λ (x : Row). some (f x)) z)
+      go : (t : Bool) → is_named m u ≡ t → (find (is_named m) rows ≡ Some r → find (is_named m) (map f rows) ≡ Some (f r)) → cond t (Some u) (find (is_named m) rows) ≡ Some r
+          → cond (is_named m (f u)) (Some (f u)) (find (is_named m) (map f rows)) ≡ Some (f r)
+      go true q ih e = let z : u ≡ r = cc in rw (h u, q) (ap (λ (x : Row). Some (f x)) z)
       go false q ih e = rw (h u, q) (ih e)
 
 -- one row has one name
@@ -66,8 +66,8 @@ unfolding is_named is_text
 one_name m n r a b = go (name_of r) a b
   where
     go : (o : Option Str) → is_text o m ≡ true → is_text o n ≡ true → m ≡ n
-    go none a b = absurd (false≢true a)
-    go (some x) a b = sym (eqs→eq x m a) ∙ eqs→eq x n b
+    go None a b = absurd (false≢true a)
+    go (Some x) a b = sym (eqs→eq x m a) ∙ eqs→eq x n b
 
 not_named : (m n : Str) (r : Row) → (m ≡ n → ⊥) → is_named m r ≡ true → is_named n r ≡ false
 not_named m n r d a = go (is_named n r) refl
@@ -80,7 +80,7 @@ pub named-held : (m : Str) (r : Row) → is_named m r ≡ true → is_held r ≡
 unfolding is_named name_of is_text
 named-held m r a = go (is_held r) refl (leb r.letters 16) a
   where
-    go : (t : Bool) → is_held r ≡ t → (u : Bool) → is_text (cond (t && u) (some (take r.letters r.word)) none) m ≡ true → t ≡ true
+    go : (t : Bool) → is_held r ≡ t → (u : Bool) → is_text (cond (t && u) (Some (take r.letters r.word)) None) m ≡ true → t ≡ true
     go true q u a = refl
     go false q u a = absurd (false≢true a)
 
@@ -165,11 +165,11 @@ module _ (rows : List Row) (held n new : Str) (good : good_name n ≡ true) (val
   unfolding moved_row is_held
   same-free u = refl
 
-  own-found : row_of n rows-after ≡ some own
+  own-found : row_of n rows-after ≡ Some own
   unfolding row_of put
   own-found = go (any (is_named n) moved-rows) refl
     where
-      go : (t : Bool) → any (is_named n) moved-rows ≡ t → find (is_named n) (cond t (put_first (is_named n) own moved-rows) (put_first is_free own moved-rows)) ≡ some own
+      go : (t : Bool) → any (is_named n) moved-rows ≡ t → find (is_named n) (cond t (put_first (is_named n) own moved-rows) (put_first is_free own moved-rows)) ≡ Some own
       go true q = find-own n (is_named n) own moved-rows (new-named n (length front) (length new) good) q (λ r e m. e)
       go false q =
           let a : any (is_named n) rows ≡ false = sym (any-map (is_named n) (moved_row n rows held) rows (same_name n)) ∙ q in
@@ -208,7 +208,7 @@ module _ (rows : List Row) (held n new : Str) (good : good_name n ≡ true) (val
         any-mem (in_place j) (others n rows) (filter-mem is_held (put_first (is_named n) free_row rows) (mem-put (is_named n) free_row rows u.row is-named.0 (not_named m n u.row other is-named.1)) (named-held m u.row is-named.1))
         (rw (le-leb u.row.start j a, lt-ltb j (u.row.start + u.row.size) b))
 
-    other-found : row_of m rows-after ≡ some (moved_row n rows held u.row)
+    other-found : row_of m rows-after ≡ Some (moved_row n rows held u.row)
     unfolding row_of put
     other-found = go (any (is_named n) moved-rows) ∙ find-map m (moved_row n rows held) rows u.row (same_name m) u.found
       where

@@ -1,9 +1,9 @@
 -- 02, W-211: over any series of settings, comings back and W-210's edits, each accepted or refused, in which only these calls write the held buffer and each
 -- gets the rows that the last gave, the record and the texts of each name come back as they were when it was set, whatever names are set later, with the
 -- count found afresh; and under one copy the count beside the draft stays right. Assumes nothing.
+use Rattle.std.specs.Prelude.{Option, Some, None}
 use mathlib.Core.Path.{◌≡◌, refl, sym, ap, ap₂, ◌∙◌, subst}
 use mathlib.Core.List.{List, [], ◌∷◌, ◌++◌, map, append-nil}
-use mathlib.Core.Option.{Option, none, some}
 use mathlib.Core.Bool.{Bool, true, false, ◌&&◌, ◌||◌, cond, false≢true}
 use Prim.Native.Nat.{ℕ, ◌+◌, ◌≤◌}
 use native.Mathlib.Omega.{arith}
@@ -92,7 +92,7 @@ pub record Held (w : List Scalar) (rows : List Row) (held n : Str) (r : Rec) : T
 -- no held place is outside the buffer or over another, and each name holds its record
 pub record Holds (w : List Scalar) (rows : List Row) (held : Str) (m : Str → Option Rec) : Type 0 where
   pub sound : forged (length held) rows ≡ false
-  pub each : (n : Str) (r : Rec) → m n ≡ some r → Held w rows held n r
+  pub each : (n : Str) (r : Rec) → m n ≡ Some r → Held w rows held n r
 
 module _ (w : List Scalar) where
   set_holds : (k : Editor) (m : Str → Option Rec) (n : Str) → Holds w k.rows k.held m
@@ -101,11 +101,11 @@ module _ (w : List Scalar) where
   set_holds k m n h = go (set_draft w k.rows n k.kept.buffer k.held) (sets w k.rows k.held n k.kept.buffer h.sound)
     where
       go : (e : Shelved) → Set k.rows k.held w n k.kept.buffer e
-          → Holds w e.rows e.edited.buffer (λ x. cond (eqb e.edited.number 0) (cond (eqs x n) (some (held_rec w k.kept.buffer)) (m x)) (m x))
+          → Holds w e.rows e.edited.buffer (λ x. cond (eqb e.edited.number 0) (cond (eqs x n) (Some (held_rec w k.kept.buffer)) (m x)) (m x))
       go e (not_set z p q) = rw (ne_eqb e.edited.number 0 z, p, q) h
       go e (is_set z now i v u f) = rw (eq-eqb e.edited.number 0 z) (record { sound = v; each = λ x r g. name x r (eqs x n) refl g })
         where
-          name : (x : Str) (r : Rec) (t : Bool) → eqs x n ≡ t → cond t (some (held_rec w k.kept.buffer)) (m x) ≡ some r → Held w e.rows e.edited.buffer x r
+          name : (x : Str) (r : Rec) (t : Bool) → eqs x n ≡ t → cond t (Some (held_rec w k.kept.buffer)) (m x) ≡ Some r → Held w e.rows e.edited.buffer x r
           name x r true q g =
               let y : held_rec w k.kept.buffer ≡ r = cc in
               subst (λ (a : Str). Held w e.rows e.edited.buffer a r) (sym (eqs→eq x n q))
@@ -125,7 +125,7 @@ module _ (w : List Scalar) where
   series-holds (c ∷ cs) k m h = series-holds cs (called w k c) (noted w k m c) (call-holds k m c h)
 
 -- a shelf on which no name is held
-pub new-holds : (w : List Scalar) (held : Str) → Holds w (rows_of new_shelf) held (λ n. none)
+pub new-holds : (w : List Scalar) (held : Str) → Holds w (rows_of new_shelf) held (λ n. None)
 unfolding forged held_rows filter_b is_held rows_of tabulate any overlapping
 new-holds w held = record { sound = refl; each = λ n r e. absurd (none≢some e) }
 
@@ -191,8 +191,8 @@ module _ (w : List Scalar) (copy : Rec) where
   back-keeps rows n draft held k h = go (forged (length held) rows)
     where
       row : (o : Option Row) → Right w copy (back_kept k (back_from w copy draft held o))
-      row none = refused-keeps k (declined 58 0 draft) (λ z. omega arith) h
-      row (some r) = brought-right (bytes_of held r) draft k h
+      row None = refused-keeps k (declined 58 0 draft) (λ z. omega arith) h
+      row (Some r) = brought-right (bytes_of held r) draft k h
 
       go : (t : Bool) → Right w copy (back_kept k (cond t (declined 58 0 draft) (back_from w copy draft held (row_of n rows))))
       go true = refused-keeps k (declined 58 0 draft) (λ z. omega arith) h
@@ -217,7 +217,7 @@ pub record Returned (w : List Scalar) (copy : Rec) (k : Editor) (n : Str) (r : R
   pub count-is : Right w copy (keeping e.edited)
   pub stays : e.rows ≡ k.rows
 
-module _ (w : List Scalar) (cs : List Call) (k : Editor) (m : Str → Option Rec) (h : Holds w k.rows k.held m) (n : Str) (r : Rec) (e : named w k m cs n ≡ some r)
+module _ (w : List Scalar) (cs : List Call) (k : Editor) (m : Str → Option Rec) (h : Holds w k.rows k.held m) (n : Str) (r : Rec) (e : named w k m cs n ≡ Some r)
     (copy : Rec) (was : Schema) (c : reading Released copy ≡ read was) where
   abbrev after : Editor
   after = calls w k cs

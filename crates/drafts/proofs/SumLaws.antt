@@ -1,12 +1,11 @@
 -- A type added to a draft: the result as built, and the cases of the edit. Assumes nothing.
+use Rattle.std.specs.Prelude.{Ok, Option, Some, None, Result, Err, ⊤}
 use mathlib.Core.Path.{◌≡◌, refl, sym, ap, subst, ◌∙◌}
 use mathlib.Core.List.{List, [], ◌∷◌, ◌++◌, append_assoc}
 use mathlib.Core.Bool.{false}
 use Prim.Native.Nat.{ℕ, ◌+◌, ◌≤◌}
 use native.Mathlib.Omega.{arith}
 use lib.ListN.{length, drop}
-use types.Run.{OneOf}
-use denote.Enum.Declared.{tag_of}
 use Rattle.record.specs.Base.{Str, any}
 use Rattle.record.specs.Stretch.{text_of}
 use Rattle.record.specs.Operands.{text_at}
@@ -18,16 +17,8 @@ use Rattle.record.specs.Seek.{after_at}
 use Rattle.record.specs.Reading.{Rec, rec, schema_of, reading, Parsed, ok, bad}
 use Rattle.record.specs.Read.{outcome_of}
 use Rattle.record.specs.declared.text.Text.{Text}
-use Rattle.record.specs.declared.command.Step.{Step}
-use Rattle.record.specs.declared.command.Step.TheVariants.{Next, Stop}
 use Rattle.record.specs.declared.refusal.Side.TheVariants.{Current}
 use Rattle.record.specs.declared.refusal.Refusal.{Refusal}
-use Rattle.record.specs.declared.read.Outcome.{Outcome}
-use Rattle.record.specs.declared.read.Outcome.TheVariants.{Readable, Refused}
-use Rattle.record.specs.declared.seek.Sought.{Sought}
-use Rattle.record.specs.declared.seek.Sought.TheVariants.{At}
-use Rattle.record.specs.contracts.read.Outcome as outcome-type
-use Rattle.record.specs.contracts.seek.Sought as sought-type
 use Rattle.record.proofs.Stream.{commands-next, commands-stop}
 use Rattle.record.proofs.WriterLaws.{puts_then, puts-as, puts-near, puts-exact}
 use Rattle.drafts.specs.Packing.{texts_of, covered, packed_commands, packed_pool, stream_of}
@@ -40,16 +31,15 @@ use Rattle.drafts.specs.Packed.{front, Packed}
 use Rattle.drafts.specs.Building.{Built}
 use Rattle.drafts.specs.Finishing.{HeldPacked}
 use Rattle.drafts.specs.Summing.{sum_stream, sum_pool, second_name}
-use Rattle.drafts.specs.Answering.{edited_as, Says, Opens}
+use Rattle.drafts.specs.Answering.{edited_as, Says, Opens, Opened}
 use Rattle.drafts.specs.declared.pack.Ends.{Ends}
 use Rattle.drafts.specs.declared.saying.DraftAnswer.{DraftAnswer}
-use Rattle.drafts.specs.declared.opening.Opening.{Opening}
-use Rattle.drafts.specs.contracts.opening.Opening as opening-type
 use Rattle.drafts.proofs.Additions.{addable}
 use Rattle.drafts.proofs.Results.{kept-short}
 use Rattle.drafts.proofs.PutLaws.{range-end}
 use Rattle.drafts.proofs.SettleLaws.{open-is-both}
-use Rattle.drafts.proofs.Outcomes.{readable, nowhere}
+use Rattle.record.specs.Commands.{Step}
+use Rattle.record.specs.declared.command as D
 
 -- chosen commands ----------------------------------------------------------------------------------------------------------------------------
 
@@ -62,9 +52,9 @@ chosen-tail : (s : Str) → chosen s 0 (after_at s 0) ≡ tail (commands_at s 0)
 unfolding chosen after_at tail
 chosen-tail s = ap (λ (l : List ℕ). l ++ commands_at s (after_at s 0)) (range-end s 0 0 (omega arith)) ∙ go (step_at s 0) refl
   where
-    go : (t : Step) → step_at s 0 ≡ t → commands_at s (after_at s 0) ≡ tail (commands_at s 0)
-    go (Next c k) e = rw (commands-next s 0 c k e, after_at, e)
-    go Stop e = rw (commands-stop s 0 e, after_at, e) (commands-stop s 0 e)
+    go : (t : Step D.Command.Command) → step_at s 0 ≡ t → commands_at s (after_at s 0) ≡ tail (commands_at s 0)
+    go (Some (c, k)) e = rw (commands-next s 0 c k e, after_at, e)
+    go None e = rw (commands-stop s 0 e, after_at, e) (commands-stop s 0 e)
 
 pack-low : (s p : Str) (ps : List ℕ) (out after words left : Str) (e : Ends) → Packed s p ps front out after words left e → length p ≤ 16384 → e.pool ≤ 16384
 unfolding packed_pool
@@ -107,9 +97,9 @@ sum-built b more texts out mid then after words left last e f n c d z =
 place-first : (s : Str) (at x : ℕ) (l : List ℕ) → commands_at s at ≡ x ∷ l → at ≡ x
 place-first s at x l h = go (step_at s at) refl
   where
-    go : (t : Step) → step_at s at ≡ t → at ≡ x
-    go (Next c k) e = let z : at ∷ commands_at s k.at ≡ x ∷ l = sym (commands-next s at c k e) ∙ h in cc
-    go Stop e = let z : [] ≡ x ∷ l = sym (commands-stop s at e) ∙ h in absurd (let y : ◌≡◌ {A = ℕ} 0 1 = ap length z ∙ absurd (let v = ap length z in omega arith) in omega arith)
+    go : (t : Step D.Command.Command) → step_at s at ≡ t → at ≡ x
+    go (Some (c, k)) e = let z : at ∷ commands_at s k.at ≡ x ∷ l = sym (commands-next s at c k e) ∙ h in cc
+    go None e = let z : [] ≡ x ∷ l = sym (commands-stop s at e) ∙ h in absurd (let y : ◌≡◌ {A = ℕ} 0 1 = ap length z ∙ absurd (let v = ap length z in omega arith) in omega arith)
 
 name-is : (s p : Str) (ps : List ℕ) → addition (rec s p []) ≡ ok ps → name_after (rec s p []) (tail ps) ≡ second_name s p
 unfolding name_after tail second_name chosen
@@ -125,51 +115,51 @@ name-is s p ps h =
 
 -- the edit ----------------------------------------------------------------------------------------------------------------------------------------
 
-was-bad : (x : Parsed) (n : Refusal) (q : ℕ) → outcome_of x ≡ Refused n q → x ≡ bad n q
+was-bad : (x : Parsed) (n : Refusal) (q : ℕ) → outcome_of x ≡ Err (n, q) → x ≡ bad n q
 unfolding outcome_of
 was-bad (ok ps) n q h = absurd (let z : ◌≡◌ {A = ℕ} 0 1 = cc in omega arith)
-was-bad (bad m p) n q h = cc
+was-bad (bad m p) n q h = let z : ◌≡◌ {A = Refusal × ℕ} (m, p) (n, q) = cc in ap (λ (y : Refusal × ℕ). bad y.0 y.1) z
 
 record Taken (x : Parsed) : Type 0 where
   pub places : List ℕ
   pub is : x ≡ ok places
 
-was-ok : (x : Parsed) → outcome_of x ≡ Readable → Taken x
+was-ok : (x : Parsed) → outcome_of x ≡ Ok tt → Taken x
 unfolding outcome_of
 was-ok (ok ps) h = record { places = ps; is = refl }
 was-ok (bad m p) h = absurd (let z : ◌≡◌ {A = ℕ} 0 1 = cc in omega arith)
 
-pub addition-small : (s p : Str) (o : Outcome) → o ≡ outcome_of (addition (rec s p [])) → OneOf (0 ∷ []) (tag_of outcome-type.the_type o) → length p ≤ 16384
-addition-small s p o e g = let t = was-ok (addition (rec s p [])) (sym e ∙ readable o g) in (addable (rec s p []) t.places t.is).pool-short
+pub addition-small : (s p : Str) (o : Result ⊤ (Refusal × ℕ)) → o ≡ outcome_of (addition (rec s p [])) → o ≡ Ok tt → length p ≤ 16384
+addition-small s p o e g = let t = was-ok (addition (rec s p [])) (sym e ∙ g) in (addable (rec s p []) t.places t.is).pool-short
 
-module _ (w : List Scalar) (b : Str) (copy : Rec) (v : Opening) (h : Opens w b copy v) (g : OneOf (0 ∷ []) (tag_of opening-type.the_type v)) (s p : Str) (o : Outcome) (e : o ≡ outcome_of (addition (rec s p []))) (k : ℕ) (r : DraftAnswer) where
+module _ (w : List Scalar) (b : Str) (copy : Rec) (v : Opened) (h : Opens w b copy v) (g : v ≡ Ok tt) (s p : Str) (o : Result ⊤ (Refusal × ℕ)) (e : o ≡ outcome_of (addition (rec s p []))) (k : ℕ) (r : DraftAnswer) where
   adding-is : edit w copy k b (adding (rec s p [])) ≡ added_or k b (schema_of copy) (held_rec w b) (rec s p []) (addition (rec s p []))
   unfolding edit edited editing
   adding-is = let x = open-is-both w b copy v h g in rw (x.now, x.was)
 
-  pub add-refused : (n : Refusal) (q : ℕ) → o ≡ Refused n q → Says r (refused 2 n q k) → edited_as r b ≡ edit w copy k b (adding (rec s p []))
+  pub add-refused : (n : Refusal) (q : ℕ) → o ≡ Err (n, q) → Says r (refused 2 n q k) → edited_as r b ≡ edit w copy k b (adding (rec s p []))
   unfolding added_or
   add-refused n q f a = a.is b ∙ sym (adding-is ∙ rw (was-bad (addition (rec s p [])) n q (sym e ∙ f)))
 
-  module _ (f : OneOf (0 ∷ []) (tag_of outcome-type.the_type o)) (n : Str) (i : n ≡ second_name s p) (t : Sought) (j : TypeAt (part b) (part (after_part b)) n t) where
+  module _ (f : o ≡ Ok tt) (n : Str) (i : n ≡ second_name s p) (t : Option (ℕ × ℕ)) (j : TypeAt (part b) (part (after_part b)) n t) where
     taken : Taken (addition (rec s p []))
-    taken = was-ok (addition (rec s p [])) (sym e ∙ readable o f)
+    taken = was-ok (addition (rec s p [])) (sym e ∙ f)
 
     name-there : name_after (rec s p []) (tail taken.places) ≡ n
     name-there = name-is s p taken.places taken.is ∙ sym i
 
-    pub add-there : (c d : ℕ) → t ≡ At c d → Says r (declined 55 k) → edited_as r b ≡ edit w copy k b (adding (rec s p []))
+    pub add-there : (c d : ℕ) → t ≡ Some (c, d) → Says r (declined 55 k) → edited_as r b ≡ edit w copy k b (adding (rec s p []))
     unfolding added_or held_rec
     add-there c d q a =
         let z = (subst (TypeAt (part b) (part (after_part b)) n) q j).0 in
         a.is b ∙ sym (adding-is ∙ rw (taken.is, name-there, z))
 
-    pub add_done : (x : Str) → OneOf (0 ∷ []) (tag_of sought-type.the_type t)
+    pub add_done : (x : Str) → t ≡ None
         → edited_as r x ≡ settled k b (schema_of copy) (rec (sum_stream b s p) (sum_pool b s p) w) (reading Current (rec (sum_stream b s p) (sum_pool b s p) w))
         → edited_as r x ≡ edit w copy k b (adding (rec s p []))
     unfolding added_or held_rec added sum_stream sum_pool
     add_done x q a =
-        let z : any (named (part b) (part (after_part b)) n) (commands_at (part b) 0) ≡ false = subst (TypeAt (part b) (part (after_part b)) n) (nowhere t q) j in
+        let z : any (named (part b) (part (after_part b)) n) (commands_at (part b) 0) ≡ false = subst (TypeAt (part b) (part (after_part b)) n) q j in
         a ∙ sym (adding-is ∙ rw (taken.is, name-there, z))
 
 pub second_is : (s p x y : Str) (k : ℕ) (t : Text) → k ≡ after_at s 0 → x ≡ drop k s → t ≡ text_at x 1 → y ≡ text_of p t → y ≡ second_name s p

@@ -1,5 +1,5 @@
 -- The answers of the code as the definition's, and what is known once draft and copy are read. Assumes nothing.
-use Rattle.std.specs.Prelude.{ℕ, ◌≤◌, ◌≡◌, List, length}
+use Rattle.std.specs.Prelude.{ℕ, ◌≤◌, ◌≡◌, ⊤, Result, Ok, Err, List, length}
 use Rattle.record.specs.Base.{Str}
 use Rattle.record.specs.Scalars.{Scalar}
 use Rattle.record.specs.Reading.{Rec, schema_of, read, reading}
@@ -10,8 +10,6 @@ use Rattle.drafts.specs.Edits.{Edited, refused, Edit, edit, count}
 use Rattle.drafts.specs.Shelf.{brought_from}
 use Rattle.drafts.specs.Counted.{Legible}
 use Rattle.drafts.specs.declared.saying.DraftAnswer.{DraftAnswer}
-use Rattle.drafts.specs.declared.opening.Opening.{Opening}
-use Rattle.drafts.specs.declared.opening.Opening.TheVariants.{Ready, Barred}
 
 -- an answer with the draft's buffer afterwards
 abbrev pub edited_as : DraftAnswer → Str → Edited
@@ -41,6 +39,9 @@ pub record Shut (w : List Scalar) (b : Str) (copy : Rec) (side : ℕ) (n : Refus
   pub counts : count w copy b ≡ refused side n p 0 b
   pub backs : (d : Str) → brought_from w copy d b ≡ refused side n p 0 d
 
-abbrev pub Opens : List Scalar → Str → Rec → Opening → Type 0
-Opens w b copy Ready = Both w b copy
-Opens w b copy (Barred side n p) = Shut w b copy side n p
+abbrev pub Opened : Type 0
+Opened = Result ⊤ (ℕ × Refusal × ℕ)
+
+abbrev pub Opens : List Scalar → Str → Rec → Opened → Type 0
+Opens w b copy (Ok _) = Both w b copy
+Opens w b copy (Err (side, n, p)) = Shut w b copy side n p

@@ -1,7 +1,6 @@
 -- A series of calls: settings, comings back and W-210's edits (02, W-211: "if only these calls write the buffer and each gets the names and
 -- places the last gave"). Assumes nothing.
-use Rattle.std.specs.Prelude.{List, [], ◌∷◌, cond, eqb}
-use Rattle.std.proofs.Math.Option.{Option, some}
+use Rattle.std.specs.Prelude.{List, [], ◌∷◌, cond, eqb, Option, Some}
 use Rattle.record.specs.Base.{Str, eqs}
 use Rattle.record.specs.Scalars.{Scalar}
 use Rattle.record.specs.Reading.{Rec}
@@ -41,7 +40,7 @@ calls w k (c ∷ cs) = calls w (called w k c) cs
 -- the records under names: a setting that is not refused puts the draft's record under its name, and no other call changes them
 unfoldable pub noted : List Scalar → Editor → (Str → Option Rec) → Call → Str → Option Rec
 noted w k m (setting n) x =
-    cond (eqb (set_of w k n).edited.number 0) (cond (eqs x n) (some (held_rec w k.kept.buffer)) (m x)) (m x)
+    cond (eqb (set_of w k n).edited.number 0) (cond (eqs x n) (Some (held_rec w k.kept.buffer)) (m x)) (m x)
 noted w k m (backing copy n) x = m x
 noted w k m (editing copy e) x = m x
 

@@ -1,29 +1,27 @@
 -- What the functions of the code have in their contracts. Assumes nothing.
-use Rattle.std.specs.Prelude.{ℕ, zero, suc, ◌+◌, ◌-◌, ◌<◌, ◌≤◌, ◌≡◌, List, [], ◌∷◌, ◌++◌, Bool, not, cond, length, get_or, eqb, ltb, leb}
-use Rattle.std.proofs.Math.Option.{Option, none, some}
+use Rattle.std.specs.Prelude.{ℕ, zero, suc, ◌+◌, ◌-◌, ◌<◌, ◌≤◌, ◌≡◌, List, [], ◌∷◌, ◌++◌, Bool, not, cond, length, get_or, eqb, ltb, leb, Option, Some, None, Result, Ok, ⊤}
 use Rattle.record.specs.Base.{Str, with_some}
 use Rattle.record.specs.Scalars.{Scalar}
 use Rattle.record.specs.Operands.{opt_text_at}
 use Rattle.record.specs.Commands.{commands_at}
 use Rattle.record.specs.Read.{reading_of, Exact}
 use Rattle.record.specs.declared.text.Text.{Text}
-use Rattle.record.specs.declared.read.Outcome.{Outcome}
-use Rattle.record.specs.declared.read.Outcome.TheVariants.{Readable}
-use Rattle.record.specs.CommandTexts.{no_text, given}
+use Rattle.record.specs.CommandTexts.{no_text}
 use Rattle.drafts.specs.Parts.{held_rec, read_held}
 use Rattle.drafts.specs.Packing.{le2, covered}
+use Rattle.record.specs.declared.refusal.Refusal.{Refusal}
 
 -- the reading of the record in a buffer
-pub record HeldRead (w : List Scalar) (b : Str) (r : Outcome) : Type 0 where
+pub record HeldRead (w : List Scalar) (b : Str) (r : Result ⊤ (Refusal × ℕ)) : Type 0 where
   pub answer : reading_of (held_rec w b) r ≡ read_held w b
-  pub exact : r ≡ Readable → Exact (held_rec w b)
-  pub short : r ≡ Readable → length (held_rec w b).stream ≤ 32768
-  pub small : r ≡ Readable → length (held_rec w b).pool ≤ 16384
+  pub exact : r ≡ Ok tt → Exact (held_rec w b)
+  pub short : r ≡ Ok tt → length (held_rec w b).stream ≤ 32768
+  pub small : r ≡ Ok tt → length (held_rec w b).pool ≤ 16384
 
 -- no letters where there is no command
 unfoldable pub or_none : Option Str → Str
-or_none none = []
-or_none (some os) = os
+or_none None = []
+or_none (Some os) = os
 
 -- the commands before a place
 unfoldable pub up_to : ℕ → List ℕ → List ℕ
@@ -48,7 +46,7 @@ text_bytes start len = le2 start ++ len ∷ []
 
 -- the texts of one operand
 unfoldable pub operand_texts : Str → ℕ → ℕ → List Text
-operand_texts x i o = cond (no_text o) [] (with_some (given (opt_text_at x i)) [])
+operand_texts x i o = cond (no_text o) [] (with_some (opt_text_at x i) [])
 
 -- every byte of these texts is marked, all others are as they were
 pub record Marks (ts : List Text) (before after : List ℕ) : Type 0 where

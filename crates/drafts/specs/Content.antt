@@ -1,7 +1,6 @@
 -- What a command says (02, W-210: "All other commands keep order and content"): its number and its operands, each text by its bytes
 -- in the pool, any other operand by its own bytes. Assumes nothing.
-use Rattle.std.specs.Prelude.{ℕ, zero, suc, ◌+◌, List, [], ◌∷◌, map, cond, get_or, drop, eqb}
-use Rattle.std.proofs.Math.Option.{Option, none, some}
+use Rattle.std.specs.Prelude.{ℕ, zero, suc, ◌+◌, List, [], ◌∷◌, map, cond, get_or, drop, eqb, Option, Some, None}
 use Rattle.record.specs.Base.{Str}
 use Rattle.record.specs.Stretch.{text_of}
 use Rattle.record.specs.Operands.{text_at, opt_text_at}
@@ -35,8 +34,8 @@ operands_at p x i [] = []
 operands_at p x i (o ∷ os) = operand_at p x i o ∷ operands_at p x (i + wide o) os
 
 unfoldable pub operands_with : Str → Str → Option Str → List Operand
-operands_with p x none = []
-operands_with p x (some os) = operands_at p x 1 os
+operands_with p x None = []
+operands_with p x (Some os) = operands_at p x 1 os
 
 -- the command of a number, from the bytes that begin with it
 unfoldable pub content_as : Str → Str → ℕ → Content

@@ -1,5 +1,5 @@
 -- An addition judged by the reading of a record and the first command out of an addition's shape, as the code has it. Assumes nothing.
-use Rattle.std.specs.Prelude.{ℕ, ◌+◌, ◌-◌, ◌≡◌, Bool, true, false, ◌&&◌, cond, length, eqb}
+use Rattle.std.specs.Prelude.{ℕ, ◌+◌, ◌-◌, ◌≡◌, Bool, true, false, ◌&&◌, cond, length, eqb, Result, Ok, Err, ⊤}
 use Rattle.record.specs.Base.{Str}
 use Rattle.record.specs.Commands.{start}
 use Rattle.record.specs.Reading.{Parsed}
@@ -9,8 +9,6 @@ use Rattle.record.specs.declared.command.Cursor.{Cursor}
 use Rattle.record.specs.declared.refusal.Side.TheVariants.{Current}
 use Rattle.record.specs.declared.refusal.Refusal.{Refusal}
 use Rattle.record.specs.declared.refusal.Refusal.TheVariants as R
-use Rattle.record.specs.declared.read.Outcome.{Outcome}
-use Rattle.record.specs.declared.read.Outcome.TheVariants as O
 use Rattle.drafts.specs.Addition.{parse_addition}
 
 -- 2 and 1 go before 3
@@ -37,27 +35,27 @@ is_vast R.Long = false
 is_vast R.Vast = true
 
 -- what a reading says of the commands alone: 9 comes after all of them
-abbrev pub commands_read : Outcome → Outcome
-commands_read O.Readable = O.Readable
-commands_read (O.Refused n p) = cond (is_vast n) O.Readable (O.Refused n p)
+abbrev pub commands_read : Result ⊤ (Refusal × ℕ) → Result ⊤ (Refusal × ℕ)
+commands_read (Ok tt) = Ok tt
+commands_read (Err (n, p)) = cond (is_vast n) (Ok tt) (Err (n, p))
 
-abbrev pub refused_at : Outcome → ℕ → Bool
-refused_at O.Readable at = false
-refused_at (O.Refused n p) at = eqb p at
+abbrev pub refused_at : Result ⊤ (Refusal × ℕ) → ℕ → Bool
+refused_at (Ok tt) at = false
+refused_at (Err (n, p)) at = eqb p at
 
 -- the place after the command at a place; 0 where the reading or the commands end
-unfoldable pub onward : Str → Outcome → ℕ → ℕ
+unfoldable pub onward : Str → Result ⊤ (Refusal × ℕ) → ℕ → ℕ
 onward s o at = cond (refused_at o at) 0 (after_at s at)
 
 -- a command out of shape is 3, unless the reading refuses it by 2 or 1
-abbrev pub misfit : Outcome → ℕ → Outcome
-misfit O.Readable at = O.Refused R.Misplaced at
-misfit (O.Refused n p) at = cond (is_first n && eqb p at) (O.Refused n p) (O.Refused R.Misplaced at)
+abbrev pub misfit : Result ⊤ (Refusal × ℕ) → ℕ → Result ⊤ (Refusal × ℕ)
+misfit (Ok tt) at = Err (R.Misplaced, at)
+misfit (Err (n, p)) at = cond (is_first n && eqb p at) (Err (n, p)) (Err (R.Misplaced, at))
 
 -- an addition's commands judged from a cursor on
 unfoldable pub addition_from : Str → Str → Cursor → Parsed
 addition_from s p c = parse_addition (length s + 1 - c.at) s p c
 
 -- what the commands of a current record come to, as those of an addition
-pub record Shaped (s : Str) (plain r : Outcome) : Type 0 where
+pub record Shaped (s : Str) (plain r : Result ⊤ (Refusal × ℕ)) : Type 0 where
   pub so : (p : Str) → plain ≡ outcome_of (parsed_from Current s p start) → r ≡ outcome_of (addition_from s p start)

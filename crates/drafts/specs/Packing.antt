@@ -1,14 +1,11 @@
 -- Commands put together anew with the pool bytes that their texts cover (02, W-210: "only the starts of their texts may differ",
 -- "pool bytes that no remaining command's text covers count as free"). Assumes nothing.
-use Rattle.std.specs.Prelude.{ℕ, ◌+◌, ◌/◌, ◌%◌, List, [], ◌∷◌, ◌++◌, map, Bool, ◌&&◌, cond, length, get_or, take, drop, ltb, leb}
-use Rattle.std.proofs.Math.Option.{Option, none, some}
+use Rattle.std.specs.Prelude.{ℕ, ◌+◌, ◌/◌, ◌%◌, List, [], ◌∷◌, ◌++◌, map, Bool, ◌&&◌, cond, length, get_or, take, drop, ltb, leb, Option, Some, None}
 use Rattle.record.specs.Base.{Str, any}
 use Rattle.record.specs.Fill.{joined}
 use Rattle.record.specs.Operands.{opt_text_at}
 use Rattle.record.specs.Commands.{operands, wide}
 use Rattle.record.specs.declared.text.Text.{Text}
-use Rattle.record.specs.declared.operands.OptText.{OptText}
-use Rattle.record.specs.declared.operands.OptText.TheVariants.{Absent, Given}
 use Rattle.record.specs.CommandTexts.{no_text, texts_at}
 use Rattle.drafts.specs.Content.{bytes_at}
 
@@ -38,9 +35,9 @@ kept_before c p a = length (kept c 0 (take a p))
 -- the commands ------------------------------------------------------------------------------------------------------------
 
 -- 01: an absent text has the start FFFF hex
-abbrev pub moved_start : (ℕ → ℕ) → OptText → ℕ
-moved_start f Absent = 65535
-moved_start f (Given t) = f t.start
+abbrev pub moved_start : (ℕ → ℕ) → Option Text → ℕ
+moved_start f None = 65535
+moved_start f (Some t) = f t.start
 
 -- two bytes, little-endian
 unfoldable pub le2 : ℕ → Str
@@ -55,8 +52,8 @@ row_bytes f x i [] = []
 row_bytes f x i (o ∷ os) = operand_bytes f x i o ++ row_bytes f x (i + wide o) os
 
 unfoldable pub row_with : (ℕ → ℕ) → Str → Option Str → Str
-row_with f x none = []
-row_with f x (some os) = row_bytes f x 1 os
+row_with f x None = []
+row_with f x (Some os) = row_bytes f x 1 os
 
 unfoldable pub written_at : (ℕ → ℕ) → Str → ℕ → Str
 written_at f s at = get_or s at 0 ∷ row_with f (drop at s) (operands (get_or s at 0))

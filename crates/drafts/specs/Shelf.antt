@@ -1,6 +1,5 @@
 -- Drafts with names in a lent buffer (02, W-211): eight rows of a name and a place, by value. Assumes nothing.
-use Rattle.std.specs.Prelude.{ℕ, zero, suc, ◌+◌, List, [], ◌∷◌, ◌++◌, map, Bool, false, ◌&&◌, ◌||◌, not, cond, length, take, drop, eqb, ltb, leb}
-use Rattle.std.proofs.Math.Option.{Option, none, some}
+use Rattle.std.specs.Prelude.{ℕ, zero, suc, ◌+◌, List, [], ◌∷◌, ◌++◌, map, Bool, false, ◌&&◌, ◌||◌, not, cond, length, take, drop, eqb, ltb, leb, Option, Some, None}
 use Rattle.record.specs.Base.{Str, any, find, filter_b, is_text}
 use Rattle.record.specs.Fill.{fronted}
 use Rattle.record.specs.Scalars.{Scalar}
@@ -28,7 +27,7 @@ is_free r = not (is_held r)
 
 -- a row of more letters than sixteen is held and has no name
 unfoldable pub name_of : Row → Option Str
-name_of r = cond (is_held r && leb r.letters 16) (some (take r.letters r.word)) none
+name_of r = cond (is_held r && leb r.letters 16) (Some (take r.letters r.word)) None
 
 unfoldable pub is_named : Str → Row → Bool
 is_named n r = is_text (name_of r) n
@@ -156,8 +155,8 @@ abbrev pub brought_from : List Scalar → Rec → Str → Str → Edited
 brought_from w copy draft place = brought_back (held_rec w place) draft (read_held w place) (reading Released copy)
 
 unfoldable pub back_from : List Scalar → Rec → Str → Str → Option Row → Edited
-back_from w copy draft held none = declined 58 0 draft
-back_from w copy draft held (some r) = brought_from w copy draft (bytes_of held r)
+back_from w copy draft held None = declined 58 0 draft
+back_from w copy draft held (Some r) = brought_from w copy draft (bytes_of held r)
 
 -- 02: "58 no such name to come back to, or a held place outside the buffer or over another"; the rows are as they were
 unfoldable pub back_draft : List Scalar → Rec → List Row → Str → Str → Str → Shelved

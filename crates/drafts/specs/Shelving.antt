@@ -1,5 +1,5 @@
 -- A shelf of the code as the definition's rows, and its places as two lists of numbers. Assumes nothing.
-use Rattle.std.specs.Prelude.{ℕ, zero, suc, ◌+◌, ◌-◌, ◌*◌, ◌≤◌, List, [], ◌∷◌, map, Bool, false, ◌&&◌, ◌||◌, cond, get_or, take, drop, replicate, ltb, leb}
+use Rattle.std.specs.Prelude.{◌≡◌, ℕ, zero, suc, ◌+◌, ◌-◌, ◌*◌, ◌<◌, ◌≤◌, Option, MatchOption, List, [], ◌∷◌, map, Bool, false, ◌&&◌, ◌||◌, cond, get_or, take, drop, replicate, ltb, leb}
 use Rattle.record.specs.Base.{Str, any}
 use Rattle.drafts.specs.Shelf.{Row, is_held, is_free, is_named, good_name, Shelved, shelved}
 use Rattle.drafts.specs.declared.shelved.Shelf.{Shelf}
@@ -49,6 +49,10 @@ first_of q (x ∷ xs) = cond (q x) 0 (suc (first_of q xs))
 -- the row that a name is set in; 8 where it has none
 unfoldable pub row_for : Str → List Row → ℕ
 row_for n rows = cond (good_name n) (cond (any (is_named n) rows) (first_of (is_named n) rows) (first_of is_free rows)) 8
+
+-- a row that is found, where 8 says that none is
+abbrev pub RowAt : ℕ → Option ℕ → Type 0
+RowAt n r = MatchOption r (n ≡ 8) (λ i. (i < 8) × (i ≡ n))
 
 -- places --------------------------------------------------------------------------------------------------------------------
 

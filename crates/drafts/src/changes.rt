@@ -15,7 +15,7 @@ ghost use Rattle.drafts.specs.Count.{count_changed};
 ghost use Rattle.drafts.specs.Counted.{layouts_of, Legible, Lent, Rooms, IsThere, Gone};
 
 use compare::layouts::same_fields;
-use layout::table::{TypeFound, find_same};
+use layout::table::find_same;
 use layout::tables::fill_tables;
 use record::index::fill_index;
 
@@ -38,7 +38,7 @@ fn is_same(
         let rel : Rec = rec past.now old.now (scalars_of rows.now) in
         result ≡ same_as (type_in (type_name cur.stream cur.pool handle) (layouts_of rel)) (layout_of cur handle) }
 {
-    let TypeFound::At(i) = find_same(past, old, shipped, stream, pool, handle, 0) else {
+    let Some(i) = find_same(past, old, shipped, stream, pool, handle, 0) else {
         return false;
     };
     same_fields(
@@ -66,15 +66,11 @@ fn count_changed_types(
         (result ≡ length (changed (layouts_of cur) (layouts_of rel))) × (result ≤ length types.now) }
 {
     let mut n = 0;
-    let mut i = 0;
-    while i < types.len() {
-        if is_same(
-            rows, stream, pool, sizes, types[i], past, old, shipped, widths,
+    for handle in types {
+        if !is_same(
+            rows, stream, pool, sizes, *handle, past, old, shipped, widths,
         ) {
-            i += 1;
-        } else {
             n += 1;
-            i += 1;
         }
     }
     n
@@ -85,10 +81,10 @@ fn is_there(stream: &[u8], pool: &[u8], types: &[u32], past: &[u8], old: &[u8], 
     ensures { let name : Str = type_name past.now old.now handle in
         IsThere stream.now pool.now types.now name result }
 {
-    if let TypeFound::At(_) = find_same(stream, pool, types, past, old, handle, 0) {
-        return true;
-    }
-    false
+    matches!(
+        find_same(stream, pool, types, past, old, handle, 0),
+        Some(_)
+    )
 }
 
 // How many types of a record another has not.
@@ -104,13 +100,9 @@ fn count_gone(
         stream.now pool.now types.now result }
 {
     let mut n = 0;
-    let mut i = 0;
-    while i < shipped.len() {
-        if is_there(stream, pool, types, past, old, shipped[i]) {
-            i += 1;
-        } else {
+    for handle in shipped {
+        if !is_there(stream, pool, types, past, old, *handle) {
             n += 1;
-            i += 1;
         }
     }
     n

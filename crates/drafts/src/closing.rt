@@ -3,7 +3,7 @@ ghost use Rattle.std.specs.Prelude.{◌≡◌, map, ◌<◌, length, set};
 ghost use Rattle.record.specs.Base.{Str};
 ghost use Rattle.record.specs.Fill.{fronted};
 ghost use Rattle.drafts.specs.Packing.{kept};
-ghost use Rattle.drafts.specs.Shelving.{rows_of, size_row, held_size, covering, bytes_before, all_before, Spaced, least, starts_after};
+ghost use Rattle.drafts.specs.Shelving.{rows_of, size_row, held_size, covering, bytes_before, all_before, Spaced, starts_after};
 
 use crate::places::in_place;
 use crate::shelved::Shelf;
@@ -23,10 +23,8 @@ fn held_sizes(shelf: Shelf) -> [usize; 8]
     ensures { result ≡ map held_size (rows_of shelf) }
 {
     let mut sizes = [0usize; 8];
-    let mut i = 0;
-    while i < 8 {
+    for i in 0..8 {
         sizes[i] = held_size(shelf.name_lens[i], shelf.lens[i]);
-        i += 1;
     }
     sizes
 }
@@ -45,15 +43,10 @@ pub(crate) fn sizes_but(shelf: Shelf, row: usize) -> [usize; 8]
 fn stays(starts: &[usize], sizes: &[usize], at: usize) -> bool
     ensures { result ≡ covering starts.now sizes.now at }
 {
-    let mut i = 0;
-    while i < starts.len() {
-        if sizes.len() <= i {
-            return false;
-        }
-        if in_place(at, starts[i], sizes[i]) {
+    for (start, size) in starts.iter().zip(sizes) {
+        if in_place(at, *start, *size) {
             return true;
         }
-        i += 1;
     }
     false
 }
@@ -62,13 +55,7 @@ fn stays(starts: &[usize], sizes: &[usize], at: usize) -> bool
 fn bytes_before(end: usize, start: usize, size: usize) -> usize
     ensures { result ≡ bytes_before end start size }
 {
-    if end < start {
-        return 0;
-    }
-    if end - start < size {
-        return end - start;
-    }
-    size
+    size.min(end.saturating_sub(start))
 }
 
 // How many bytes of the places stand before an end.
@@ -77,25 +64,10 @@ pub(crate) fn kept_before(starts: &[usize], sizes: &[usize], end: usize) -> usiz
     ensures { result ≡ all_before starts.now sizes.now end }
 {
     let mut sum = 0;
-    let mut i = 0;
-    while i < starts.len() {
-        if sizes.len() <= i {
-            return sum;
-        }
-        sum += bytes_before(end, starts[i], sizes[i]);
-        i += 1;
+    for (start, size) in starts.iter().zip(sizes) {
+        sum += bytes_before(end, *start, *size);
     }
     sum
-}
-
-// The smaller of two numbers.
-fn least(a: usize, b: usize) -> usize
-    ensures { result ≡ least a b }
-{
-    if a < b {
-        return a;
-    }
-    b
 }
 
 // Where each place begins once all of them are closed up in a buffer of this length.
@@ -104,10 +76,8 @@ pub(crate) fn moved_starts(starts: &[usize], sizes: &[usize], len: usize) -> [us
     ensures { result ≡ starts_after starts.now sizes.now len }
 {
     let mut moved = [0usize; 8];
-    let mut i = 0;
-    while i < 8 {
-        moved[i] = kept_before(starts, sizes, least(starts[i], len));
-        i += 1;
+    for i in 0..8 {
+        moved[i] = kept_before(starts, sizes, starts[i].min(len));
     }
     moved
 }
@@ -118,14 +88,10 @@ pub(crate) fn close_up(held: &mut [u8], starts: &[usize], sizes: &[usize])
         held.new ≡ fronted b (kept (covering starts.now sizes.now) 0 b) }
 {
     let mut end = 0;
-    let mut i = 0;
-    while i < held.len() {
+    for i in 0..held.len() {
         if stays(starts, sizes, i) {
             held[end] = held[i];
             end += 1;
-            i += 1;
-        } else {
-            i += 1;
         }
     }
 }

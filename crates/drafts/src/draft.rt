@@ -8,18 +8,16 @@ ghost use Rattle.drafts.specs.Answering.{edited_as};
 use crate::adding::{add_at, second_name};
 use crate::editing::remove_at;
 use crate::judging::read_addition;
-use crate::opening::{Opening, count_held, find_held, open};
+use crate::opening::{count_held, find_held, open};
 use crate::saying::{DraftAnswer, declined, done, refusal};
-use record::read::Outcome;
 use record::scalars::built_in;
-use record::seek::Sought;
 
 // The count found afresh, under a table of scalar words.
 fn count_by(rows: &[u8], draft: &[u8], past: &[u8], old: &[u8]) -> DraftAnswer
     ensures { let copy : Rec = rec past.now old.now (scalars_of rows.now) in
         edited_as result draft.now ≡ count (scalars_of rows.now) copy draft.now }
 {
-    if let Opening::Barred(side, number, place) = open(rows, draft, past, old) {
+    if let Err((side, number, place)) = open(rows, draft, past, old) {
         return refusal(side, number, place, 0);
     }
     done(count_held(rows, draft, past, old))
@@ -47,10 +45,10 @@ fn remove_by(
         edited_as result draft.new
         ≡ edit (scalars_of rows.now) copy changed draft.old (removing name.now) }
 {
-    if let Opening::Barred(side, number, place) = open(rows, draft, past, old) {
+    if let Err((side, number, place)) = open(rows, draft, past, old) {
         return refusal(side, number, place, changed);
     }
-    let Sought::At(place, after) = find_held(draft, name) else {
+    let Some((place, after)) = find_held(draft, name) else {
         return declined(56, changed);
     };
     remove_at(rows, changed, draft, place, after, past, old)
@@ -85,13 +83,13 @@ fn add_by(
         let more : Rec = rec more.entry.now texts.now [] in
         edited_as result draft.new ≡ edit (scalars_of rows.now) copy changed draft.old (adding more) }
 {
-    if let Opening::Barred(side, number, place) = open(rows, draft, past, old) {
+    if let Err((side, number, place)) = open(rows, draft, past, old) {
         return refusal(side, number, place, changed);
     }
-    if let Outcome::Refused(number, place) = read_addition(rows, more, texts) {
+    if let Err((number, place)) = read_addition(rows, more, texts) {
         return refusal(2, number, place, changed);
     }
-    if let Sought::At(_, _) = find_held(draft, second_name(more, texts)) {
+    if let Some((_, _)) = find_held(draft, second_name(more, texts)) {
         return declined(55, changed);
     }
     add_at(rows, changed, draft, more, texts, past, old)

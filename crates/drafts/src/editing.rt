@@ -17,7 +17,7 @@ use crate::pack::{Ends, pack};
 use crate::saying::{DraftAnswer, done, no_room, refusal};
 use crate::store::put_parts;
 use record::cut;
-use record::read::{Outcome, read_record};
+use record::read::read_record;
 use record::refusal::{Refusal, Side};
 use record::writer::put;
 
@@ -62,7 +62,7 @@ fn settle(
         let copy : Rec = rec past.now old.now (scalars_of rows.now) in
         edited_as result draft.new ≡ settled changed draft.old (schema_of copy) res (reading Current res) }
 {
-    if let Outcome::Refused(number, place) = read_record(Side::Current, rows, stream, pool) {
+    if let Err((number, place)) = read_record(Side::Current, rows, stream, pool) {
         return refusal(0, number, place, changed);
     }
     store(rows, changed, draft, stream, pool, past, old)
@@ -85,10 +85,7 @@ pub(crate) fn finish(
         edited_as result draft.new
         ≡ finished changed draft.old (schema_of copy) (scalars_of rows.now) out.now words.now ends }
 {
-    if 32768 < ends.stream {
-        return refusal(0, Refusal::Long, 0, changed);
-    }
-    if 16384 < ends.pool {
+    if 32768 < ends.stream || 16384 < ends.pool {
         return refusal(0, Refusal::Long, 0, changed);
     }
     settle(

@@ -8,40 +8,28 @@ ghost use Rattle.drafts.specs.Found.{TypeAt};
 use record::cut;
 use record::le::byte_at;
 use record::operands::text_at;
-use record::seek::{Sought, after_at};
+use record::seek::after_at;
 use record::text::{bytes_of, same};
 
 // Whether a command begins a type.
 pub(crate) fn is_type(byte: u8) -> bool
     ensures { result ≡ is_type byte }
 {
-    if byte == 8 {
-        return true;
-    }
-    byte == 9
+    matches!(byte, 8 | 9)
 }
 
 // Whether a command is a part of the type before it.
 pub(crate) fn is_part(byte: u8) -> bool
     ensures { result ≡ is_part byte }
 {
-    if byte == 10 {
-        return true;
-    }
-    if byte == 11 {
-        return true;
-    }
-    byte == 12
+    matches!(byte, 10 | 11 | 12)
 }
 
 // Whether the command at a place begins a type of this name.
 fn is_named(stream: &[u8], pool: &[u8], name: &[u8], at: usize) -> bool
     ensures { result ≡ named stream.now pool.now name.now at }
 {
-    if is_type(byte_at(stream, at)) {
-        return same(bytes_of(pool, text_at(cut::from(stream, at), 1)), name);
-    }
-    false
+    is_type(byte_at(stream, at)) && same(bytes_of(pool, text_at(cut::from(stream, at), 1)), name)
 }
 
 // The place after the parts of a type.
@@ -63,17 +51,17 @@ fn past_parts(stream: &[u8], from: usize) -> usize
 }
 
 // The first type of a name: its place, and the place after its parts.
-pub(crate) fn find_type(stream: &[u8], pool: &[u8], name: &[u8]) -> Sought
+pub(crate) fn find_type(stream: &[u8], pool: &[u8], name: &[u8]) -> Option<(usize, usize)>
     ensures { TypeAt stream.now pool.now name.now result }
 {
     let mut at = 0;
     loop {
         let after = after_at(stream, at);
         if after == 0 {
-            return Sought::Nowhere;
+            return None;
         }
         if is_named(stream, pool, name, at) {
-            return Sought::At(at, past_parts(stream, after));
+            return Some((at, past_parts(stream, after)));
         }
         at = after;
     }

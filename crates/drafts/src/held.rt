@@ -6,7 +6,7 @@ ghost use Rattle.drafts.specs.Code.{HeldRead};
 
 use record::cut;
 use record::le::u32_at;
-use record::read::{Outcome, read_record};
+use record::read::read_record;
 use record::refusal::{Refusal, Side};
 
 // The length that stands before a part; a cut one counts as 0.
@@ -34,15 +34,15 @@ pub fn after_part(b: &[u8]) -> &[u8]
 }
 
 // Reads the record in a buffer as current. A stated length above its limit is 8 even where the part ends early.
-pub fn read_held(rows: &[u8], b: &[u8]) -> Outcome
+pub fn read_held(rows: &[u8], b: &[u8]) -> Result<(), (Refusal, usize)>
     ensures { HeldRead (scalars_of rows.now) b.now result }
 {
     if 32768 < stated(b) {
-        return Outcome::Refused(Refusal::Long, 0);
+        return Err((Refusal::Long, 0));
     }
     let rest = after_part(b);
     if 16384 < stated(rest) {
-        return Outcome::Refused(Refusal::Long, 0);
+        return Err((Refusal::Long, 0));
     }
     read_record(Side::Current, rows, part(b), part(rest))
 }

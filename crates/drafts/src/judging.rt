@@ -7,8 +7,8 @@ ghost use Rattle.drafts.specs.Judging.{is_first, is_vast, commands_read, refused
 
 use crate::find::{is_part, is_type};
 use record::le::byte_at;
-use record::letters::{Letters, odd_letter};
-use record::read::{Outcome, read_record};
+use record::letters::odd_letter;
+use record::read::read_record;
 use record::refusal::{Refusal, Side};
 use record::seek::after_at;
 
@@ -22,74 +22,51 @@ fn may_add(last: u8, byte: u8) -> bool
     if last == 1 {
         return is_type(byte);
     }
-    if is_part(byte) {
-        return true;
-    }
-    byte == 15
+    is_part(byte) || byte == 15
 }
 
 // The refusals that go before 3.
 fn is_first(refusal: Refusal) -> bool
     ensures { result ≡ is_first refusal }
 {
-    match refusal {
-        Refusal::Cut => true,
-        Refusal::Unknown => true,
-        Refusal::Misplaced => false,
-        Refusal::Outside => false,
-        Refusal::Missing => false,
-        Refusal::Flag => false,
-        Refusal::Letter => false,
-        Refusal::Long => false,
-        Refusal::Vast => false,
-    }
+    matches!(refusal, Refusal::Cut | Refusal::Unknown)
 }
 
 // Whether a refusal is 9.
 fn is_vast(refusal: Refusal) -> bool
     ensures { result ≡ is_vast refusal }
 {
-    match refusal {
-        Refusal::Cut => false,
-        Refusal::Unknown => false,
-        Refusal::Misplaced => false,
-        Refusal::Outside => false,
-        Refusal::Missing => false,
-        Refusal::Flag => false,
-        Refusal::Letter => false,
-        Refusal::Long => false,
-        Refusal::Vast => true,
-    }
+    matches!(refusal, Refusal::Vast)
 }
 
 // What a reading says of the commands alone: 9 comes after all of them.
-fn commands_read(read: Outcome) -> Outcome
+fn commands_read(read: Result<(), (Refusal, usize)>) -> Result<(), (Refusal, usize)>
     ensures { result ≡ commands_read read }
 {
     match read {
-        Outcome::Readable => Outcome::Readable,
-        Outcome::Refused(refusal, place) => {
+        Ok(()) => Ok(()),
+        Err((refusal, place)) => {
             if is_vast(refusal) {
-                Outcome::Readable
+                Ok(())
             } else {
-                Outcome::Refused(refusal, place)
+                Err((refusal, place))
             }
         }
     }
 }
 
 // Whether a reading is refused at a place.
-fn refused_at(plain: Outcome, at: usize) -> bool
+fn refused_at(plain: Result<(), (Refusal, usize)>, at: usize) -> bool
     ensures { result ≡ refused_at plain at }
 {
     match plain {
-        Outcome::Readable => false,
-        Outcome::Refused(_, place) => place == at,
+        Ok(()) => false,
+        Err((_, place)) => place == at,
     }
 }
 
 // The place after the command at a place; 0 where the reading or the commands end.
-fn onward(stream: &[u8], plain: Outcome, at: usize) -> usize
+fn onward(stream: &[u8], plain: Result<(), (Refusal, usize)>, at: usize) -> usize
     ensures { result ≡ onward stream.now plain at }
 {
     if refused_at(plain, at) {
@@ -99,22 +76,20 @@ fn onward(stream: &[u8], plain: Outcome, at: usize) -> usize
 }
 
 // A command out of shape is 3, unless the reading refuses it by 2 or 1.
-fn misfit(plain: Outcome, at: usize) -> Outcome
+fn misfit(plain: Result<(), (Refusal, usize)>, at: usize) -> Result<(), (Refusal, usize)>
     ensures { result ≡ misfit plain at }
 {
-    let Outcome::Refused(refusal, place) = plain else {
-        return Outcome::Refused(Refusal::Misplaced, at);
+    let Err((refusal, place)) = plain else {
+        return Err((Refusal::Misplaced, at));
     };
-    if is_first(refusal) {
-        if place == at {
-            return Outcome::Refused(refusal, place);
-        }
+    if is_first(refusal) && place == at {
+        return Err((refusal, place));
     }
-    Outcome::Refused(Refusal::Misplaced, at)
+    Err((Refusal::Misplaced, at))
 }
 
 // Goes along the commands that a current record's reading has passed, to the first that is out of an addition's shape.
-fn read_shape(stream: &[u8], plain: Outcome) -> Outcome
+fn read_shape(stream: &[u8], plain: Result<(), (Refusal, usize)>) -> Result<(), (Refusal, usize)>
     ensures { Shaped stream.now plain result }
 {
     let mut at = 0;
@@ -136,17 +111,14 @@ fn read_shape(stream: &[u8], plain: Outcome) -> Outcome
 
 // Reads an addition: 8, 7, then its commands. Its sizes are not judged. Its commands are read as a record's and not judged here one by one: a
 // second caller of the judgement of a command would make the compiler put a call into the check's reading.
-pub(crate) fn read_addition(rows: &[u8], stream: &[u8], pool: &[u8]) -> Outcome
+pub(crate) fn read_addition(rows: &[u8], stream: &[u8], pool: &[u8]) -> Result<(), (Refusal, usize)>
     ensures { result ≡ outcome_of (addition (rec stream.now pool.now [])) }
 {
-    if 32768 < stream.len() {
-        return Outcome::Refused(Refusal::Long, 0);
+    if 32768 < stream.len() || 16384 < pool.len() {
+        return Err((Refusal::Long, 0));
     }
-    if 16384 < pool.len() {
-        return Outcome::Refused(Refusal::Long, 0);
-    }
-    if let Letters::Odd(i) = odd_letter(pool) {
-        return Outcome::Refused(Refusal::Letter, i);
+    if let Some(i) = odd_letter(pool) {
+        return Err((Refusal::Letter, i));
     }
     let read = read_record(Side::Current, rows, stream, pool);
     read_shape(stream, commands_read(read))

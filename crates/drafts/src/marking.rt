@@ -3,14 +3,14 @@ ghost use Rattle.std.specs.Prelude.{◌≡◌, [], ◌∷◌, not, cond, ◌+◌
 ghost use Rattle.record.specs.Base.{Str, with_some};
 ghost use Rattle.record.specs.Commands.{commands_at};
 ghost use Rattle.record.specs.Write.{Puts};
-ghost use Rattle.record.specs.CommandTexts.{no_text, given, texts_from, texts_at};
+ghost use Rattle.record.specs.CommandTexts.{no_text, texts_from, texts_at};
 ghost use Rattle.drafts.specs.Packing.{texts_of, kept};
 ghost use Rattle.drafts.specs.Code.{up_to, operand_texts, Marks, is_marked, Ranked};
 
-use crate::row::{row_of, wide};
+use crate::row::{letters_of, wide};
 use record::cut;
 use record::le::byte_at;
-use record::operands::{OptText, opt_text_at};
+use record::operands::opt_text_at;
 use record::seek::after_at;
 use record::text::Text;
 use record::writer::put;
@@ -19,24 +19,16 @@ use record::writer::put;
 fn mark_text(marks: &mut [u8], t: Text)
     ensures { Marks (t ∷ []) marks.old marks.new }
 {
-    let start = t.start as usize;
-    let len = t.len as usize;
-    let end = start + len;
-    let mut i = start;
-    while i < end {
-        if marks.len() <= i {
-            return;
-        }
-        marks[i] = 1;
-        i += 1;
-    }
+    let end = marks.len().min(usize::from(t.start) + usize::from(t.len));
+    let start = end.min(usize::from(t.start));
+    marks[start..end].fill(1);
 }
 
 // Marks the bytes of a text that may be absent.
-fn mark_given(marks: &mut [u8], t: OptText)
-    ensures { Marks (with_some (given t) []) marks.old marks.new }
+fn mark_given(marks: &mut [u8], t: Option<Text>)
+    ensures { Marks (with_some t []) marks.old marks.new }
 {
-    let OptText::Given(text) = t else {
+    let Some(text) = t else {
         return;
     };
     mark_text(marks, text);
@@ -46,13 +38,7 @@ fn mark_given(marks: &mut [u8], t: OptText)
 fn is_plain(letter: u8) -> bool
     ensures { result ≡ no_text letter }
 {
-    match letter {
-        b'F' => true,
-        b'N' => true,
-        b'W' => true,
-        b'V' => true,
-        _ => false,
-    }
+    matches!(letter, b'F' | b'N' | b'W' | b'V')
 }
 
 // Marks the text of one operand by its letter.
@@ -71,12 +57,9 @@ fn mark_row(marks: &mut [u8], x: &[u8], letters: &[u8])
     ensures { Marks (texts_from x.now 1 letters.now) marks.old marks.new }
 {
     let mut i = 1;
-    let mut k = 0;
-    while k < letters.len() {
-        let letter = letters[k];
-        mark_operand(marks, x, i, letter);
-        i += wide(letter);
-        k += 1;
+    for letter in letters {
+        mark_operand(marks, x, i, *letter);
+        i += wide(*letter);
     }
 }
 
@@ -84,12 +67,10 @@ fn mark_row(marks: &mut [u8], x: &[u8], letters: &[u8])
 fn mark_command(marks: &mut [u8], stream: &[u8], place: usize)
     ensures { Marks (texts_at stream.now place) marks.old marks.new }
 {
-    let row = row_of(byte_at(stream, place));
-    let letters = row.letters;
     mark_row(
         marks,
         cut::from(stream, place),
-        cut::upto(&letters, row.len),
+        letters_of(byte_at(stream, place)),
     );
 }
 
@@ -122,13 +103,11 @@ pub(crate) fn fill_ranks(marks: &[u8], ranks: &mut [u16])
     ensures { Ranked marks.now ranks.new }
 {
     let mut sum: u16 = 0;
-    let mut i = 0;
-    while i < marks.len() {
+    for (i, mark) in marks.iter().enumerate() {
         ranks[i] = sum;
-        sum += counted(marks[i]);
-        i += 1;
+        sum += counted(*mark);
     }
-    ranks[i] = sum;
+    ranks[marks.len()] = sum;
 }
 
 // Puts the bytes of a pool that are marked.
@@ -136,13 +115,9 @@ pub(crate) fn put_marked(out: &mut [u8], at: usize, marks: &[u8], pool: &[u8]) -
     ensures { Puts out.old at (kept (is_marked marks.now) 0 pool.now) out.new result }
 {
     let mut end = at;
-    let mut i = 0;
-    while i < pool.len() {
+    for (i, byte) in pool.iter().enumerate() {
         if byte_at(marks, i) != 0 {
-            end = put(out, end, &[pool[i]]);
-            i += 1;
-        } else {
-            i += 1;
+            end = put(out, end, &[*byte]);
         }
     }
     end

@@ -1,7 +1,7 @@
 // The rows of a shelf by their names (02, W-211).
 ghost use Rattle.std.specs.Prelude.{◌≡◌, ◌<◌};
 ghost use Rattle.drafts.specs.Shelf.{is_free, is_named};
-ghost use Rattle.drafts.specs.Shelving.{row_at, rows_of, name_row, first_of, row_for};
+ghost use Rattle.drafts.specs.Shelving.{row_at, rows_of, name_row, first_of, row_for, RowAt};
 
 use crate::shelved::Shelf;
 use record::cut;
@@ -11,10 +11,7 @@ use record::text::same;
 fn is_named(word: &[u8], letters: usize, name: &[u8]) -> bool
     ensures { result ≡ is_named name.now (name_row word.now letters) }
 {
-    if letters == 0 {
-        return false;
-    }
-    if 16 < letters {
+    if letters == 0 || 16 < letters {
         return false;
     }
     same(cut::upto(word, letters), name)
@@ -30,47 +27,39 @@ fn has_name(shelf: Shelf, row: usize, name: &[u8]) -> bool
     is_named(word, shelf.name_lens[row], name)
 }
 
-// The first row of a name, and 8 where there is none.
-pub(crate) fn row_of(shelf: Shelf, name: &[u8]) -> usize
-    ensures { result ≡ first_of (is_named name.now) (rows_of shelf) }
+// The first row of a name.
+pub(crate) fn row_of(shelf: Shelf, name: &[u8]) -> Option<usize>
+    ensures { RowAt (first_of (is_named name.now) (rows_of shelf)) result }
 {
-    let mut i = 0;
-    while i < 8 {
+    for i in 0..8 {
         if has_name(shelf, i, name) {
-            return i;
+            return Some(i);
         }
-        i += 1;
     }
-    8
+    None
 }
 
-// The first free row, and 8 where there is none.
-fn free_row(shelf: Shelf) -> usize
-    ensures { result ≡ first_of is_free (rows_of shelf) }
+// The first free row.
+fn free_row(shelf: Shelf) -> Option<usize>
+    ensures { RowAt (first_of is_free (rows_of shelf)) result }
 {
-    let mut i = 0;
-    while i < 8 {
+    for i in 0..8 {
         if shelf.name_lens[i] == 0 {
-            return i;
+            return Some(i);
         }
-        i += 1;
     }
-    8
+    None
 }
 
-// The row that a name is set in: its own, or else the first free one; 8 where there is none, or for a name of bad length.
-pub(crate) fn row_for(shelf: Shelf, name: &[u8]) -> usize
-    ensures { result ≡ row_for name.now (rows_of shelf) }
+// The row that a name is set in: its own, or else the first free one. A name of bad length has none.
+pub(crate) fn row_for(shelf: Shelf, name: &[u8]) -> Option<usize>
+    ensures { RowAt (row_for name.now (rows_of shelf)) result }
 {
-    if name.len() == 0 {
-        return 8;
+    if name.len() == 0 || 16 < name.len() {
+        return None;
     }
-    if 16 < name.len() {
-        return 8;
-    }
-    let own = row_of(shelf, name);
-    if own < 8 {
-        return own;
-    }
-    free_row(shelf)
+    let Some(own) = row_of(shelf, name) else {
+        return free_row(shelf);
+    };
+    Some(own)
 }

@@ -11,29 +11,24 @@ ghost use Rattle.drafts.specs.Answering.{Opens};
 use crate::changes::count_changed;
 use crate::find::find_type;
 use crate::held::{after_part, part, read_held};
-use record::read::{Outcome, read_record};
+use record::read::read_record;
 use record::refusal::{Refusal, Side};
-use record::seek::Sought;
 
-// Both can be read; or the side of the first that cannot, with its refusal and its place.
-#[derive(Clone, Copy)]
-pub enum Opening {
-    Ready,
-    Barred(u32, Refusal, usize),
-}
+// The side of the one that cannot be read, with its refusal and its place.
+pub type Barred = (u32, Refusal, usize);
 
 // Reads the draft, then the copy.
-pub(crate) fn open(rows: &[u8], draft: &[u8], past: &[u8], old: &[u8]) -> Opening
+pub(crate) fn open(rows: &[u8], draft: &[u8], past: &[u8], old: &[u8]) -> Result<(), Barred>
     ensures { let copy : Rec = rec past.now old.now (scalars_of rows.now) in
         Opens (scalars_of rows.now) draft.now copy result }
 {
-    if let Outcome::Refused(refusal, place) = read_held(rows, draft) {
-        return Opening::Barred(0, refusal, place);
+    if let Err((refusal, place)) = read_held(rows, draft) {
+        return Err((0, refusal, place));
     }
-    if let Outcome::Refused(refusal, place) = read_record(Side::Released, rows, past, old) {
-        return Opening::Barred(1, refusal, place);
+    if let Err((refusal, place)) = read_record(Side::Released, rows, past, old) {
+        return Err((1, refusal, place));
     }
-    Opening::Ready
+    Ok(())
 }
 
 // The number of layouts in which draft and copy differ.
@@ -47,7 +42,7 @@ pub(crate) fn count_held(rows: &[u8], draft: &[u8], past: &[u8], old: &[u8]) -> 
 }
 
 // The first type of a name in a draft.
-pub(crate) fn find_held(draft: &[u8], name: &[u8]) -> Sought
+pub(crate) fn find_held(draft: &[u8], name: &[u8]) -> Option<(usize, usize)>
     ensures { TypeAt (part draft.now) (part (after_part draft.now)) name.now result }
 {
     find_type(part(draft), part(after_part(draft)), name)

@@ -7,7 +7,7 @@ use record::refusal::Refusal;
 
 // Number, side, place and length, and the count kept beside the draft.
 #[repr(C)]
-#[derive(Clone, Copy)]
+#[derive(Clone, Copy, PartialEq, Eq)]
 pub struct DraftAnswer {
     pub answer: Answer,
     pub changed: usize,

@@ -9,27 +9,22 @@ use crate::editing::store;
 use crate::held::{after_part, part, read_held};
 use crate::holding::hold;
 use crate::names::{row_for, row_of};
-use crate::opening::{Opening, open};
+use crate::opening::open;
 use crate::places::is_forged;
 use crate::saying::{declined, refusal};
 use crate::shelved::{Shelf, ShelfAnswer, with_shelf};
 use record::cut;
-use record::read::Outcome;
 use record::scalars::built_in;
 
 // A shelf on which no name is held.
 pub fn shelf_new() -> Shelf
     ensures { result ≡ new_shelf }
 {
-    let names = [0u8; 128];
-    let name_lens = [0usize; 8];
-    let starts = [0usize; 8];
-    let lens = [0usize; 8];
     Shelf {
-        names,
-        name_lens,
-        starts,
-        lens,
+        names: [0; 128],
+        name_lens: [0; 8],
+        starts: [0; 8],
+        lens: [0; 8],
     }
 }
 
@@ -38,14 +33,13 @@ fn set_by(rows: &[u8], shelf: Shelf, name: &[u8], draft: &[u8], held: &mut [u8])
     ensures { shelved_as result held.new
         ≡ set_draft (scalars_of rows.now) (rows_of shelf) name.now draft.now held.old }
 {
-    let row = row_for(shelf, name);
-    if 8 <= row {
+    let Some(row) = row_for(shelf, name) else {
         return with_shelf(declined(57, 0), shelf);
-    }
+    };
     if is_forged(shelf, held.len()) {
         return with_shelf(declined(58, 0), shelf);
     }
-    if let Outcome::Refused(number, place) = read_held(rows, draft) {
+    if let Err((number, place)) = read_held(rows, draft) {
         return with_shelf(refusal(0, number, place, 0), shelf);
     }
     hold(shelf, row, name, part(draft), part(after_part(draft)), held)
@@ -73,7 +67,7 @@ fn bring_back(
         shelved_as result draft.new
         ≡ shelved (brought_from (scalars_of rows.now) copy draft.old place.now) (rows_of shelf) }
 {
-    if let Opening::Barred(side, number, at) = open(rows, place, past, old) {
+    if let Err((side, number, at)) = open(rows, place, past, old) {
         return with_shelf(refusal(side, number, at, 0), shelf);
     }
     let stored = store(
@@ -105,10 +99,9 @@ fn back_by(
     if is_forged(shelf, held.len()) {
         return with_shelf(declined(58, 0), shelf);
     }
-    let row = row_of(shelf, name);
-    if 8 <= row {
+    let Some(row) = row_of(shelf, name) else {
         return with_shelf(declined(58, 0), shelf);
-    }
+    };
     let place = cut::upto(cut::from(held, shelf.starts[row]), shelf.lens[row]);
     bring_back(rows, shelf, draft, place, past, old)
 }

@@ -11,7 +11,7 @@ use record::writer::put;
 // The names and places of up to eight drafts: of each row sixteen bytes, how many of them are its name, and the start and the length of its place in
 // the held buffer. A row whose name has no byte is free.
 #[repr(C)]
-#[derive(Clone, Copy)]
+#[derive(Clone, Copy, PartialEq, Eq)]
 pub struct Shelf {
     pub names: [u8; 128],
     pub name_lens: [usize; 8],
@@ -21,7 +21,7 @@ pub struct Shelf {
 
 // Number, side, place and length, the count found afresh, and the shelf afterwards.
 #[repr(C)]
-#[derive(Clone, Copy)]
+#[derive(Clone, Copy, PartialEq, Eq)]
 pub struct ShelfAnswer {
     pub answer: Answer,
     pub changed: usize,
@@ -52,21 +52,13 @@ fn put_name(names: [u8; 128], row: usize, name: &[u8]) -> [u8; 128]
     out
 }
 
-// Puts a number into its row.
-fn put_number(out: &mut [usize], row: usize, n: usize)
-    requires { row < length out.old }
-    ensures { out.new ≡ set out.old row n }
-{
-    out[row] = n;
-}
-
 // Eight numbers with that of a row set.
 fn with_number(numbers: [usize; 8], row: usize, n: usize) -> [usize; 8]
     requires { row < 8 }
     ensures { (result ≡ set numbers row n) × (length numbers ≡ 8) }
 {
     let mut out = numbers;
-    put_number(&mut out, row, n);
+    out[row] = n;
     out
 }
 

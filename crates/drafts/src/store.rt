@@ -11,16 +11,7 @@ fn put_length(out: &mut [u8], at: usize, n: usize) -> usize
     requires { n ≤ 32768 }
     ensures { Puts out.old at (le4 n) out.new result }
 {
-    put(
-        out,
-        at,
-        &[
-            (n % 256) as u8,
-            (n / 256 % 256) as u8,
-            (n / 65536 % 256) as u8,
-            (n / 16777216) as u8,
-        ],
-    )
+    put(out, at, &(n as u32).to_le_bytes())
 }
 
 // Puts a record at the front of a buffer; answers the length that it takes.

@@ -8,43 +8,36 @@ ghost use Rattle.drafts.specs.Content.{bytes_at};
 ghost use Rattle.drafts.specs.Packing.{moved_start, operand_bytes, row_bytes, written_at, written};
 ghost use Rattle.drafts.specs.Code.{rank_at, start_of, text_bytes, up_to};
 
-use crate::row::{row_of, wide};
+use crate::row::{letters_of, wide};
 use record::cut;
 use record::le::byte_at;
-use record::operands::{OptText, opt_text_at, text_at};
+use record::operands::{opt_text_at, text_at};
 use record::seek::after_at;
+use record::text::Text;
 use record::writer::put;
 
 // A number of the table of ranks; past its end the last.
 fn rank_at(ranks: &[u16], a: usize) -> u16
     ensures { result ≡ rank_at ranks.now a }
 {
-    let n = ranks.len();
-    if a < n {
-        return ranks[a];
-    }
-    if n == 0 {
+    if ranks.len() == 0 {
         return 0;
     }
-    ranks[n - 1]
+    ranks[a.min(ranks.len() - 1)]
 }
 
 // Where a start moves to.
 fn start_of(base: u16, ranks: &[u16], a: u16) -> u16
     ensures { result ≡ start_of base ranks.now a }
 {
-    let rank = rank_at(ranks, a as usize);
-    if 65535 - base < rank {
-        return 65535;
-    }
-    base + rank
+    base.saturating_add(rank_at(ranks, usize::from(a)))
 }
 
 // The start of a text that may be absent, moved.
-fn moved_start(base: u16, ranks: &[u16], t: OptText) -> u16
+fn moved_start(base: u16, ranks: &[u16], t: Option<Text>) -> u16
     ensures { result ≡ moved_start (start_of base ranks.now) t }
 {
-    let OptText::Given(text) = t else {
+    let Some(text) = t else {
         return 65535;
     };
     start_of(base, ranks, text.start)
@@ -62,10 +55,8 @@ fn put_plain(out: &mut [u8], at: usize, x: &[u8], n: usize) -> usize
     ensures { Puts out.old at (bytes_at x.now 0 n) out.new result }
 {
     let mut end = at;
-    let mut i = 0;
-    while i < n {
+    for i in 0..n {
         end = put(out, end, &[byte_at(x, i)]);
-        i += 1;
     }
     end
 }
@@ -105,12 +96,9 @@ fn put_row(out: &mut [u8], at: usize, base: u16, ranks: &[u16], x: &[u8], letter
 {
     let mut end = at;
     let mut i = 1;
-    let mut k = 0;
-    while k < letters.len() {
-        let letter = letters[k];
-        end = put_operand(out, end, base, ranks, x, i, letter);
-        i += wide(letter);
-        k += 1;
+    for letter in letters {
+        end = put_operand(out, end, base, ranks, x, i, *letter);
+        i += wide(*letter);
     }
     end
 }
@@ -129,15 +117,13 @@ fn put_command(
 {
     let byte = byte_at(stream, place);
     let next = put(out, at, &[byte]);
-    let row = row_of(byte);
-    let letters = row.letters;
     put_row(
         out,
         next,
         base,
         ranks,
         cut::from(stream, place),
-        cut::upto(&letters, row.len),
+        letters_of(byte),
     )
 }
 

@@ -1,7 +1,7 @@
 -- 01's example of a list. Assumes nothing.
+use Rattle.std.specs.Prelude.{Option, Some, None}
 use mathlib.Core.Path.{◌≡◌, refl}
 use mathlib.Core.List.{[], ◌∷◌}
-use mathlib.Core.Option.{Option, none, some}
 use mathlib.Core.Bool.{false}
 use Prim.Native.Nat.{ℕ}
 use Prim.Native.String.{String}
@@ -20,19 +20,19 @@ field n k t z = record {
   name = bytes n;
   kind = bytes k;
   typ = t;
-  element = none;
-  count = none;
-  rows = none;
-  cols = none;
+  element = None;
+  count = None;
+  rows = None;
+  cols = None;
   size = z;
-  key = none;
+  key = None;
 }
 
 -- struct tile holding n (scalar u16), skip (scalar u8) and gap (padding, size 1)
 pub tile : Schema
 tile = record {
   scalars = built_in;
-  release = none;
+  release = None;
   unreleased = false;
   constants = [];
   aliases = [];
@@ -40,12 +40,12 @@ tile = record {
   bitfields = [];
   structs = record {
     name = bytes "tile";
-    slot = none;
-    version = none;
+    slot = None;
+    version = None;
     fields =
-        field "n" "scalar" (some (bytes "u16")) none
-        ∷ field "skip" "scalar" (some (bytes "u8")) none
-        ∷ field "gap" "padding" none (some 1)
+        field "n" "scalar" (Some (bytes "u16")) None
+        ∷ field "skip" "scalar" (Some (bytes "u8")) None
+        ∷ field "gap" "padding" None (Some 1)
         ∷ [];
   } ∷ [];
   families = [];

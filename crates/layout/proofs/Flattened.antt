@@ -1,4 +1,5 @@
 -- The handles of a record in flattening order have the layouts of its schema, and each is of a type's command. Assumes nothing.
+use Rattle.std.specs.Prelude.{Some}
 use Prim.Native.Nat.{ℕ, ◌+◌, ◌-◌, ◌*◌, ◌≤◌, ◌<◌}
 use mathlib.Core.List.Memᴰ
 use mathlib.Core.List.{List, [], ◌∷◌, ◌++◌, map, map-append, Memᴰ}
@@ -21,7 +22,6 @@ use Rattle.record.specs.Shapes.{places, fam_prefix}
 use Rattle.record.specs.Reading.{Rec, rec, schema_from, schema_of}
 use Rattle.record.specs.declared.command.Cursor.{Cursor}
 use Rattle.record.specs.declared.command.Command.{Command}
-use Rattle.record.specs.declared.command.Step.TheVariants.{Next}
 use Rattle.record.proofs.Stream.{step-found, along}
 use Rattle.record.proofs.ListLaws.{byte_of, byte-is, listed-stop, listed_here, listed-over, listed_same}
 use Rattle.layout.specs.Layout.{TypeLayout, variant_name, lay_struct, lay_family, lay_variant, lay_families, flattened}
@@ -51,7 +51,7 @@ module _ (at : ℕ) (h : at < 65536) where
 
 -- layouts -----------------------------------------------------------------------------------------------------------------
 
-module _ (s p : Str) (at : ℕ) (c : Command) (k : Cursor) (e : step_at s at ≡ Next c k) where
+module _ (s p : Str) (at : ℕ) (c : Command) (k : Cursor) (e : step_at s at ≡ Some (c, k)) where
   pub own-fields : (get_or s at 0 ≡ 9 → ⊥) → handle_fields s p at ≡ fields_at s p k.at
   unfolding handle_fields
   own-fields n = let f = step-found s at c k e in rw (ne_eqb (get_or s at 0) 9 n, ← f.wide)
@@ -85,7 +85,7 @@ module _ (s p : Str) (w : List Scalar) (small : length s ≤ 32768) where
       let m : f + 1 - 1 ≡ f = omega arith in
       rw (variant-family at h f, variant-place at h f, ne_eqb (f + 1) 0 n, m)
 
-  module _ (at : ℕ) (c : Command) (k : Cursor) (e : step_at s at ≡ Next c k) where
+  module _ (at : ℕ) (c : Command) (k : Cursor) (e : step_at s at ≡ Some (c, k)) where
     inside : at < 65536
     inside = let f = step-found s at c k e in let a = f.on in let b = f.within in omega arith
 
@@ -129,7 +129,7 @@ module _ (s p : Str) (w : List Scalar) (small : length s ≤ 32768) where
       theirs : ℕ → List ℕ → Family
       theirs a rest = family_of p (family_at (drop a s)) (fields s p rest) (variants s p rest)
 
-      go : (at : ℕ) (c : Command) (k : Cursor) → step_at s at ≡ Next c k
+      go : (at : ℕ) (c : Command) (k : Cursor) → step_at s at ≡ Some (c, k)
           → map (layout_of R) (family_handles s (commands_at s k.at)) ≡ lay_families S (families s p (commands_at s k.at))
           → (t : Bool) → eqb (byte_of c) 9 ≡ t → map (layout_of R) (family_handles s (commands_at s at)) ≡ lay_families S (families s p (commands_at s at))
       go at c k e ih true q =

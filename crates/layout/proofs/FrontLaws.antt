@@ -4,8 +4,8 @@ use mathlib.Core.Path.{◌≡◌, refl, sym, ap, subst, ◌∙◌}
 use mathlib.Core.List.{List}
 use mathlib.Core.Bool.{Bool, true, false}
 use native.Mathlib.Omega.{arith}
-use lib.Dec.{eqb}
-use borrow.Author.Tests.{eqb-true, eqb-false}
+use lib.Dec.{eqb, ltb}
+use borrow.Author.Tests.{eqb-true, eqb-false, ltb-true, ltb-false}
 use lib.ListN.{length, get_or, set}
 use lib.Seq.{get_or-set_same, get_or-set_other}
 use Rattle.record.specs.Base.{Str, before}
@@ -13,7 +13,7 @@ use Rattle.record.specs.Words.{Fronted}
 use Rattle.record.specs.Marks.{Clear}
 use Rattle.record.proofs.WordLaws.{front_below, front_above}
 use Rattle.layout.specs.Handles.{name_at, family_part, place_part, type_name}
-use Rattle.layout.specs.Fronts.{Fronts, FrontPut, FrontRead}
+use Rattle.layout.specs.Fronts.{Fronts, FrontPut}
 use Rattle.layout.proofs.NameLaws.{own-names}
 
 -- one entry ------------------------------------------------------------------------------------------------------------------
@@ -57,17 +57,23 @@ fronts-more s p t u at x n f e g h = h.kept s p f (subst (λ (m : Str). Fronted 
 -- two fronts -----------------------------------------------------------------------------------------------------------------
 
 module _ (s p : Str) (t : List ℕ) (f : Fronts s p t) (g h a b c d : ℕ) (i : a ≡ family_part g) (j : b ≡ family_part h) (same : a ≡ b) (k : c ≡ place_part g) (l : d ≡ place_part h)
-    (x y : ℕ) (m : FrontRead t c x) (n : FrontRead t d y) (v : x ≡ 4294967296 → ⊥) (w : y ≡ 4294967296 → ⊥) where
+    (x y : ℕ)
+    (m : (get_or t (c / 4) 0 % 131072 ≡ c + 1) × (x ≡ get_or t (c / 4) 0 / 131072)) (n : (get_or t (d / 4) 0 % 131072 ≡ d + 1) × (y ≡ get_or t (d / 4) 0 / 131072)) where
   first : Fronted (name_at s p c) x
-  first = subst (λ (z : ℕ). Fronted (name_at s p c) z) (sym (m.front v)) (f.right (c / 4) c (m.says v))
+  first = subst (λ (z : ℕ). Fronted (name_at s p c) z) (sym m.1) (f.right (c / 4) c m.0)
 
   second : Fronted (name_at s p d) y
-  second = subst (λ (z : ℕ). Fronted (name_at s p d) z) (sym (n.front w)) (f.right (d / 4) d (n.says w))
+  second = subst (λ (z : ℕ). Fronted (name_at s p d) z) (sym n.1) (f.right (d / 4) d n.0)
 
-  pub fronts-below : x < y → true ≡ before (type_name s p g) (type_name s p h)
+  fronts-below : x < y → true ≡ before (type_name s p g) (type_name s p h)
   fronts-below q = own-names s p g h a b c d (name_at s p c) (name_at s p d) true i j same k l refl refl (front_below (name_at s p c) (name_at s p d) x y first second q)
 
-  pub fronts-above : y < x → false ≡ before (type_name s p g) (type_name s p h)
+  fronts-above : y < x → false ≡ before (type_name s p g) (type_name s p h)
   fronts-above q = own-names s p g h a b c d (name_at s p c) (name_at s p d) false i j same k l refl refl (front_above (name_at s p c) (name_at s p d) x y first second q)
 
-pub ruleset fronts-laws = (fronts-below, fronts-above)
+  pub fronts-differ : (x ≡ y → ⊥) → ltb x y ≡ before (type_name s p g) (type_name s p h)
+  fronts-differ q = go (ltb x y) refl
+    where
+      go : (t : Bool) → ltb x y ≡ t → t ≡ before (type_name s p g) (type_name s p h)
+      go true e = fronts-below (ltb-true x y e)
+      go false e = let u = ltb-false x y e in fronts-above (omega arith)

@@ -1,4 +1,5 @@
 -- The handles along the stream, a table while it is filled, and the room that it needs. Assumes nothing.
+use Rattle.std.specs.Prelude.{Option, Some, None}
 use Prim.Native.Nat.{ℕ, suc, ◌+◌, ◌-◌, ◌*◌, ◌/◌, ◌≤◌, ◌<◌}
 use mathlib.Core.List.{List, [], ◌∷◌, ◌++◌, append_assoc, append-nil}
 use mathlib.Core.Bool.{Bool, true, false, cond}
@@ -15,12 +16,9 @@ use Rattle.record.specs.Commands.{step_at, commands_at}
 use Rattle.record.specs.Lists.{anything, a_field}
 use Rattle.record.specs.Seek.{after_at, over_of, places_of, places_left, SoughtFrom}
 use Rattle.record.specs.declared.seek.Between.TheVariants.{Anything, Fields}
-use Rattle.record.specs.declared.seek.Sought.{Sought}
-use Rattle.record.specs.declared.seek.Sought.TheVariants.{Nowhere, At}
 use Rattle.record.proofs.SeekLaws.{Stepped, stepped, ended-there, after-end, after-nearer, sought-stands}
 use Rattle.record.specs.declared.command.Cursor.{Cursor}
 use Rattle.record.specs.declared.command.Command.{Command}
-use Rattle.record.specs.declared.command.Step.TheVariants.{Next, Stop}
 use Rattle.record.proofs.Stream.{step-found, along}
 use Rattle.record.proofs.ListLaws.{byte_of, listed-stop, listed_here, listed-over, listed-end}
 use Rattle.layout.proofs.Along.{step-four}
@@ -30,7 +28,7 @@ use Rattle.layout.specs.Handles.{variant_handles, joined_handles, family_handles
 
 -- a step along the stream -------------------------------------------------------------------------------------------------
 
-module _ (s : Str) (at : ℕ) (c : Command) (k : Cursor) (e : step_at s at ≡ Next c k) where
+module _ (s : Str) (at : ℕ) (c : Command) (k : Cursor) (e : step_at s at ≡ Some (c, k)) where
   module _ (b : ℕ) where
     places-at : byte_of c ≡ b → places_of s Anything b at ≡ at ∷ places_of s Anything b k.at
     unfolding places_of
@@ -144,7 +142,7 @@ module _ (s : Str) (at : ℕ) (c : Command) (k : Cursor) (e : step_at s at ≡ N
             (0, omega arith)
 
 -- the end of the stream
-module _ (s : Str) (at : ℕ) (e : step_at s at ≡ Stop) where
+module _ (s : Str) (at : ℕ) (e : step_at s at ≡ None) where
   places-none : (b : ℕ) → places_of s Anything b at ≡ []
   unfolding places_of
   places-none b = listed-stop s anything b (λ a rest. a) at e
@@ -160,11 +158,11 @@ module _ (s : Str) (at : ℕ) (e : step_at s at ≡ Stop) where
       none false = refl
 
 -- in the code's words: a command of one number
-module _ (s : Str) (b at : ℕ) (r : Sought) (i : SoughtFrom s Anything b at r) where
-  pub places-end : r ≡ Nowhere → places_of s Anything b at ≡ []
+module _ (s : Str) (b at : ℕ) (r : Option (ℕ × ℕ)) (i : SoughtFrom s Anything b at r) where
+  pub places-end : r ≡ None → places_of s Anything b at ≡ []
   places-end m = i.list ∙ ap (places_left s Anything b) m
 
-  module _ (a k : ℕ) (m : r ≡ At a k) where
+  module _ (a k : ℕ) (m : r ≡ Some (a, k)) where
     pub sought-small : length s ≤ 32768 → a ≤ 32767
     sought-small h = let f = sought-stands s Anything b at r i a k m in let o = f.on in let w = f.within in omega arith
 
@@ -310,7 +308,7 @@ pub ruleset fill-laws = (fill_more, fill-same)
 
 -- where a handle is still to come there is room for it
 module _ (s : Str) (all o t : List ℕ) (n : ℕ) where
-  pub place-room : (b at : ℕ) (r : Sought) → SoughtFrom s Anything b at r → (a k : ℕ) → r ≡ At a k → Filling all (places_of s Anything b at) o t n → n < length t
+  pub place-room : (b at : ℕ) (r : Option (ℕ × ℕ)) → SoughtFrom s Anything b at r → (a k : ℕ) → r ≡ Some (a, k) → Filling all (places_of s Anything b at) o t n → n < length t
   place-room b at r i a k m f = fill-room all o t n (places_of s Anything b at) f a (places_of s Anything b k) (places-here s b at r i a k m a refl)
 
   module _ (at after : ℕ) (i : after ≡ after_at s at) (z : after ≡ 0 → ⊥) (x : ℕ) (h : x ≡ get_or s at 0) where

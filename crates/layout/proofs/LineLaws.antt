@@ -1,7 +1,7 @@
 -- The lines of the list, put one after the other. Assumes nothing.
+use Rattle.std.specs.Prelude.{Option, Some, None}
 use Prim.Native.Nat.{ℕ, suc, ◌+◌, ◌-◌, ◌*◌, ◌/◌, ◌≤◌, ◌<◌}
 use mathlib.Core.List.{List, [], ◌∷◌, ◌++◌, map, append-nil, append_assoc, Memᴰ}
-use mathlib.Core.Option.{none}
 use mathlib.Core.Path.{◌≡◌, refl, sym, ap, ap₂, subst, ◌∙◌}
 use native.Mathlib.Omega.{arith}
 use native.Mathlib.Numerals.{add-one}
@@ -24,16 +24,12 @@ use Rattle.record.specs.Write.{largest, saturated, Puts}
 use Rattle.record.specs.declared.text.Text.{Text}
 use Rattle.record.specs.declared.command.Cursor.{Cursor}
 use Rattle.record.specs.declared.seek.Between.TheVariants.{Keys}
-use Rattle.record.specs.declared.seek.Sought.{Sought}
-use Rattle.record.specs.declared.seek.Sought.TheVariants.{Nowhere, At}
 use Rattle.record.proofs.WriterLaws.{puts_none, puts-past, puts_then, puts-as, puts-near, puts-small}
 use Rattle.layout.specs.declared.names.TypeName.{TypeName}
 use Rattle.layout.specs.declared.spots.Spot.{Spot}
 use Rattle.layout.specs.declared.spots.Ahead.{Ahead}
 use Rattle.layout.specs.declared.spots.Ahead.TheVariants.{Body}
 use Rattle.layout.specs.declared.spots.SpotCursor.{SpotCursor}
-use Rattle.layout.specs.declared.spots.SpotStep.{SpotStep}
-use Rattle.layout.specs.declared.spots.SpotStep.TheVariants.{NoSpot, ASpot}
 use Rattle.layout.specs.Layout.{TypeLayout}
 use Rattle.layout.specs.Listing.{line_of, lines_of, lines_of_all, list_of}
 use Rattle.layout.specs.Handles.{layout_of}
@@ -67,12 +63,12 @@ module _ (p : Str) {out after : Str} {at r : ℕ} where
   -- of a field by the bytes that begin with its command
   pub field_put : (t y : Str) (x : Text) (offset size : ℕ) {m₁ m₂ m₃ : Str} {q₁ q₂ q₃ : ℕ} → x ≡ text_at y 1
       → Puts out at (t ++ (bytes "." ++ (text_of p x ++ bytes " "))) m₁ q₁ → Puts m₁ q₁ (decimal offset ++ (bytes " " ++ (decimal size ++ bytes " "))) m₂ q₂
-      → Puts m₂ q₂ (shape_type (field_of p (field_at y) none)) m₃ q₃ → Puts m₃ q₃ (bytes "\n") after r → Puts out at (line_of t (place_at p y offset size)) after r
+      → Puts m₂ q₂ (shape_type (field_of p (field_at y) None)) m₃ q₃ → Puts m₃ q₃ (bytes "\n") after r → Puts out at (line_of t (place_at p y offset size)) after r
   field_put t y x offset size e a = line-put t (place_at p y offset size) (puts-as a (ap (λ (i : Text). t ++ (bytes "." ++ (text_of p i ++ bytes " "))) e))
 
 -- its length
 pub field-long : (p y : Str) (x : Text) (z : Str) (offset size a b c : ℕ) → x ≡ text_at y 1 → z ≡ text_of p x → a ≡ length (decimal offset) → b ≡ length (decimal size)
-    → c ≡ length (shape_type (field_of p (field_at y) none)) → length z + (a + b) + c + 5 ≡ length (line_of [] (place_at p y offset size))
+    → c ≡ length (shape_type (field_of p (field_at y) None)) → length z + (a + b) + c + 5 ≡ length (line_of [] (place_at p y offset size))
 unfolding line_of joined bytes
 field-long p y x z offset size a b c d e f g h = rw (h, f, g, e, d) (simp length-append (omega arith))
 
@@ -102,8 +98,8 @@ module _ (s p : Str) (z : List ℕ) (n : Str) where
   pub field-lines-start : (c : SpotCursor) (out : Str) (at : ℕ) → at ≤ largest → FieldLines s p z n c out at out c at
   field-lines-start c out at h = record { sound = λ w d. d; rest = λ w d x. x; near = omega arith; long = refl; small = h }
 
-  module _ (c₀ : SpotCursor) (out₀ out : Str) (at end k offset : ℕ) (l : FieldLines s p z n c₀ out₀ at out (cursor_at (Body (place k)) offset) end) (r : Sought) (i : SoughtFrom s Keys 11 k r) where
-    pub field-lines-end : r ≡ Nowhere → length out ≤ largest → LinesFrom s p z n c₀ out₀ at out end
+  module _ (c₀ : SpotCursor) (out₀ out : Str) (at end k offset : ℕ) (l : FieldLines s p z n c₀ out₀ at out (cursor_at (Body (place k)) offset) end) (r : Option (ℕ × ℕ)) (i : SoughtFrom s Keys 11 k r) where
+    pub field-lines-end : r ≡ None → length out ≤ largest → LinesFrom s p z n c₀ out₀ at out end
     unfolding lines_of
     field-lines-end m f =
         let near = l.near in
@@ -115,7 +111,7 @@ module _ (s p : Str) (z : List ℕ) (n : Str) where
           near = omega arith;
         }
 
-    pub field-lines-next : (a j : ℕ) (y : Str) (v e : ℕ) (out' : Str) (end' : ℕ) → r ≡ At a j → y ≡ drop a s → v ≡ get_or z (j / 33) 0 → e ≡ capped (offset + v)
+    pub field-lines-next : (a j : ℕ) (y : Str) (v e : ℕ) (out' : Str) (end' : ℕ) → r ≡ Some (a, j) → y ≡ drop a s → v ≡ get_or z (j / 33) 0 → e ≡ capped (offset + v)
         → Puts out end (line_of n (place_at p y offset v)) out' end' → end' ≤ end + 2048 → FieldLines s p z n c₀ out₀ at out' (cursor_at (Body (place j)) e) end'
     unfolding lines_of
     field-lines-next a j y v e out' end' m g u q x b =
@@ -143,11 +139,11 @@ module _ (s p : Str) (z : List ℕ) (n : ℕ) where
   pub measuring-start : (c : SpotCursor) (at : ℕ) → n ≤ 512 → at ≤ largest → Measuring s p z n c at c at
   measuring-start c at h k = record { short = h; lines = λ t e. field-lines-start s p z t c [] at k }
 
-  module _ (c₀ : SpotCursor) (at end k offset : ℕ) (l : Measuring s p z n c₀ at (cursor_at (Body (place k)) offset) end) (r : Sought) (i : SoughtFrom s Keys 11 k r) where
-    pub measuring-end : (t : Str) → n ≡ length t → r ≡ Nowhere → LinesFrom s p z t c₀ [] at [] end
+  module _ (c₀ : SpotCursor) (at end k offset : ℕ) (l : Measuring s p z n c₀ at (cursor_at (Body (place k)) offset) end) (r : Option (ℕ × ℕ)) (i : SoughtFrom s Keys 11 k r) where
+    pub measuring-end : (t : Str) → n ≡ length t → r ≡ None → LinesFrom s p z t c₀ [] at [] end
     measuring-end t e m = field-lines-end s p z t c₀ [] [] at end k offset (l.lines t e) r i m (omega arith)
 
-    pub measuring-next : (a j : ℕ) (y : Str) (v e u end' : ℕ) → r ≡ At a j → y ≡ drop a s → v ≡ get_or z (j / 33) 0 → e ≡ capped (offset + v)
+    pub measuring-next : (a j : ℕ) (y : Str) (v e u end' : ℕ) → r ≡ Some (a, j) → y ≡ drop a s → v ≡ get_or z (j / 33) 0 → e ≡ capped (offset + v)
         → u ≡ length (line_of [] (place_at p y offset v)) → u ≤ 859 → end' ≡ saturated (end + (n + u)) → Measuring s p z n c₀ at (cursor_at (Body (place j)) e) end'
     measuring-next a j y v e u end' m g b q h x w =
         let short = l.short in
@@ -183,7 +179,7 @@ module _ (s p : Str) (w : List Scalar) (z : List ℕ) (h : ℕ) where
       record { sound = k.sound a p w z b e; rest = λ x. puts-as x (ap (lines_of T.name) (k.list a p w)); near = omega arith; long = refl; small = o }
 
   module _ {out₀ out : Str} {at end : ℕ} {c : SpotCursor} (l : Lining R z T out₀ at out c end) where
-    pub lining-end : (step : SpotStep) → SpotsFrom R z c step → step ≡ NoSpot → length out ≤ largest → Puts out₀ at (lines_of T.name T.fields) out end × (end ≤ at + lines_most s)
+    pub lining-end : (step : Option (Spot × SpotCursor)) → SpotsFrom R z c step → step ≡ None → length out ≤ largest → Puts out₀ at (lines_of T.name T.fields) out end × (end ≤ at + lines_most s)
     unfolding lines_of
     lining-end step n i f =
         let e : lines_of T.name (places_from R c) ≡ [] = ap (lines_of T.name) (spots-over-now s p w z c step n l.sound i) in
@@ -213,7 +209,7 @@ module _ (s p : Str) (w : List Scalar) (z : List ℕ) (h : ℕ) where
           let close = f.near in
           omega arith
 
-    pub lining-next : (n : TypeName) (x : Spot) (d : SpotCursor) (step : SpotStep) {out' : Str} {end' : ℕ} → n ≡ stretches_of s h → step ≡ ASpot x d → SpotsFrom R z c step
+    pub lining-next : (n : TypeName) (x : Spot) (d : SpotCursor) (step : Option (Spot × SpotCursor)) {out' : Str} {end' : ℕ} → n ≡ stretches_of s h → step ≡ Some (x, d) → SpotsFrom R z c step
         → Puts out end (line_of (name_of p n) (spot_of p x)) out' end' → end' ≤ end + 2048 → Lining R z T out₀ at out' d end'
     unfolding lines_of layout_of
     lining-next n x d step {out'} {end'} e i f g k =

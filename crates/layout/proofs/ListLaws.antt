@@ -1,4 +1,5 @@
 -- The list call's answer, from what the reading, the measuring and the writing answer. Assumes nothing.
+use Rattle.std.specs.Prelude.{Result, Ok, Err, ⊤}
 use Prim.Native.Nat.{ℕ, ◌≤◌, ◌<◌}
 use mathlib.Core.List.{List, [], ◌∷◌, ◌++◌}
 use mathlib.Core.Bool.{Bool, true, false, cond}
@@ -16,8 +17,6 @@ use Rattle.record.specs.Write.{Puts}
 use Rattle.record.specs.declared.refusal.Refusal.{Refusal}
 use Rattle.record.specs.declared.refusal.Side.{Side}
 use Rattle.record.specs.declared.refusal.Side.TheVariants.{Current, Released}
-use Rattle.record.specs.declared.read.Outcome.{Outcome}
-use Rattle.record.specs.declared.read.Outcome.TheVariants.{Readable, Refused}
 use Rattle.record.proofs.ScalarLaws.{built_in-rows}
 use Rattle.record.proofs.WriterLaws.{puts-exact, puts-front}
 use Rattle.layout.specs.Listing.{list_of}
@@ -70,16 +69,16 @@ refused-is side x at n m a b out = record { number = a; side = b; place = refl; 
 
 -- the call ----------------------------------------------------------------------------------------------------------------
 
-module _ (side : Side) (s p rows : Str) (o : Outcome) (e : rows ≡ built_in_rows) (h : Read side (rec s p (scalars_of rows)) o) where
-  pub list-refused : (out : Str) (x : Refusal) (at : ℕ) (r : D.Answer) → o ≡ Refused x at → ((a : Str) → Answered a a (refusal_of side x at) r)
+module _ (side : Side) (s p rows : Str) (o : Result ⊤ (Refusal × ℕ)) (e : rows ≡ built_in_rows) (h : Read side (rec s p (scalars_of rows)) o) where
+  pub list-refused : (out : Str) (x : Refusal) (at : ℕ) (r : D.Answer) → o ≡ Err (x, at) → ((a : Str) → Answered a a (refusal_of side x at) r)
       → Answered out out (list (length out) side (rec s p built_in)) r
   unfolding list list_answer
   list-refused out x at r k a = rw (reading-refused side s p rows o e h x at k) (a out)
 
-  pub list-premise : o ≡ Readable → (length s ≤ 32768) × Exact (rec s p (scalars_of rows))
+  pub list-premise : o ≡ Ok tt → (length s ≤ 32768) × Exact (rec s p (scalars_of rows))
   list-premise k = (read_short side s p rows o e h k, h.exact k)
 
-  pub list-readable : (out after : Str) (r : D.Answer) → o ≡ Readable → Answered out after (text_or (length out) 0 (list_of (schema_of (rec s p (scalars_of rows))))) r
+  pub list-readable : (out after : Str) (r : D.Answer) → o ≡ Ok tt → Answered out after (text_or (length out) 0 (list_of (schema_of (rec s p (scalars_of rows))))) r
       → Answered out after (list (length out) side (rec s p built_in)) r
   unfolding list list_answer
   list-readable out after r k a =

@@ -1,4 +1,5 @@
 -- Names in parts: their bytes, their order, and the names of types. Assumes nothing.
+use Rattle.std.specs.Prelude.{Some, None}
 use Prim.Native.Nat.{ℕ, zero, suc, ◌+◌, ◌-◌, ◌≤◌, ◌<◌}
 use mathlib.Core.List.{[], ◌∷◌, ◌++◌, append-nil}
 use mathlib.Core.Bool.{Bool, true, false, ◌&&◌, ◌||◌, cond, false≢true}
@@ -7,13 +8,12 @@ use native.Mathlib.Omega.{arith}
 use lib.ListN.{length, take, drop, get_or, length-append, get_or-append}
 use lib.Seq.{get_or-append-add, length-take-le}
 use lib.Dec.{eqb, ltb}
-use borrow.Author.Tests.{eq-eqb, ne_eqb, eqb-true, le-ltb}
+use borrow.Author.Tests.{eq-eqb, ne_eqb, eqb-true, le-ltb, ltb-true, ltb-false}
 use Rattle.record.specs.Base.{Str, eqs, before}
 use Rattle.record.specs.Stretch.{text_of}
 use Rattle.record.specs.Operands.{text_at}
 use Rattle.record.specs.Write.{Puts}
 use Rattle.record.specs.declared.text.Text.{Text}
-use Rattle.record.specs.declared.operands.OptText.TheVariants.{Absent, Given}
 use Rattle.record.proofs.Basics.{both, eqs→eq}
 use Rattle.record.proofs.WriterLaws.{puts_then}
 use Rattle.record.specs.Words.{Skipped}
@@ -37,12 +37,12 @@ module _ (s : Str) (at : ℕ) where
 -- the stretches of a type's name ------------------------------------------------------------------------------------------
 
 module _ (s : Str) (h f at : ℕ) (t : Text) where
-  pub stretches-plain : f ≡ family_part h → f ≡ 0 → at ≡ place_part h → t ≡ name_text_at s at → record { front = t; back = Absent } ≡ stretches_of s h
+  pub stretches-plain : f ≡ family_part h → f ≡ 0 → at ≡ place_part h → t ≡ name_text_at s at → record { front = t; back = None } ≡ stretches_of s h
   unfolding stretches_of
   stretches-plain e z a b = rw (eq-eqb (family_part h) 0 (sym e ∙ z), sym a, sym b)
 
   pub stretches-variant : (u : Text) → f ≡ family_part h → (f ≡ 0 → ⊥) → at ≡ place_part h → t ≡ name_text_at s at → u ≡ name_text_at s (f - 1)
-      → record { front = u; back = Given t } ≡ stretches_of s h
+      → record { front = u; back = Some t } ≡ stretches_of s h
   unfolding stretches_of
   stretches-variant u e z a b d = rw (ne_eqb (family_part h) 0 (λ q. z (e ∙ q)), sym a, sym b, sym e, sym d)
 
@@ -52,7 +52,7 @@ unfolding stretches_of type_name name_at name_text_at
 stretches-read s p h = go (eqb (family_part h) 0)
   where
     go : (b : Bool)
-        → name_of p (cond b (record { front = name_text_at s (place_part h); back = Absent }) (record { front = name_text_at s (family_part h - 1); back = Given (name_text_at s (place_part h)) }))
+        → name_of p (cond b (record { front = name_text_at s (place_part h); back = None }) (record { front = name_text_at s (family_part h - 1); back = Some (name_text_at s (place_part h)) }))
         ≡ cond b (name_at s p (place_part h)) (variant_name (name_at s p (family_part h - 1)) (name_at s p (place_part h)))
     go true = refl
     go false = refl
@@ -103,7 +103,7 @@ composed-length f k b h =
 
 -- order of names in parts -------------------------------------------------------------------------------------------------
 
-front_long : (f : Str) (k : ℕ) (b : Str) (i : ℕ) → i ≤ length f → i ≤ length (composed f k b)
+pub front_long : (f : Str) (k : ℕ) (b : Str) (i : ℕ) → i ≤ length f → i ≤ length (composed f k b)
 unfolding composed
 front_long f k b i h = rw length-append (omega arith)
 
@@ -123,22 +123,34 @@ module _ (x y : Str) (n m i : ℕ) (p : n ≡ length x) (q : m ≡ length y) whe
   pub turn-longer : i < n → m ≤ i → before (drop i x) (drop i y) ≡ false
   turn-longer h k = before-longer x y i (omega arith) (omega arith)
 
-  pub turn_below : (u v : ℕ) → i < n → i < m → u ≡ get_or x i 0 → v ≡ get_or y i 0 → u < v → before (drop i x) (drop i y) ≡ true
+  turn_below : (u v : ℕ) → i < n → i < m → u ≡ get_or x i 0 → v ≡ get_or y i 0 → u < v → before (drop i x) (drop i y) ≡ true
   turn_below u v h k a b c = before-below x y i (omega arith) (omega arith) (omega arith)
 
-  pub turn-above : (u v : ℕ) → i < n → i < m → u ≡ get_or x i 0 → v ≡ get_or y i 0 → v < u → before (drop i x) (drop i y) ≡ false
+  turn-above : (u v : ℕ) → i < n → i < m → u ≡ get_or x i 0 → v ≡ get_or y i 0 → v < u → before (drop i x) (drop i y) ≡ false
   turn-above u v h k a b c = before_above x y i (omega arith) (omega arith) (omega arith)
 
-  pub turn-next : (u v : ℕ) → i < n → i < m → u ≡ get_or x i 0 → v ≡ get_or y i 0 → v ≤ u → u ≤ v → before (drop i x) (drop i y) ≡ before (drop (i + 1) x) (drop (i + 1) y)
-  turn-next u v h k a b c d = before-next x y i (omega arith) (omega arith) (omega arith) (omega arith)
+  pub turn-next : (u v : ℕ) → i < n → i < m → u ≡ get_or x i 0 → v ≡ get_or y i 0 → u ≡ v → before (drop i x) (drop i y) ≡ before (drop (i + 1) x) (drop (i + 1) y)
+  turn-next u v h k a b e = before-next x y i (omega arith) (omega arith) (omega arith) (omega arith)
 
-  pub turn-shorter : n ≤ i → i < m → before (drop i x) (drop i y) ≡ true
+  turn-shorter : n ≤ i → i < m → before (drop i x) (drop i y) ≡ true
   turn-shorter h k = before-shorter x y i (omega arith) (omega arith)
 
-  pub turn_end : n ≤ i → m ≤ i → before (drop i x) (drop i y) ≡ false
+  turn_end : n ≤ i → m ≤ i → before (drop i x) (drop i y) ≡ false
   turn_end h k = before-end x y i (omega arith) (omega arith)
 
-pub ruleset turn-laws = (turn-longer, turn-shorter, turn_end)
+  pub turn-other : (u v : ℕ) → i < n → i < m → u ≡ get_or x i 0 → v ≡ get_or y i 0 → (u ≡ v → ⊥) → before (drop i x) (drop i y) ≡ ltb u v
+  turn-other u v h k a b d = go (ltb u v) refl
+    where
+      go : (t : Bool) → ltb u v ≡ t → before (drop i x) (drop i y) ≡ t
+      go true e = turn_below u v h k a b (ltb-true u v e)
+      go false e = let w = ltb-false u v e in turn-above u v h k a b (omega arith)
+
+  pub turn-done : n ≤ i → i ≤ n → before (drop i x) (drop i y) ≡ ltb n m
+  turn-done h k = go (ltb n m) refl
+    where
+      go : (t : Bool) → ltb n m ≡ t → before (drop i x) (drop i y) ≡ t
+      go true e = let w = ltb-true n m e in turn-shorter h (omega arith)
+      go false e = let w = ltb-false n m e in turn_end h (omega arith)
 
 -- equal fronts leave it to the rest
 same-front : (f x y : Str) → before (f ++ x) (f ++ y) ≡ before x y
@@ -240,8 +252,6 @@ module _ (s p : Str) (h : ℕ) where
       let y = both (eqs (back_of s p h) b) (eqs (front_of s p h) f) x.1 in
       sym (parts-type f b k (sym (eqs→eq (front_of s p h) f y.1)) (sym (eqb-true (colons_of h) k x.0)) (sym (eqs→eq (back_of s p h) b y.0)))
 
-pub ruleset has-laws = (has-colons, has-back, has_all)
-
 pub ruleset part-laws = (front-plain, front-family, colons-none, colons-two, back_none, back-own)
 
 -- in one family the own names decide
@@ -268,19 +278,19 @@ own-names s p g h i j a b x y r e f o q t u v w =
 -- names put into a buffer -------------------------------------------------------------------------------------------------
 
 module _ (p : Str) (t : TypeName) {out after : Str} {at r : ℕ} where
-  pub put_front : Puts out at (text_of p t.front) after r → t.back ≡ Absent → Puts out at (name_of p t) after r
+  pub put_front : Puts out at (text_of p t.front) after r → t.back ≡ None → Puts out at (name_of p t) after r
   put_front a e = rw e a
 
-  pub put_both : (d : Text) {mid : Str} {q : ℕ} → Puts out at (text_of p t.front) mid q → t.back ≡ Given d → Puts mid q (58 ∷ 58 ∷ text_of p d) after r
+  pub put_both : (d : Text) {mid : Str} {q : ℕ} → Puts out at (text_of p t.front) mid q → t.back ≡ Some d → Puts mid q (58 ∷ 58 ∷ text_of p d) after r
       → Puts out at (name_of p t) after r
   unfolding variant_name
   put_both d a e b = rw e (puts_then a b)
 
 -- how long they are
 module _ (p : Str) (t : TypeName) (x : Str) (a : x ≡ text_of p t.front) where
-  pub name-front-long : t.back ≡ Absent → length x ≡ length (name_of p t)
+  pub name-front-long : t.back ≡ None → length x ≡ length (name_of p t)
   name-front-long e = rw (e, a)
 
-  pub name-both-long : (d : Text) (y : Str) → t.back ≡ Given d → y ≡ text_of p d → length x + 2 + length y ≡ length (name_of p t)
+  pub name-both-long : (d : Text) (y : Str) → t.back ≡ Some d → y ≡ text_of p d → length x + 2 + length y ≡ length (name_of p t)
   unfolding variant_name
   name-both-long d y e b = rw (e, a, b) (simp length-append (omega arith))

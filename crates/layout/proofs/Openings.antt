@@ -1,4 +1,5 @@
 -- The type of a handle is among those that the stream opens, of which number 9 speaks. Assumes nothing.
+use Rattle.std.specs.Prelude.{Some}
 use Prim.Native.Nat.{ℕ}
 use mathlib.Core.List.Memᴰ
 use mathlib.Core.List.{List, ◌∷◌, Memᴰ}
@@ -15,7 +16,6 @@ use Rattle.record.specs.Steps.{fields_at}
 use Rattle.record.specs.Reading.{Opened, opened_at, opened}
 use Rattle.record.specs.declared.command.Cursor.{Cursor}
 use Rattle.record.specs.declared.command.Command.{Command}
-use Rattle.record.specs.declared.command.Step.TheVariants.{Next}
 use Rattle.record.proofs.Stream.{commands-stop, commands-next, along}
 use Rattle.layout.specs.Handles.{place_part, handle_fields}
 use Rattle.layout.specs.Table.{Typed, plain, variant}
@@ -39,7 +39,7 @@ module _ (s p : Str) where
   unfolding opened_at
   opened-later at ps x l m = among (eqb (get_or s at 0) 9) (eqb (get_or s at 0) 8 || eqb (get_or s at 0) 10) x _ _ l m
 
-  opened-here : (at : ℕ) (c : Command) (k : Cursor) → step_at s at ≡ Next c k → Opens (get_or s at 0) → (l : List Opened) → Memᴰ (opened_as at) (opened_at s p at (commands_at s k.at) l)
+  opened-here : (at : ℕ) (c : Command) (k : Cursor) → step_at s at ≡ Some (c, k) → Opens (get_or s at 0) → (l : List Opened) → Memᴰ (opened_as at) (opened_at s p at (commands_at s k.at) l)
   unfolding opened_at fields_at
   opened-here at c k e (inl b) l =
       let f = family-fields s p at c k e b in
@@ -51,7 +51,7 @@ module _ (s p : Str) where
       let f = own-fields s p at c k e (λ q. omega arith) in
       rw b (Memᴰ.head (ap (λ (fs : List Field). record { place = at; fields = fs }) f))
 
-  opened-next : (a : ℕ) (c : Command) (k : Cursor) → step_at s a ≡ Next c k → opened s p (commands_at s a) ≡ opened_at s p a (commands_at s k.at) (opened s p (commands_at s k.at))
+  opened-next : (a : ℕ) (c : Command) (k : Cursor) → step_at s a ≡ Some (c, k) → opened s p (commands_at s a) ≡ opened_at s p a (commands_at s k.at) (opened s p (commands_at s k.at))
   unfolding opened
   opened-next a c k e = ap (opened s p) (commands-next s a c k e)
 
@@ -61,7 +61,7 @@ module _ (s p : Str) where
       (λ a e m. absurd (Memᴰ.not-nil (rw (commands-stop s a e) at m)))
       (λ a c k e ih m. subst (λ (l : List Opened). Memᴰ (opened_as at) l) (sym (opened-next a c k e)) (go a c k e ih (rw (commands-next s a c k e) at m)))
     where
-      go : (a : ℕ) (c : Command) (k : Cursor) → step_at s a ≡ Next c k → (Memᴰ at (commands_at s k.at) → Memᴰ (opened_as at) (opened s p (commands_at s k.at)))
+      go : (a : ℕ) (c : Command) (k : Cursor) → step_at s a ≡ Some (c, k) → (Memᴰ at (commands_at s k.at) → Memᴰ (opened_as at) (opened s p (commands_at s k.at)))
           → Memᴰ at (a ∷ commands_at s k.at) → Memᴰ (opened_as at) (opened_at s p a (commands_at s k.at) (opened s p (commands_at s k.at)))
       go a c k e ih (Memᴰ.head q) =
           subst (λ (x : ℕ). Memᴰ (opened_as x) (opened_at s p a (commands_at s k.at) (opened s p (commands_at s k.at)))) (sym q)

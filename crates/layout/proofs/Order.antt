@@ -1,8 +1,8 @@
 -- Maps by name: byte order is an order, the list is sorted, a look-up is the last of the name, the next name is found by a scan. Assumes nothing.
+use Rattle.std.specs.Prelude.{Option, Some, None}
 use mathlib.Core.Path.{◌≡◌, refl, sym, ◌∙◌, ap, subst}
 use mathlib.Core.List.Memᴰ
 use mathlib.Core.List.{List, [], ◌∷◌, Memᴰ}
-use mathlib.Core.Option.{Option, none, some}
 use mathlib.Core.Bool.{Bool, true, false, ◌&&◌, ◌||◌, cond, false≢true}
 use mathlib.Core.Logic.{◌⊎◌, inl, inr}
 use Prim.Native.Nat.{ℕ, ◌<◌, ◌≤◌}
@@ -109,8 +109,8 @@ Sorted {A} name (x ∷ l) = ((y : A) → Memᴰ y l → before (name x) (name y)
 
 -- the first in order that passes a test of names, after one more is put in
 pub better : {A : Type 0} → (A → Str) → (Str → Bool) → Option A → A → Option A
-better name p none x = cond (p (name x)) (some x) none
-better name p (some y) x = cond (p (name x)) (cond (before (name y) (name x)) (some y) (some x)) (some y)
+better name p None x = cond (p (name x)) (Some x) None
+better name p (Some y) x = cond (p (name x)) (cond (before (name y) (name x)) (Some y) (Some x)) (Some y)
 
 pub scan : {A : Type 0} → (A → Str) → (Str → Bool) → Option A → List A → Option A
 scan name p o [] = o
@@ -161,14 +161,14 @@ module _ {A : Type 0} (name : A → Str) where
 
   better-not : (p : Str → Bool) (o : Option A) (x : A) → p (name x) ≡ false → better name p o x ≡ o
   unfolding better
-  better-not p none x e = rw e
-  better-not p (some y) x e = rw e
+  better-not p None x e = rw e
+  better-not p (Some y) x e = rw e
 
   better-first : (p : Str → Bool) (o : Option A) (x : A) → p (name x) ≡ true
-      → ((u : A) → o ≡ some u → before (name u) (name x) ≡ false) → better name p o x ≡ some x
+      → ((u : A) → o ≡ Some u → before (name u) (name x) ≡ false) → better name p o x ≡ Some x
   unfolding better
-  better-first p none x e f = rw e
-  better-first p (some u) x e f = rw (e, f u refl)
+  better-first p None x e f = rw e
+  better-first p (Some u) x e f = rw (e, f u refl)
 
   find-insert : (p : Str → Bool) (t : A) (l : List A) → Sorted name l
       → find (λ (u : A). p (name u)) (insert name t l) ≡ better name p (find (λ (u : A). p (name u)) l) t
@@ -183,31 +183,31 @@ module _ {A : Type 0} (name : A → Str) where
       rest : Option A
       rest = find q xs
 
-      same_name : (u : A) → some x ≡ some u → eqs (name t) (name x) ≡ true → name u ≡ name t
+      same_name : (u : A) → Some x ≡ Some u → eqs (name t) (name x) ≡ true → name u ≡ name t
       same_name u k e = let y : x ≡ u = cc in ap name (sym y) ∙ sym (eqs→eq _ _ e)
 
       later : (u : A) → before (name t) (name x) ≡ true → Memᴰ u (x ∷ xs) → before (name t) (name u) ≡ true
       later u f (Memᴰ.head y) = subst (λ (v : A). before (name t) (name v) ≡ true) (sym y) f
       later u f (Memᴰ.tail m) = before-trans (name t) (name x) (name u) f (s.0 u m)
 
-      keeps : p (name t) ≡ true → before (name x) (name t) ≡ true → better name p (some x) t ≡ some x
+      keeps : p (name t) ≡ true → before (name x) (name t) ≡ true → better name p (Some x) t ≡ Some x
       keeps g b = rw (g, b)
 
       go : (b c : Bool) → eqs (name t) (name x) ≡ b → before (name t) (name x) ≡ c → (i j : Bool) → p (name t) ≡ i → p (name x) ≡ j
           → find q (insert name t xs) ≡ better name p rest t
-          → find q (cond b (t ∷ xs) (cond c (t ∷ x ∷ xs) (x ∷ insert name t xs))) ≡ better name p (cond (p (name x)) (some x) rest) t
+          → find q (cond b (t ∷ xs) (cond c (t ∷ x ∷ xs) (x ∷ insert name t xs))) ≡ better name p (cond (p (name x)) (Some x) rest) t
       go true c e f true true g h r =
-          rw (g, h) (sym (better-first p (some x) t g (λ u k. not-self (name u) (name t) (same_name u k e))))
+          rw (g, h) (sym (better-first p (Some x) t g (λ u k. not-self (name u) (name t) (same_name u k e))))
       go true c e f true false g h r = absurd (false≢true (sym h ∙ ap p (sym (eqs→eq _ _ e)) ∙ g))
       go true c e f false true g h r = absurd (false≢true (sym g ∙ ap p (eqs→eq _ _ e) ∙ h))
       go true c e f false false g h r = rw (g, h) (sym (better-not p rest t g))
       go false true e f true j g h r =
-          sym (better-first p (cond (p (name x)) (some x) rest) t g (λ u k. not_after (name t) (name u) (later u f (find-some q (x ∷ xs) k).0))
-          ∙ sym (ap (λ (b : Bool). cond b (some t) (cond (p (name x)) (some x) rest)) g))
+          sym (better-first p (cond (p (name x)) (Some x) rest) t g (λ u k. not_after (name t) (name u) (later u f (find-some q (x ∷ xs) k).0))
+          ∙ sym (ap (λ (b : Bool). cond b (Some t) (cond (p (name x)) (Some x) rest)) g))
       go false true e f false j g h r =
-          ap (λ (b : Bool). cond b (some t) (cond (p (name x)) (some x) rest)) g ∙ sym (better-not p (cond (p (name x)) (some x) rest) t g)
+          ap (λ (b : Bool). cond b (Some t) (cond (p (name x)) (Some x) rest)) g ∙ sym (better-not p (cond (p (name x)) (Some x) rest) t g)
       go false false e f true true g h r = rw h (sym (keeps g (before-total (name t) (name x) e f)))
-      go false false e f false true g h r = rw h (sym (better-not p (some x) t g))
+      go false false e f false true g h r = rw h (sym (better-not p (Some x) t g))
       go false false e f i false g h r = rw h r
 
   find-insert_all : (p : Str → Bool) (xs acc : List A) → Sorted name acc
@@ -218,37 +218,37 @@ module _ {A : Type 0} (name : A → Str) where
       find-insert_all p xs (insert name x acc) (insert-sorted x acc s) ∙ ap (λ (o : Option A). scan name p o xs) (find-insert p x acc s)
 
   -- the first in byte order that passes a test of names is found by one scan of what was put in
-  pub next-by-scan : (p : Str → Bool) (xs : List A) → find (λ (u : A). p (name u)) (sorted name xs) ≡ scan name p none xs
+  pub next-by-scan : (p : Str → Bool) (xs : List A) → find (λ (u : A). p (name u)) (sorted name xs) ≡ scan name p None xs
   unfolding sorted find
   next-by-scan p xs = find-insert_all p xs [] tt
 
-  scan-last : (n : Str) (o : Option A) (xs : List A) → ((u : A) → o ≡ some u → name u ≡ n)
+  scan-last : (n : Str) (o : Option A) (xs : List A) → ((u : A) → o ≡ Some u → name u ≡ n)
       → scan name (λ (m : Str). eqs m n) o xs ≡ last_or o (λ (u : A). eqs (name u) n) xs
   unfolding scan last_or
   scan-last n o [] h = refl
   scan-last n o (t ∷ ts) h = go (λ x k. scan-last n x ts k) (eqs (name t) n) refl
     where
-      one : (u : A) → some t ≡ some u → name t ≡ n → name u ≡ n
+      one : (u : A) → Some t ≡ Some u → name t ≡ n → name u ≡ n
       one u k e = let q : t ≡ u = cc in ap name (sym q) ∙ e
 
-      go : ((x : Option A) → ((u : A) → x ≡ some u → name u ≡ n)
+      go : ((x : Option A) → ((u : A) → x ≡ Some u → name u ≡ n)
           → scan name (λ (m : Str). eqs m n) x ts ≡ last_or x (λ (u : A). eqs (name u) n) ts) → (b : Bool) → eqs (name t) n ≡ b
-          → scan name (λ (m : Str). eqs m n) (better name (λ (m : Str). eqs m n) o t) ts ≡ last_or (cond (eqs (name t) n) (some t) o) (λ (u : A). eqs (name u) n) ts
+          → scan name (λ (m : Str). eqs m n) (better name (λ (m : Str). eqs m n) o t) ts ≡ last_or (cond (eqs (name t) n) (Some t) o) (λ (u : A). eqs (name u) n) ts
       go rec true e =
           let q = eqs→eq (name t) n e in
           ap (λ (x : Option A). scan name (λ (m : Str). eqs m n) x ts)
           (better-first (λ (m : Str). eqs m n) o t e (λ u k. not-self (name u) (name t) (h u k ∙ sym q)))
-          ∙ rec (some t) (λ u k. one u k q)
-          ∙ ap (λ (b : Bool). last_or (cond b (some t) o) (λ (u : A). eqs (name u) n) ts) (sym e)
+          ∙ rec (Some t) (λ u k. one u k q)
+          ∙ ap (λ (b : Bool). last_or (cond b (Some t) o) (λ (u : A). eqs (name u) n) ts) (sym e)
       go rec false e =
           ap (λ (x : Option A). scan name (λ (m : Str). eqs m n) x ts) (better-not (λ (m : Str). eqs m n) o t e)
           ∙ rec o h
-          ∙ ap (λ (b : Bool). last_or (cond b (some t) o) (λ (u : A). eqs (name u) n) ts) (sym e)
+          ∙ ap (λ (b : Bool). last_or (cond b (Some t) o) (λ (u : A). eqs (name u) n) ts) (sym e)
 
   -- a look-up by name finds the last of what was put in
   pub sorted-last : (n : Str) (xs : List A) → find (λ (u : A). eqs (name u) n) (sorted name xs) ≡ find_last (λ (u : A). eqs (name u) n) xs
   unfolding find_last
-  sorted-last n xs = next-by-scan (λ (m : Str). eqs m n) xs ∙ scan-last n none xs (λ u k. absurd (let z : ◌≡◌ {A = ℕ} 0 1 = cc in omega arith))
+  sorted-last n xs = next-by-scan (λ (m : Str). eqs m n) xs ∙ scan-last n None xs (λ u k. absurd (let z : ◌≡◌ {A = ℕ} 0 1 = cc in omega arith))
 
 -- the layouts of a record stand in byte order, and the one of a name is the last in flattening order
 pub types-sorted : (s : Schema) → Sorted (λ (t : TypeLayout). t.name) (types s)

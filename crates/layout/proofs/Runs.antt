@@ -1,8 +1,8 @@
 -- The last of each run of the stable sort is the map by name, and a map goes through it. Assumes nothing.
+use Rattle.std.specs.Prelude.{Option, Some, None}
 use mathlib.Core.Path.{◌≡◌, refl, sym, ◌∙◌, ap, ap₂}
 use mathlib.Core.List.Memᴰ
 use mathlib.Core.List.{List, [], ◌∷◌, map, Memᴰ}
-use mathlib.Core.Option.{Option, none, some}
 use mathlib.Core.Bool.{Bool, true, false, cond, false≢true}
 use mathlib.Core.Logic.{◌⊎◌, inl, inr}
 use Prim.Native.Nat.{ℕ}
@@ -19,16 +19,16 @@ module _ {A : Type 0} (name : A → Str) where
   abbrev at_name : Str → List A → Option A
   at_name n l = find (λ (u : A). eqs (name u) n) l
 
-  first_found : (x : A) (l : List A) → at_name (name x) (x ∷ l) ≡ some x
+  first_found : (x : A) (l : List A) → at_name (name x) (x ∷ l) ≡ Some x
   unfolding find
   first_found x l = rw (eqs-refl (name x))
 
-  later-none : (x : A) (l : List A) (n : Str) → ((y : A) → Memᴰ y l → before (name x) (name y) ≡ true) → eqs (name x) n ≡ true → at_name n l ≡ none
+  later-none : (x : A) (l : List A) (n : Str) → ((y : A) → Memᴰ y l → before (name x) (name y) ≡ true) → eqs (name x) n ≡ true → at_name n l ≡ None
   later-none x l n s e = go (at_name n l) refl
     where
-      go : (o : Option A) → at_name n l ≡ o → o ≡ none
-      go none f = refl
-      go (some u) f =
+      go : (o : Option A) → at_name n l ≡ o → o ≡ None
+      go None f = refl
+      go (Some u) f =
           let k = find-some (λ (v : A). eqs (name v) n) l f in
           absurd (false≢true (sym (not-self (name x) (name u) (eqs→eq (name x) n e ∙ sym (eqs→eq (name u) n k.1))) ∙ s u k.0))
 
@@ -137,7 +137,7 @@ module _ (key : ℕ → Str) where
     named u = eqs (key u) n
 
     abbrev newer : ℕ → Option ℕ → Option ℕ
-    newer x o = cond (named x) (some x) o
+    newer x o = cond (named x) (Some x) o
 
     last_none : (o : Option ℕ) (l : List ℕ) → ((u : ℕ) → Memᴰ u l → named u ≡ false) → last_or o named l ≡ o
     unfolding last_or
@@ -152,7 +152,7 @@ module _ (key : ℕ → Str) where
         go false f = refl
 
     -- in an ordered list the last of a name is the one that its run keeps
-    found-last : (l : List ℕ) → InOrder l → find named (lasts key l) ≡ last_or none named l
+    found-last : (l : List ℕ) → InOrder l → find named (lasts key l) ≡ last_or None named l
     unfolding find last_or lasts ends_run
     found-last [] o = refl
     found-last (x ∷ []) o = refl
@@ -165,16 +165,16 @@ module _ (key : ℕ → Str) where
             pick true f = sym (eqs→eq (key x) (key y) f)
             pick false f = absurd (false≢true (sym (o.0 y (Memᴰ.head refl)) ∙ before-total (key x) (key y) f e))
 
-        go : (b : Bool) → before (key x) (key y) ≡ b → (c : Bool) → named x ≡ c → find named (lasts key (y ∷ l)) ≡ last_or none named (y ∷ l)
-            → find named (cond b (x ∷ lasts key (y ∷ l)) (lasts key (y ∷ l))) ≡ last_or (newer x none) named (y ∷ l)
+        go : (b : Bool) → before (key x) (key y) ≡ b → (c : Bool) → named x ≡ c → find named (lasts key (y ∷ l)) ≡ last_or None named (y ∷ l)
+            → find named (cond b (x ∷ lasts key (y ∷ l)) (lasts key (y ∷ l))) ≡ last_or (newer x None) named (y ∷ l)
         go true e true f ih =
-            ap (λ (t : Bool). cond t (some x) (find named (lasts key (y ∷ l)))) f
-            ∙ sym (last_none (some x) (y ∷ l) (λ u m. apart x u (run-over x (y ∷ l) o.1 e u m) f))
-            ∙ ap (λ (t : Bool). last_or (cond t (some x) none) named (y ∷ l)) (sym f)
+            ap (λ (t : Bool). cond t (Some x) (find named (lasts key (y ∷ l)))) f
+            ∙ sym (last_none (Some x) (y ∷ l) (λ u m. apart x u (run-over x (y ∷ l) o.1 e u m) f))
+            ∙ ap (λ (t : Bool). last_or (cond t (Some x) None) named (y ∷ l)) (sym f)
         go true e false f ih = rw f ih
         go false e c f ih = ih ∙ skip (named y) refl
           where
-            skip : (d : Bool) → named y ≡ d → last_or none named (y ∷ l) ≡ last_or (newer x none) named (y ∷ l)
+            skip : (d : Bool) → named y ≡ d → last_or None named (y ∷ l) ≡ last_or (newer x None) named (y ∷ l)
             skip true g = rw g
             skip false g = rw (ap (λ (k : Str). eqs k n) (sym (same_name e)) ∙ g)
 
@@ -204,7 +204,7 @@ module _ (key : ℕ → Str) where
   unfolding find_last
   lasts_are l =
       one_list key (lasts key (arranged key l)) (sorted key l) (lasts-sorted (arranged key l) (arranged-order l)) (sorted-sorted key l)
-      (λ n. found-last n (arranged key l) (arranged-order l) ∙ arranged-last n none l ∙ sym (sorted-last key n l))
+      (λ n. found-last n (arranged key l) (arranged-order l) ∙ arranged-last n None l ∙ sym (sorted-last key n l))
 
 -- a list in strict order --------------------------------------------------------------------------------------------------
 

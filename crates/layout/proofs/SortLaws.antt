@@ -11,6 +11,7 @@ use lib.Seq.{take_all, take-suc-set, drop-set-lt, length-take-le, drop-drop, dro
 use lib.Dec.{ltb}
 use borrow.Author.Tests.{ltb-true, ltb-false}
 use borrow.Rule.Slice.PartMut.{put_mid, mid_of, same_len_mid}
+use Rattle.std.specs.List.{IsAllAdjacentAnswer}
 use Rattle.record.specs.Base.{Str, before}
 use Rattle.layout.specs.Sort.{arranged, merge, merge_with, second_next, chunks, halves, Bounded, ends_run, lasts, ascends}
 use Rattle.layout.proofs.Merging.{length-merge}
@@ -280,27 +281,27 @@ pub ruleset keep-laws = (keep-take, keep-pass)
 
 -- each before the next ----------------------------------------------------------------------------------------------------
 
-ascends-past : (key : ℕ → Str) (l : List ℕ) (i : ℕ) → length l ≤ i → ascends key (drop i l) ≡ true
-unfolding ascends
-ascends-past key l i h = rw (drop_of_length-le l {i = i} h)
+module _ (key : ℕ → Str) where
+  all-up : (l : List ℕ) → ((k : ℕ) → suc k < length l → true ≡ before (key (get_or l k 0)) (key (get_or l (suc k) 0))) → true ≡ ascends key l
+  unfolding ascends ends_run
+  all-up [] h = refl
+  all-up (x ∷ []) h = refl
+  all-up (x ∷ y ∷ l) h = rw (← h 0 (omega arith)) (all-up (y ∷ l) (λ k p. h (suc k) (omega arith)))
 
-module _ (key : ℕ → Str) (l : List ℕ) (i : ℕ) where
-  ascends-here : i < length l → ascends key (drop i l) ≡ (ends_run key (drop i l) && ascends key (drop (i + 1) l))
-  unfolding ascends
-  ascends-here h = rw (add-one, drop-cons l i 0 h)
-
-  pub ascends-end : length l ≤ i + 1 → ascends key (drop i l) ≡ true
-  ascends-end h = go (ltb i (length l)) refl
+  one-down : (l : List ℕ) (k : ℕ) → suc k < length l → false ≡ before (key (get_or l k 0)) (key (get_or l (suc k) 0)) → false ≡ ascends key l
+  unfolding ascends ends_run
+  one-down [] k h e = absurd (omega arith)
+  one-down (x ∷ []) k h e = absurd (omega arith)
+  one-down (x ∷ y ∷ l) zero h e = rw (← e)
+  one-down (x ∷ y ∷ l) (suc k) h e = go (before (key x) (key y)) (one-down (y ∷ l) k (omega arith) e)
     where
-      go : (b : Bool) → ltb i (length l) ≡ b → ascends key (drop i l) ≡ true
-      go true e = let g = ltb-true i (length l) e in ascends-here g ∙ rw (← run_end key l i g h, ascends-past key l (i + 1) h)
-      go false e = ascends-past key l i (ltb-false i (length l) e)
+      go : (b : Bool) → false ≡ ascends key (y ∷ l) → false ≡ (b && ascends key (y ∷ l))
+      go true f = f
+      go false f = refl
 
-  module _ (b : Bool) (h : i + 1 < length l) (e : b ≡ before (key (get_or l i 0)) (key (get_or l (i + 1) 0))) where
-    pub ascends-on : b ≡ true → ascends key (drop i l) ≡ ascends key (drop (i + 1) l)
-    ascends-on t = ascends-here (omega arith) ∙ ap (λ (c : Bool). c && ascends key (drop (i + 1) l)) (sym (run-next key l i b h e) ∙ t)
-
-    pub ascends-stop : b ≡ false → ascends key (drop i l) ≡ false
-    ascends-stop t = ascends-here (omega arith) ∙ ap (λ (c : Bool). c && ascends key (drop (i + 1) l)) (sym (run-next key l i b h e) ∙ t)
-
-pub ruleset ascends-laws = (ascends-end, ascends-on, ascends-stop)
+  -- what was asked of each and the next
+  pub ascends-asked : (l : List ℕ) (r : Bool) → IsAllAdjacentAnswer (λ x y b. b ≡ before (key x) (key y)) l r → r ≡ ascends key l
+  ascends-asked l true h = all-up l (λ k p. subst (λ (n : ℕ). true ≡ before (key (get_or l k 0)) (key (get_or l n 0))) (add-one k) (h k 0 (omega arith)))
+  ascends-asked l false h =
+      let p = h.1 in
+      one-down l h.0 (omega arith) (subst (λ (n : ℕ). false ≡ before (key (get_or l h.0 0)) (key (get_or l n 0))) (add-one h.0) (h.2 0))

@@ -1,7 +1,7 @@
 -- A step along the fields of a type, and where the fields of a type begin. Assumes nothing.
+use Rattle.std.specs.Prelude.{Option, Some, None}
 use Prim.Native.Nat.{ℕ, suc, ◌+◌, ◌-◌, ◌/◌, ◌≤◌, ◌<◌}
 use mathlib.Core.List.{List, [], ◌∷◌, ◌++◌, Memᴰ}
-use mathlib.Core.Option.{none, some}
 use mathlib.Core.Bool.{Bool, true, false}
 use mathlib.Core.Path.{◌≡◌, refl, sym, ap, subst, ◌∙◌}
 use native.Mathlib.Omega.{arith}
@@ -18,8 +18,6 @@ use Rattle.record.specs.Schema.{Schema, Field}
 use Rattle.record.specs.Commands.{operands, wide, widths, width_with, width_of, command_of, family_at, field_at, place, step_at}
 use Rattle.record.specs.Seek.{after_at, SoughtFrom}
 use Rattle.record.specs.declared.seek.Between.TheVariants.{Keys}
-use Rattle.record.specs.declared.seek.Sought.{Sought}
-use Rattle.record.specs.declared.seek.Sought.TheVariants.{Nowhere, At}
 use Rattle.record.specs.Lists.{opt_of, field_of, family_of}
 use Rattle.record.specs.Steps.{enums_at, field_key_at, fields_at, FieldsFrom, FieldPlace}
 use Rattle.record.specs.Kind.{words, kind_among, kind_of, is_padding}
@@ -27,19 +25,13 @@ use Rattle.record.specs.Shapes.{enum_size, sized, scalar_size, size_as, shape_si
 use Rattle.record.specs.Describe.{described_as, Shaped}
 use Rattle.record.specs.Reading.{Rec, rec, schema_from, schema_of}
 use Rattle.record.specs.declared.text.Text.{Text}
-use Rattle.record.specs.declared.operands.OptText.{OptText}
-use Rattle.record.specs.declared.operands.OptText.TheVariants.{Given}
 use Rattle.record.specs.declared.command as D
 use Rattle.record.specs.declared.command.Cursor.{Cursor}
 use Rattle.record.specs.declared.command.Command.{Command}
 use Rattle.record.specs.declared.command.Command.TheVariants as C
-use Rattle.record.specs.declared.command.Step.{Step}
-use Rattle.record.specs.declared.command.Step.TheVariants.{Next, Stop}
 use Rattle.record.specs.declared.describe.Shape.{Shape}
 use Rattle.record.specs.declared.describe.Description.{Description}
 use Rattle.record.specs.declared.describe.Description.TheVariants.{Discriminant, Length}
-use Rattle.record.specs.declared.lists.FieldStep.{FieldStep}
-use Rattle.record.specs.declared.lists.FieldStep.TheVariants.{NoField, AField}
 use Rattle.record.specs.contracts.command.Command.{the_type}
 use Rattle.record.proofs.Stream.{step-found}
 use Rattle.record.proofs.ListLaws.{byte_of, other, byte-is, operands-are, find-miss}
@@ -51,8 +43,6 @@ use Rattle.layout.specs.declared.spots.Spot.{Spot}
 use Rattle.layout.specs.declared.spots.Ahead.{Ahead}
 use Rattle.layout.specs.declared.spots.Ahead.TheVariants.{Front, Middle, Body}
 use Rattle.layout.specs.declared.spots.SpotCursor.{SpotCursor}
-use Rattle.layout.specs.declared.spots.SpotStep.{SpotStep}
-use Rattle.layout.specs.declared.spots.SpotStep.TheVariants.{NoSpot, ASpot}
 use Rattle.layout.specs.Handles.{name_at, place_part, handle_fields, layout_of}
 use Rattle.layout.specs.Table.{Typed}
 use Rattle.layout.specs.FieldSizes.{field_size, SizesFrom}
@@ -61,6 +51,7 @@ use Rattle.layout.proofs.Along.{place-stands}
 use Rattle.layout.proofs.Flattened.{own-fields, family-fields}
 use Rattle.layout.proofs.Openings.{typed-place, typed-opened}
 use Rattle.layout.proofs.FieldSizeLaws.{sizes-later, field-wide}
+use Rattle.record.specs.Commands.{Step}
 
 -- one field more ----------------------------------------------------------------------------------------------------------
 
@@ -93,7 +84,7 @@ module _ (r : Rec) (t : List ℕ) (a b : Ahead) (offset : ℕ) (f : Field) (more
     still-sound d = record { sizes = kept d.sizes; ends = λ g m. d.ends g (subst (λ (l : List FieldLayout). Memᴰ g l) (sym (one_more d)) (Memᴰ.tail m)) }
 
     stepped : (x : Spot) → (z ≡ shape_size S f → spot_of r.pool x ≡ place_of S offset f) → suc (ahead_left r.stream b) ≤ ahead_left r.stream a
-        → SpotsFrom r t (cursor_at a offset) (ASpot x (cursor_at b e))
+        → SpotsFrom r t (cursor_at a offset) (Some (x, cursor_at b e))
     stepped x is left =
         record {
           list = λ d. one_more d ∙ ap (λ (y : FieldLayout). y ∷ places_from r (cursor_at b e)) (sym (is (size d)));
@@ -113,7 +104,7 @@ module _ (s p : Str) (w : List Scalar) (t : List ℕ) (f : D.Family.Family) (k :
   abbrev len : Field
   len = plain (text_of p f.param_len_field) (bytes "scalar") (or_else (opt_of p f.param_len_type) (bytes "u8"))
 
-  disc-size : shape_size (schema_of R) disc ≡ sized (some (text_of p f.discriminant_type)) (enum_size (enums_at s p 0)) 1
+  disc-size : shape_size (schema_of R) disc ≡ sized (Some (text_of p f.discriminant_type)) (enum_size (enums_at s p 0)) 1
   unfolding shape_size plain kind_of kind_among words eqs bytes size_as schema_of schema_from enums_at
   disc-size = refl
 
@@ -133,22 +124,22 @@ module _ (s p : Str) (w : List Scalar) (t : List ℕ) (f : D.Family.Family) (k :
   unfolding place_of plain shape_type kind_of kind_among words eqs bytes rest_as named spaced or_option
   len-place z e i = record { name = len.name; offset = offset; size = e i; described = shape_type len; padding = false }
 
-  pub spot-disc : (o : OptText) (b z e : ℕ) → o ≡ Given f.discriminant_type → b ≡ sized (opt_of p o) (enum_size (enums_at s p 0)) 1 → z ≡ b → e ≡ capped (offset + z)
+  pub spot-disc : (o : Option Text) (b z e : ℕ) → o ≡ Some f.discriminant_type → b ≡ sized (opt_of p o) (enum_size (enums_at s p 0)) 1 → z ≡ b → e ≡ capped (offset + z)
       → SpotsFrom R t (cursor_at (Front f k) offset)
-      (ASpot (record { name = f.discriminant_field; offset = offset; size = z; described = Discriminant f.discriminant_type; padding = false }) (cursor_at (Middle f k) e))
+      (Some (record { name = f.discriminant_field; offset = offset; size = z; described = Discriminant f.discriminant_type; padding = false }, cursor_at (Middle f k) e))
   unfolding fam_prefix
   spot-disc o b z e g h j u =
       stepped R t (Front f k) (Middle f k) offset disc refl z e
-      (λ d. j ∙ h ∙ ap (λ (y : OptText). sized (opt_of p y) (enum_size (enums_at s p 0)) 1) g ∙ sym disc-size) u (λ q. q) _ (disc-place z) (omega arith)
+      (λ d. j ∙ h ∙ ap (λ (y : Option Text). sized (opt_of p y) (enum_size (enums_at s p 0)) 1) g ∙ sym disc-size) u (λ q. q) _ (disc-place z) (omega arith)
 
   pub spot-len : (b z e : ℕ) → b ≡ prim_size w (or_else (opt_of p f.param_len_type) (bytes "u8")) → z ≡ b → e ≡ capped (offset + z)
       → SpotsFrom R t (cursor_at (Middle f k) offset)
-      (ASpot (record { name = f.param_len_field; offset = offset; size = z; described = Length f.param_len_type; padding = false }) (cursor_at (Body k) e))
+      (Some (record { name = f.param_len_field; offset = offset; size = z; described = Length f.param_len_type; padding = false }, cursor_at (Body k) e))
   unfolding fam_prefix
   spot-len b z e h j u = stepped R t (Middle f k) (Body k) offset len refl z e (λ d. j ∙ h ∙ sym len-size) u (λ q. q) _ (len-place z) (omega arith)
 
 -- after a field the bound is less
-pub field-nearer : (s : Str) (at : ℕ) (r : Sought) (i : SoughtFrom s Keys 11 at r) (a k : ℕ) → r ≡ At a k → (length s - k) / 33 < (length s - at) / 33
+pub field-nearer : (s : Str) (at : ℕ) (r : Option (ℕ × ℕ)) (i : SoughtFrom s Keys 11 at r) (a k : ℕ) → r ≡ Some (a, k) → (length s - k) / 33 < (length s - at) / 33
 field-nearer s at r i a k m =
     let g = sought-stands s Keys 11 at r i a k m in
     let w = field-wide s Keys at r i a k m in
@@ -158,12 +149,12 @@ field-nearer s at r i a k m =
 
 -- a field of the record ----------------------------------------------------------------------------------------------------
 
-module _ (s p : Str) (w : List Scalar) (t : List ℕ) (k : Cursor) (offset : ℕ) (r : FieldStep) (h : FieldsFrom s k.at r) where
-  spot-none : r ≡ NoField → SpotsFrom (rec s p w) t (cursor_at (Body k) offset) NoSpot
+module _ (s p : Str) (w : List Scalar) (t : List ℕ) (k : Cursor) (offset : ℕ) (r : Step D.Field.Field) (h : FieldsFrom s k.at r) where
+  spot-none : r ≡ None → SpotsFrom (rec s p w) t (cursor_at (Body k) offset) None
   unfolding places_from places
   spot-none m = record { list = λ d. rw (fields-over-now s k.at r h p m); sound = λ d. tt; left = omega arith }
 
-  module _ (f : D.Field.Field) (j : Cursor) (m : r ≡ AField f j) where
+  module _ (f : D.Field.Field) (j : Cursor) (m : r ≡ Some (f, j)) where
     abbrev T : Schema
     T = schema_of (rec s p w)
 
@@ -173,7 +164,7 @@ module _ (s p : Str) (w : List Scalar) (t : List ℕ) (k : Cursor) (offset : ℕ
     stands : FieldPlace s k.at f j
     stands = fields-stand s k.at r h f j m
 
-    keyless-size : shape_size T whole ≡ shape_size T (field_of p f none)
+    keyless-size : shape_size T whole ≡ shape_size T (field_of p f None)
     unfolding shape_size
     keyless-size = keyless (kind_of (text_of p f.kind)) T p f (field_key_at s p j.at)
 
@@ -184,7 +175,7 @@ module _ (s p : Str) (w : List Scalar) (t : List ℕ) (k : Cursor) (offset : ℕ
         let l = y.past in
         let n : j.at - 33 + 33 ≡ j.at = omega arith in
         ap (λ (i : ℕ). get_or t (i / 33) 0) (sym n) ∙ z.sized (j.at - 33) y.in-stream y.number
-        ∙ ap (λ (x : D.Field.Field). capped (shape_size T (field_of p x none))) (sym y.operands) ∙ ap capped (sym keyless-size)
+        ∙ ap (λ (x : D.Field.Field). capped (shape_size T (field_of p x None))) (sym y.operands) ∙ ap capped (sym keyless-size)
 
     -- the table serves the fields after this one
     table_kept : SizesFrom (rec s p w) t k.at → SizesFrom (rec s p w) t j.at
@@ -198,9 +189,9 @@ module _ (s p : Str) (w : List Scalar) (t : List ℕ) (k : Cursor) (offset : ℕ
         let e : g.after.at ≡ j.at = omega arith in
         subst (λ (i : ℕ). SizesFrom (rec s p w) t i) e (sizes-later (rec s p w) t k.at (j.at - 33) g.command g.after z y.in-stream g.step)
 
-    spot-field : (z e : ℕ) (d : Description) (b : Bool) → z ≡ get_or t (j.at / 33) 0 → described_as p d ≡ shape_type (field_of p f none) → b ≡ is_padding (kind_of (text_of p f.kind))
+    spot-field : (z e : ℕ) (d : Description) (b : Bool) → z ≡ get_or t (j.at / 33) 0 → described_as p d ≡ shape_type (field_of p f None) → b ≡ is_padding (kind_of (text_of p f.kind))
         → e ≡ capped (offset + z) → ahead_left s (Body j) < ahead_left s (Body k)
-        → SpotsFrom (rec s p w) t (cursor_at (Body k) offset) (ASpot (record { name = f.name; offset = offset; size = z; described = d; padding = b }) (cursor_at (Body j) e))
+        → SpotsFrom (rec s p w) t (cursor_at (Body k) offset) (Some (record { name = f.name; offset = offset; size = z; described = d; padding = b }, cursor_at (Body j) e))
     unfolding place_of
     spot-field z e d b u v g i near =
         let more : fields_at s p k.at ≡ whole ∷ fields_at s p j.at = fields-now s k.at r h p f j m in
@@ -224,35 +215,35 @@ module _ (s p : Str) (w : List Scalar) (t : List ℕ) (k : Cursor) (offset : ℕ
       passed-sound = still-sound (rec s p w) t (Body k) (Body j) offset whole more z e sized-so i table_kept d
 
 -- a field by the place of its command
-module _ (s p : Str) (w : List Scalar) (t : List ℕ) (k : Cursor) (offset : ℕ) (r : Sought) (i : SoughtFrom s Keys 11 k.at r) where
-  pub no-spot : r ≡ Nowhere → SpotsFrom (rec s p w) t (cursor_at (Body k) offset) NoSpot
-  no-spot m = spot-none s p w t k offset NoField (fields-none s k.at r i m) refl
+module _ (s p : Str) (w : List Scalar) (t : List ℕ) (k : Cursor) (offset : ℕ) (r : Option (ℕ × ℕ)) (i : SoughtFrom s Keys 11 k.at r) where
+  pub no-spot : r ≡ None → SpotsFrom (rec s p w) t (cursor_at (Body k) offset) None
+  no-spot m = spot-none s p w t k offset None (fields-none s k.at r i m) refl
 
-  pub spot-at : (a j : ℕ) (y : Str) (v : Shape) (x : Text) (c : Cursor) (z e : ℕ) → r ≡ At a j → y ≡ drop a s → Shaped p y v → x ≡ text_at y 1 → c ≡ place j → z ≡ get_or t (j / 33) 0
+  pub spot-at : (a j : ℕ) (y : Str) (v : Shape) (x : Text) (c : Cursor) (z e : ℕ) → r ≡ Some (a, j) → y ≡ drop a s → Shaped p y v → x ≡ text_at y 1 → c ≡ place j → z ≡ get_or t (j / 33) 0
       → e ≡ capped (offset + z)
-      → SpotsFrom (rec s p w) t (cursor_at (Body k) offset) (ASpot (record { name = x; offset = offset; size = z; described = v.described; padding = v.padding }) (cursor_at (Body c) e))
+      → SpotsFrom (rec s p w) t (cursor_at (Body k) offset) (Some (record { name = x; offset = offset; size = z; described = v.described; padding = v.padding }, cursor_at (Body c) e))
   spot-at a j y v x c z e m d g n l u q =
       subst
-      (λ (f : Text). SpotsFrom (rec s p w) t (cursor_at (Body k) offset) (ASpot (record { name = f; offset = offset; size = z; described = v.described; padding = v.padding }) (cursor_at (Body c) e)))
+      (λ (f : Text). SpotsFrom (rec s p w) t (cursor_at (Body k) offset) (Some (record { name = f; offset = offset; size = z; described = v.described; padding = v.padding }, cursor_at (Body c) e)))
       (sym n)
-      (spot-field s p w t k offset (AField (field_at y) c) (fields-found s k.at r i a j m y (field_at y) c d refl l) (field_at y) c refl z e v.described v.padding
+      (spot-field s p w t k offset (Some (field_at y, c)) (fields-found s k.at r i a j m y (field_at y) c d refl l) (field_at y) c refl z e v.described v.padding
       (u ∙ ap (λ (f : Cursor). get_or t (f.at / 33) 0) (sym l)) g.text g.padded q
       (subst (λ (f : Cursor). ahead_left s (Body f) < ahead_left s (Body k)) (sym l) (field-nearer s k.at r i a j m)))
 
 -- a field of which only the place is known
-module _ (s p : Str) (w : List Scalar) (t : List ℕ) (at offset : ℕ) (r : Sought) (i : SoughtFrom s Keys 11 at r) (a k : ℕ) (m : r ≡ At a k) (z e : ℕ) (u : z ≡ get_or t (k / 33) 0)
+module _ (s p : Str) (w : List Scalar) (t : List ℕ) (at offset : ℕ) (r : Option (ℕ × ℕ)) (i : SoughtFrom s Keys 11 at r) (a k : ℕ) (m : r ≡ Some (a, k)) (z e : ℕ) (u : z ≡ get_or t (k / 33) 0)
     (v : e ≡ capped (offset + z)) (d : SoundCursor (rec s p w) t (cursor_at (Body (place at)) offset)) where
   abbrev found-field : D.Field.Field
   found-field = field_at (drop a s)
 
-  found : FieldsFrom s at (AField found-field (place k))
+  found : FieldsFrom s at (Some (found-field, place k))
   found = fields-found s at r i a k m (drop a s) found-field (place k) refl refl refl
 
   pub place-passed : places_from (rec s p w) (cursor_at (Body (place at)) offset) ≡ place_at p (drop a s) offset z ∷ places_from (rec s p w) (cursor_at (Body (place k)) e)
   unfolding place_of
   place-passed =
-      let size = sized-so s p w t (place at) offset (AField found-field (place k)) found found-field (place k) refl z e u v d d in
-      field-passed s p w t (place at) offset (AField found-field (place k)) found found-field (place k) refl z e u v d
+      let size = sized-so s p w t (place at) offset (Some (found-field, place k)) found found-field (place k) refl z e u v d d in
+      field-passed s p w t (place at) offset (Some (found-field, place k)) found found-field (place k) refl z e u v d
       ∙ (λ j.
       record {
         name = text_of p found-field.name;
@@ -264,11 +255,11 @@ module _ (s p : Str) (w : List Scalar) (t : List ℕ) (at offset : ℕ) (r : Sou
       ∷ places_from (rec s p w) (cursor_at (Body (place k)) e))
 
   pub place-sound : SoundCursor (rec s p w) t (cursor_at (Body (place k)) e)
-  place-sound = passed-sound s p w t (place at) offset (AField found-field (place k)) found found-field (place k) refl z e u v d
+  place-sound = passed-sound s p w t (place at) offset (Some (found-field, place k)) found found-field (place k) refl z e u v d
 
 -- a step from any cursor ---------------------------------------------------------------------------------------------------
 
-module _ (s p : Str) (w : List Scalar) (t : List ℕ) (c : SpotCursor) (r : SpotStep) where
+module _ (s p : Str) (w : List Scalar) (t : List ℕ) (c : SpotCursor) (r : Option (Spot × SpotCursor)) where
   pub next-front : (f : D.Family.Family) (k : Cursor) → c.ahead ≡ Front f k → ((v : List Scalar) (u : List ℕ) → SpotsFrom (rec s p v) u (cursor_at (Front f k) c.offset) r) → SpotsFrom (rec s p w) t c r
   next-front f k m g = subst (λ (a : Ahead). SpotsFrom (rec s p w) t (cursor_at a c.offset) r) (sym m) (g w t)
 
@@ -293,7 +284,7 @@ module _ (s p : Str) (t : List ℕ) (n : Str) (c : SpotCursor) where
     pub others-so-far : (k : Cursor) → k ≡ place at → OthersPassed s p t n c (cursor_at (Body k) offset)
     others-so-far k e = subst (λ (x : Cursor). OthersPassed s p t n c (cursor_at (Body x) offset)) (sym e) o
 
-    module _ (r : Sought) (i : SoughtFrom s Keys 11 at r) (a k : ℕ) (m : r ≡ At a k) where
+    module _ (r : Option (ℕ × ℕ)) (i : SoughtFrom s Keys 11 at r) (a k : ℕ) (m : r ≡ Some (a, k)) where
       pub others-on : (x : Str) (b : Bool) (z e : ℕ) → x ≡ name_at s p a → b ≡ eqs x n → b ≡ false → z ≡ get_or t (k / 33) 0 → e ≡ capped (offset + z)
           → OthersPassed s p t n c (cursor_at (Body (place k)) e)
       unfolding name_at
@@ -312,18 +303,18 @@ pub ruleset others-laws = (others-so-far, others-on)
 
 -- where the fields of a type begin ------------------------------------------------------------------------------------------
 
-module _ (s : Str) (h n : ℕ) (e : n ≡ place_part h) (r : Step) (i : r ≡ step_at s n) where
-  pub first-none : (k : Cursor) → r ≡ Stop → TypeSpots s h (cursor_at (Body k) 0)
-  first-none k m = record { list = λ y. absurd (none y); sound = λ y. absurd (none y) }
+module _ (s : Str) (h n : ℕ) (e : n ≡ place_part h) (r : Step D.Command.Command) (i : r ≡ step_at s n) where
+  pub first-none : (k : Cursor) → r ≡ None → TypeSpots s h (cursor_at (Body k) 0)
+  first-none k m = record { list = λ y. absurd (untyped y); sound = λ y. absurd (untyped y) }
     where
-      none : Typed s h → ⊥
-      none y =
+      untyped : Typed s h → ⊥
+      untyped y =
           let g = place-stands s 0 (place_part h) (typed-place s h y) in
-          let q : Next g.command g.after ≡ Stop = sym g.step ∙ ap (step_at s) (sym e) ∙ sym i ∙ m in
+          let q : Some (g.command, g.after) ≡ None = sym g.step ∙ ap (step_at s) (sym e) ∙ sym i ∙ m in
           let z : ◌≡◌ {A = ℕ} 0 1 = cc in omega arith
 
-  module _ (c : Command) (k : Cursor) (m : r ≡ Next c k) where
-    at-step : step_at s (place_part h) ≡ Next c k
+  module _ (c : Command) (k : Cursor) (m : r ≡ Some (c, k)) where
+    at-step : step_at s (place_part h) ≡ Some (c, k)
     at-step = ap (step_at s) (sym e) ∙ sym i ∙ m
 
     begins : (a : Ahead) → body_place a ≡ k.at → ((p : Str) → fields_ahead s p a ≡ handle_fields s p (place_part h)) → TypeSpots s h (cursor_at a 0)
@@ -364,7 +355,7 @@ module _ (s : Str) (h n : ℕ) (e : n ≡ place_part h) (b : ℕ) (j : b ≡ get
       go false q =
           let t = stepped-there s n after i (eqb-false after 0 q) in
           let o : k.at ≡ t.cursor.at = ap (λ (x : Cursor). x.at) l ∙ sym t.to in
-          let u : step_at s (place_part h) ≡ Next t.command t.cursor = ap (step_at s) (sym e) ∙ t.step in
+          let u : step_at s (place_part h) ≡ Some (t.command, t.cursor) = ap (step_at s) (sym e) ∙ t.step in
           begins s h n e (step_at s n) refl t.command t.cursor t.step (Body k) o
           (λ p.
           ap (fields_at s p) o
@@ -374,20 +365,20 @@ pub ruleset first-laws = (first-none, first-family, first_body, first_plain)
 
 -- for loops over the fields --------------------------------------------------------------------------------------------------
 
-module _ (s p : Str) (w : List Scalar) (t : List ℕ) (c : SpotCursor) (o : SpotStep) (f : SpotsFrom (rec s p w) t c o) where
-  pub spots-over-now : SoundCursor (rec s p w) t c → o ≡ NoSpot → places_from (rec s p w) c ≡ []
+module _ (s p : Str) (w : List Scalar) (t : List ℕ) (c : SpotCursor) (o : Option (Spot × SpotCursor)) (f : SpotsFrom (rec s p w) t c o) where
+  pub spots-over-now : SoundCursor (rec s p w) t c → o ≡ None → places_from (rec s p w) c ≡ []
   spots-over-now d m = f.list d ∙ ap (spots_of (rec s p w)) m
 
-  module _ (x : Spot) (k : SpotCursor) (m : o ≡ ASpot x k) where
+  module _ (x : Spot) (k : SpotCursor) (m : o ≡ Some (x, k)) where
     pub spots-now : SoundCursor (rec s p w) t c → places_from (rec s p w) c ≡ spot_of p x ∷ places_from (rec s p w) k
     spots-now d = f.list d ∙ ap (spots_of (rec s p w)) m
 
     -- the cursor after a step is sound too
     pub spots-sound : SoundCursor (rec s p w) t c → SoundCursor (rec s p w) t k
-    spots-sound d = subst (λ (y : SpotStep). SoundAfter (rec s p w) t y) m (f.sound d)
+    spots-sound d = subst (λ (y : Option (Spot × SpotCursor)). SoundAfter (rec s p w) t y) m (f.sound d)
 
     pub spots-nearer : spots_left s k < spots_left s c
-    spots-nearer = let h : suc (spots_left s k) ≤ spots_left s c = subst (λ (y : SpotStep). step_left s y ≤ spots_left s c) m f.left in omega arith
+    spots-nearer = let h : suc (spots_left s k) ≤ spots_left s c = subst (λ (y : Option (Spot × SpotCursor)). step_left s y ≤ spots_left s c) m f.left in omega arith
 
 -- how many fields there can be
 pub spots-few : (s : Str) (c : SpotCursor) → spots_left s c ≤ length s / 33 + 2

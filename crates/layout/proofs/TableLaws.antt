@@ -1,7 +1,7 @@
 -- The table of types is the map by name of the handles; and how a search in it goes. Assumes nothing.
+use Rattle.std.specs.Prelude.{Option, Some, None}
 use Prim.Native.Nat.{ℕ, zero, suc, ◌+◌, ◌≤◌, ◌<◌}
 use mathlib.Core.List.{List, [], ◌∷◌, ◌++◌, map, Memᴰ, append-nil}
-use mathlib.Core.Option.{none, some}
 use mathlib.Core.Bool.{Bool, true, false, false≢true}
 use mathlib.Core.Path.{◌≡◌, refl, sym, ap, subst, ◌∙◌}
 use native.Mathlib.Omega.{arith}
@@ -14,11 +14,8 @@ use Rattle.record.specs.Stretch.{text_of}
 use Rattle.record.specs.Scalars.{Scalar}
 use Rattle.record.specs.Reading.{Rec, rec, schema_of}
 use Rattle.record.specs.declared.text.Text.{Text}
-use Rattle.record.specs.declared.operands.OptText.TheVariants.{Absent, Given}
 use Rattle.record.proofs.Basics.{find-some, eqs-refl, eqs→eq}
 use Rattle.layout.specs.declared.names.TypeName.{TypeName}
-use Rattle.layout.specs.declared.table.TypeFound.{TypeFound}
-use Rattle.layout.specs.declared.table.TypeFound.TheVariants.{NoType, At}
 use Rattle.layout.specs.Sorted.{sorted}
 use Rattle.layout.specs.Layout.{TypeLayout, variant_name, types, type_in}
 use Rattle.record.specs.Fill.{fronted}
@@ -109,13 +106,13 @@ module _ (s p : Str) (w : List Scalar) (n : Str) where
   abbrev R : Rec
   R = rec s p w
 
-  none_found : (t : List ℕ) → ((i : ℕ) → i < length t → eqs (type_name s p (get_or t i 0)) n ≡ false) → type_in n (map (layout_of R) t) ≡ none
+  none_found : (t : List ℕ) → ((i : ℕ) → i < length t → eqs (type_name s p (get_or t i 0)) n ≡ false) → type_in n (map (layout_of R) t) ≡ None
   unfolding type_in find layout_of
   none_found [] h = refl
   none_found (x ∷ t) h = rw (h 0 (omega arith)) (none_found t (λ i k. h (suc i) (omega arith)))
 
   one_found : (t : List ℕ) (i : ℕ) → i < length t → ((j : ℕ) → j < i → eqs (type_name s p (get_or t j 0)) n ≡ false) → eqs (type_name s p (get_or t i 0)) n ≡ true
-      → type_in n (map (layout_of R) t) ≡ some (layout_of R (get_or t i 0))
+      → type_in n (map (layout_of R) t) ≡ Some (layout_of R (get_or t i 0))
   unfolding type_in find layout_of
   one_found [] i h f e = absurd (omega arith)
   one_found (x ∷ t) zero h f e = rw e
@@ -174,11 +171,11 @@ module _ (s p : Str) (t : List ℕ) (n : Str) (lo hi : ℕ) (k : Seeking s p t n
   lower : TypesTable s p t → (i : ℕ) → i < lo → eqs (name i) n ≡ false
   lower y i h = apart-before (name i) n (k.low y i h)
 
-  pub seek-past : hi ≤ lo → length t ≤ lo → FoundType s p t n NoType
+  pub seek-past : hi ≤ lo → length t ≤ lo → FoundType s p t n None
   seek-past h l =
       record { layout = λ y w. ap (type_in n) (sym (y.layouts w)) ∙ none_found s p w n t (λ i q. lower y i (omega arith)); inside = omega arith }
 
-  pub seek-other : (b : Bool) → hi ≤ lo → lo < length t → b ≡ before n (type_name s p (get_or t lo 0)) → b ≡ true → FoundType s p t n NoType
+  pub seek-other : (b : Bool) → hi ≤ lo → lo < length t → b ≡ before n (type_name s p (get_or t lo 0)) → b ≡ true → FoundType s p t n None
   seek-other b h l e z =
       record { layout = λ y w. ap (type_in n) (sym (y.layouts w)) ∙ none_found s p w n t (λ i q. go y i q (ltb i lo) (ltb lo i) refl refl); inside = omega arith }
     where
@@ -191,7 +188,7 @@ module _ (s p : Str) (t : List ℕ) (n : Str) (lo hi : ℕ) (k : Seeking s p t n
           let m : i ≡ lo = omega arith in
           ap (λ (j : ℕ). eqs (name j) n) m ∙ apart-after (name lo) n (sym e ∙ z)
 
-  pub seek_found : (b : Bool) → hi ≤ lo → lo < length t → b ≡ before n (type_name s p (get_or t lo 0)) → b ≡ false → FoundType s p t n (At lo)
+  pub seek_found : (b : Bool) → hi ≤ lo → lo < length t → b ≡ before n (type_name s p (get_or t lo 0)) → b ≡ false → FoundType s p t n (Some lo)
   seek_found b h l e z =
       record {
         layout = λ y w. ap (type_in n) (sym (y.layouts w)) ∙ one_found s p w n t lo l (lower y) (same-between (name lo) n (k.high y lo h l) (sym e ∙ z));
@@ -204,13 +201,13 @@ pub ruleset seek-laws = (seek-past, seek-other, seek_found)
 
 module _ (s p : Str) (t : List ℕ) (y : TypesTable s p t) where
   -- the type of a name that the table has is the one that has it there
-  pub own-type : (w : List Scalar) (i : ℕ) → i < length t → type_in (type_name s p (get_or t i 0)) (types (schema_of (rec s p w))) ≡ some (layout_of (rec s p w) (get_or t i 0))
+  pub own-type : (w : List Scalar) (i : ℕ) → i < length t → type_in (type_name s p (get_or t i 0)) (types (schema_of (rec s p w))) ≡ Some (layout_of (rec s p w) (get_or t i 0))
   own-type w i h =
       ap (type_in (type_name s p (get_or t i 0))) (sym (y.layouts w))
       ∙ one_found s p w _ t i h (λ j k. apart-before _ _ (y.upward j i k h)) (eqs-refl (type_name s p (get_or t i 0)))
 
   -- a name that the table has not is no type's
-  pub no-type : (w : List Scalar) (n : Str) → ((i : ℕ) → i < length t → type_name s p (get_or t i 0) ≡ n → ⊥) → type_in n (types (schema_of (rec s p w))) ≡ none
+  pub no-type : (w : List Scalar) (n : Str) → ((i : ℕ) → i < length t → type_name s p (get_or t i 0) ≡ n → ⊥) → type_in n (types (schema_of (rec s p w))) ≡ None
   no-type w n f = ap (type_in n) (sym (y.layouts w)) ∙ none_found s p w n t (λ i h. go i h (eqs (type_name s p (get_or t i 0)) n) refl)
     where
       go : (i : ℕ) → i < length t → (b : Bool) → eqs (type_name s p (get_or t i 0)) n ≡ b → b ≡ false
@@ -233,7 +230,7 @@ module _ (s p : Str) (t : List ℕ) (y : TypesTable s p t) where
           omega arith
 
   -- what is found has the name that was sought
-  pub found_name : (n : Str) (r : TypeFound) (i : ℕ) → FoundType s p t n r → r ≡ At i → type_name s p (get_or t i 0) ≡ n
+  pub found_name : (n : Str) (r : Option ℕ) (i : ℕ) → FoundType s p t n r → r ≡ Some i → type_name s p (get_or t i 0) ≡ n
   unfolding type_in layout_of
   found_name n r i f m =
       eqs→eq (type_name s p (get_or t i 0)) n
@@ -241,7 +238,7 @@ module _ (s p : Str) (t : List ℕ) (y : TypesTable s p t) where
 
 -- a name that stands at an index is found there
 module _ (s p : Str) (t : List ℕ) (f b : Str) (k i : ℕ) where
-  pub found_here : (c : Bool) → i < length t → c ≡ has_parts s p (get_or t i 0) f k b → c ≡ true → FoundType s p t (composed f k b) (At i)
+  pub found_here : (c : Bool) → i < length t → c ≡ has_parts s p (get_or t i 0) f k b → c ≡ true → FoundType s p t (composed f k b) (Some i)
   found_here c h e z =
       let n : type_name s p (get_or t i 0) ≡ composed f k b = named-so s p (get_or t i 0) f b k (sym e ∙ z) in
       record {
@@ -251,19 +248,19 @@ module _ (s p : Str) (t : List ℕ) (f b : Str) (k i : ℕ) where
 
 -- names in parts ----------------------------------------------------------------------------------------------------------
 
-pub found-whole : (s p : Str) (t : List ℕ) (n : Str) (r : TypeFound) → FoundType s p t (composed n 0 []) r → FoundType s p t n r
+pub found-whole : (s p : Str) (t : List ℕ) (n : Str) (r : Option ℕ) → FoundType s p t (composed n 0 []) r → FoundType s p t n r
 unfolding composed
 found-whole s p t n r f = subst (λ (m : Str). FoundType s p t m r) (append-nil n) f
 
-pub found-parts : (s p past old : Str) (t : List ℕ) (f b : Str) (h k : ℕ) (r : TypeFound) → f ≡ front_of past old h → k ≡ colons_of h → b ≡ back_of past old h
+pub found-parts : (s p past old : Str) (t : List ℕ) (f b : Str) (h k : ℕ) (r : Option ℕ) → f ≡ front_of past old h → k ≡ colons_of h → b ≡ back_of past old h
     → FoundType s p t (composed f k b) r → FoundType s p t (type_name past old h) r
 found-parts s p past old t f b h k r u v w g = subst (λ (m : Str). FoundType s p t m r) (parts-type past old h f b k u v w) g
 
 -- a name of a pool, alone or a family's with a variant's
-module _ (s p q : Str) (t : List ℕ) (n : TypeName) (x : Str) (e : x ≡ text_of q n.front) (r : TypeFound) where
-  pub found-alone : n.back ≡ Absent → FoundType s p t x r → FoundType s p t (name_of q n) r
+module _ (s p q : Str) (t : List ℕ) (n : TypeName) (x : Str) (e : x ≡ text_of q n.front) (r : Option ℕ) where
+  pub found-alone : n.back ≡ None → FoundType s p t x r → FoundType s p t (name_of q n) r
   found-alone a f = rw (a, ← e) f
 
-  pub found-variant : (d : Text) (y : Str) → n.back ≡ Given d → y ≡ text_of q d → FoundType s p t (composed x 2 y) r → FoundType s p t (name_of q n) r
+  pub found-variant : (d : Text) (y : Str) → n.back ≡ Some d → y ≡ text_of q d → FoundType s p t (composed x 2 y) r → FoundType s p t (name_of q n) r
   unfolding composed variant_name
   found-variant d y a g f = rw (a, ← e, ← g) f

@@ -1,7 +1,6 @@
 -- The code's table of the sizes of a record's fields; a size is shape_size of schema.rs, defined in Shapes of record. Assumes nothing.
-use Rattle.std.specs.Prelude.{◌≡◌, ℕ, ◌+◌, ◌/◌, get_or, drop}
+use Rattle.std.specs.Prelude.{◌≡◌, ℕ, ◌+◌, ◌/◌, get_or, drop, None}
 use mathlib.Core.List.{List, Memᴰ}
-use Rattle.std.proofs.Math.Option.{none}
 use Rattle.record.specs.Commands.{field_at, commands_at}
 use Rattle.record.specs.Lists.{field_of}
 use Rattle.record.specs.Shapes.{shape_size, capped}
@@ -9,7 +8,7 @@ use Rattle.record.specs.Reading.{Rec, schema_of}
 
 -- the size of the field whose command is at a place, as far as the limit
 unfoldable pub field_size : Rec → ℕ → ℕ
-field_size r at = capped (shape_size (schema_of r) (field_of r.pool (field_at (drop at r.stream)) none))
+field_size r at = capped (shape_size (schema_of r) (field_of r.pool (field_at (drop at r.stream)) None))
 
 -- the table has the sizes of all fields from a place on; a field's entry is the place after it divided by 33, the bytes that a field takes
 pub record SizesFrom (r : Rec) (t : List ℕ) (from : ℕ) : Type 0 where

@@ -1,5 +1,5 @@
 -- The code's table of the first four bytes of names, which sorts by numbers where these differ. Assumes nothing.
-use Rattle.std.specs.Prelude.{◌≡◌, List, ℕ, ◌+◌, ◌/◌, ◌%◌, get_or}
+use Rattle.std.specs.Prelude.{◌≡◌, List, ℕ, ◌+◌, ◌/◌, ◌%◌, get_or, Option, IfSome}
 use Rattle.record.specs.Base.{Str}
 use Rattle.record.specs.Words.{Fronted}
 use Rattle.layout.specs.Handles.{name_at}
@@ -12,7 +12,6 @@ pub record Fronts (s p : Str) (t : List ℕ) : Type 0 where
 pub record FrontPut (t : List ℕ) (at front : ℕ) (u : List ℕ) : Type 0 where
   pub kept : (s p : Str) → Fronts s p t → Fronted (name_at s p at) front → Fronts s p u
 
--- a number below 2 ^ 32 is the front of an entry that says the place
-pub record FrontRead (t : List ℕ) (at r : ℕ) : Type 0 where
-  pub says : (r ≡ 4294967296 → ⊥) → get_or t (at / 4) 0 % 131072 ≡ at + 1
-  pub front : (r ≡ 4294967296 → ⊥) → r ≡ get_or t (at / 4) 0 / 131072
+-- a front that is found is the front of an entry that says the place
+abbrev pub FrontRead : List ℕ → ℕ → Option ℕ → Type 0
+FrontRead t at r = IfSome r (λ x. (get_or t (at / 4) 0 % 131072 ≡ at + 1) × (x ≡ get_or t (at / 4) 0 / 131072))

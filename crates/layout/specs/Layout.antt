@@ -1,7 +1,6 @@
 -- Flattening: add_type, variant_name, of_schema and of_released of layout.rs, and 01, Flattening. Both sides are flattened by one function.
 -- Assumes nothing.
-use Rattle.std.specs.Prelude.{List, [], ◌∷◌, ◌++◌, map}
-use Rattle.std.proofs.Math.Option.{Option}
+use Rattle.std.specs.Prelude.{List, [], ◌∷◌, ◌++◌, map, Option}
 use Rattle.record.specs.Base.{Str, eqs, find}
 use Rattle.record.specs.Schema.{Schema, Struct, Family, Variant}
 use Rattle.record.specs.Shapes.{FieldLayout, places, fam_prefix}

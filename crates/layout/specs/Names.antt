@@ -1,13 +1,11 @@
 -- The name of a type in parts, as the code compares and puts it: a front, up to two colons and a back. The name itself is variant_name of
 -- layout.rs, defined in Layout. Assumes nothing.
-use Rattle.std.specs.Prelude.{[], ◌∷◌, ◌++◌, Bool, cond, ◌&&◌, ℕ, ◌+◌, ◌-◌, ◌≤◌, eqb, length, take, drop}
-use Rattle.std.proofs.Math.Option.{Option, none, some}
+use Rattle.std.specs.Prelude.{[], ◌∷◌, ◌++◌, Bool, cond, ◌&&◌, ℕ, ◌+◌, ◌-◌, ◌≤◌, eqb, length, take, drop, Option, Some, None}
 use Rattle.record.specs.Base.{Str, eqs}
 use Rattle.record.specs.Stretch.{text_of}
 use Rattle.record.specs.Operands.{text_at}
 use Rattle.record.specs.Lists.{opt_of}
 use Rattle.record.specs.declared.text.Text.{Text}
-use Rattle.record.specs.declared.operands.OptText.TheVariants.{Absent, Given}
 use Rattle.layout.specs.Layout.{variant_name}
 use Rattle.layout.specs.Handles.{name_at, family_part, place_part}
 use Rattle.layout.specs.declared.names.TypeName.{TypeName}
@@ -36,8 +34,8 @@ pub record Parts (f : Str) (k : ℕ) (b : Str) : Type 0 where
 
 -- a name alone, or a family's with a variant's
 abbrev pub name_with : Str → Option Str → Str
-name_with f none = f
-name_with f (some d) = variant_name f d
+name_with f None = f
+name_with f (Some d) = variant_name f d
 
 -- a type's name as texts of a pool
 abbrev pub name_of : Str → TypeName → Str
@@ -48,5 +46,5 @@ name_text_at s at = text_at (drop at s) 1
 
 unfoldable pub stretches_of : Str → ℕ → TypeName
 stretches_of s h =
-    cond (eqb (family_part h) 0) (record { front = name_text_at s (place_part h); back = Absent })
-    (record { front = name_text_at s (family_part h - 1); back = Given (name_text_at s (place_part h)) })
+    cond (eqb (family_part h) 0) (record { front = name_text_at s (place_part h); back = None })
+    (record { front = name_text_at s (family_part h - 1); back = Some (name_text_at s (place_part h)) })

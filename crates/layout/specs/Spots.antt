@@ -1,8 +1,7 @@
 -- The fields of a type one after the other: what the code's cursor has ahead, and what a step along it answers. The fields are add_type and
 -- fam_prefix of layout.rs, defined in Shapes of record. Assumes nothing.
-use Rattle.std.specs.Prelude.{◌≡◌, ℕ, suc, ◌+◌, ◌-◌, ◌/◌, ◌≤◌, length, drop}
+use Rattle.std.specs.Prelude.{◌≡◌, ℕ, suc, ◌+◌, ◌-◌, ◌/◌, ◌≤◌, length, drop, Option, Some, None}
 use mathlib.Core.List.{List, [], ◌∷◌, ◌++◌, Memᴰ}
-use Rattle.std.proofs.Math.Option.{none}
 use Rattle.record.specs.Base.{Str, eqs, find}
 use Rattle.record.specs.Stretch.{text_of}
 use Rattle.record.specs.Operands.{text_at}
@@ -20,8 +19,6 @@ use Rattle.layout.specs.declared.spots.Spot.{Spot}
 use Rattle.layout.specs.declared.spots.Ahead.{Ahead}
 use Rattle.layout.specs.declared.spots.Ahead.TheVariants.{Front, Middle, Body}
 use Rattle.layout.specs.declared.spots.SpotCursor.{SpotCursor}
-use Rattle.layout.specs.declared.spots.SpotStep.{SpotStep}
-use Rattle.layout.specs.declared.spots.SpotStep.TheVariants.{NoSpot, ASpot}
 use Rattle.layout.specs.Handles.{layout_of}
 use Rattle.layout.specs.Table.{Typed}
 use Rattle.layout.specs.FieldSizes.{SizesFrom, SizesTable}
@@ -42,7 +39,7 @@ place_at p s offset size = record {
   name = text_of p (text_at s 1);
   offset = offset;
   size = size;
-  described = shape_type (field_of p (field_at s) none);
+  described = shape_type (field_of p (field_at s) None);
   padding = is_padding (kind_of (text_of p (text_at s 4)));
 }
 
@@ -82,19 +79,19 @@ pub record SoundCursor (r : Rec) (t : List ℕ) (c : SpotCursor) : Type 0 where
 
 -- a step ------------------------------------------------------------------------------------------------------------------
 
-abbrev pub spots_of : Rec → SpotStep → List FieldLayout
-spots_of r NoSpot = []
-spots_of r (ASpot x d) = spot_of r.pool x ∷ places_from r d
+abbrev pub spots_of : Rec → Option (Spot × SpotCursor) → List FieldLayout
+spots_of r None = []
+spots_of r (Some (x, d)) = spot_of r.pool x ∷ places_from r d
 
-abbrev pub SoundAfter : Rec → List ℕ → SpotStep → Type 0
-SoundAfter r t NoSpot = Unit
-SoundAfter r t (ASpot x d) = SoundCursor r t d
+abbrev pub SoundAfter : Rec → List ℕ → Option (Spot × SpotCursor) → Type 0
+SoundAfter r t None = Unit
+SoundAfter r t (Some (x, d)) = SoundCursor r t d
 
-abbrev pub step_left : Str → SpotStep → ℕ
-step_left s NoSpot = 0
-step_left s (ASpot x d) = suc (spots_left s d)
+abbrev pub step_left : Str → Option (Spot × SpotCursor) → ℕ
+step_left s None = 0
+step_left s (Some (x, d)) = suc (spots_left s d)
 
-pub record SpotsFrom (r : Rec) (t : List ℕ) (c : SpotCursor) (step : SpotStep) : Type 0 where
+pub record SpotsFrom (r : Rec) (t : List ℕ) (c : SpotCursor) (step : Option (Spot × SpotCursor)) : Type 0 where
   pub list : SoundCursor r t c → places_from r c ≡ spots_of r step
   pub sound : SoundCursor r t c → SoundAfter r t step
   pub left : step_left r.stream step ≤ spots_left r.stream c

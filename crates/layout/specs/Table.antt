@@ -1,14 +1,11 @@
 -- The sorted table of a record's types: one handle a type, in byte order of the names. The code's way to the layouts of Layout, and 01's "walk to
 -- the next name in byte order". Assumes nothing.
-use Rattle.std.specs.Prelude.{◌≡◌, true, ◌⊎◌, ℕ, suc, ◌+◌, ◌<◌, ◌≤◌, length, get_or}
+use Rattle.std.specs.Prelude.{◌≡◌, true, ◌⊎◌, ℕ, suc, ◌+◌, ◌<◌, ◌≤◌, length, get_or, Option, Some, None}
 use mathlib.Core.List.{List, map, Memᴰ}
-use Rattle.std.proofs.Math.Option.{Option, none, some}
 use Rattle.record.specs.Base.{Str, before}
 use Rattle.record.specs.Scalars.{Scalar}
 use Rattle.record.specs.Commands.{commands_at}
 use Rattle.record.specs.Reading.{Rec, rec, schema_of}
-use Rattle.layout.specs.declared.table.TypeFound.{TypeFound}
-use Rattle.layout.specs.declared.table.TypeFound.TheVariants.{NoType, At}
 use Rattle.layout.specs.Layout.{TypeLayout, types, type_in}
 use Rattle.layout.specs.Handles.{family_part, place_part, type_name, layout_of}
 
@@ -25,15 +22,15 @@ pub record TypesTable (s p : Str) (t : List ℕ) : Type 0 where
   pub typed : (i : ℕ) → i < length t → Typed s (get_or t i 0)
 
 -- what a look-up answers: the layout at the index, and one more than the index
-abbrev pub found_in : Rec → List ℕ → TypeFound → Option TypeLayout
-found_in r t NoType = none
-found_in r t (At i) = some (layout_of r (get_or t i 0))
+abbrev pub found_in : Rec → List ℕ → Option ℕ → Option TypeLayout
+found_in r t None = None
+found_in r t (Some i) = Some (layout_of r (get_or t i 0))
 
-abbrev pub found_end : TypeFound → ℕ
-found_end NoType = 0
-found_end (At i) = suc i
+abbrev pub found_end : Option ℕ → ℕ
+found_end None = 0
+found_end (Some i) = suc i
 
 -- an index of the table, or none; and where the table is the record's, the type of that name, whatever the scalar words
-pub record FoundType (s p : Str) (t : List ℕ) (n : Str) (r : TypeFound) : Type 0 where
+pub record FoundType (s p : Str) (t : List ℕ) (n : Str) (r : Option ℕ) : Type 0 where
   pub layout : TypesTable s p t → (w : List Scalar) → type_in n (types (schema_of (rec s p w))) ≡ found_in (rec s p w) t r
   pub inside : found_end r ≤ length t

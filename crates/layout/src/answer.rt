@@ -5,7 +5,7 @@ ghost use Rattle.layout.specs.Answer.{refusal_of, Answered};
 use record::refusal::{Refusal, Side};
 
 #[repr(C)]
-#[derive(Clone, Copy)]
+#[derive(Clone, Copy, PartialEq, Eq)]
 pub struct Answer {
     pub number: u32,
     pub side: u32,

@@ -6,7 +6,7 @@ ghost use Rattle.layout.specs.Room.{Room};
 ghost use Rattle.layout.specs.Constants.{ConstantsTable};
 
 use crate::handles::fill_places;
-use crate::table::arrange_few;
+use crate::table::arrange_handles;
 use record::command::{Constant, constant_at};
 use record::cut::from;
 
@@ -17,7 +17,7 @@ fn fill_constants(stream: &[u8], pool: &[u8], table: &mut [u32], scratch: &mut [
         ConstantsTable s pool.now (take result table.new) × (result ≤ length s / 4) }
 {
     let n = fill_places(stream, 2, table);
-    arrange_few(stream, pool, &mut table[..n], &mut scratch[..n])
+    arrange_handles::<1>(stream, pool, &mut table[..n], &mut scratch[..n])
 }
 
 // The table of a record's constants at the front of `table`; and how many they are.
@@ -26,13 +26,8 @@ pub fn constant_table(stream: &[u8], pool: &[u8], table: &mut [u32], scratch: &m
         (length s ≤ 32768 → Room s table.old → Room s scratch.old
         → ConstantsTable s pool.now (take result table.new)) × (result ≤ length table.old) }
 {
-    if 32768 < stream.len() {
-        return 0;
-    }
-    if table.len() < stream.len() / 4 {
-        return 0;
-    }
-    if scratch.len() < stream.len() / 4 {
+    let most = stream.len() / 4;
+    if 32768 < stream.len() || table.len() < most || scratch.len() < most {
         return 0;
     }
     fill_constants(stream, pool, table, scratch)

@@ -7,7 +7,7 @@ ghost use Rattle.layout.specs.Room.{SizesRoom};
 ghost use Rattle.layout.specs.FieldSizes.{SizesTable};
 
 use record::cut;
-use record::seek::{Between, Sought, seek};
+use record::seek::{Between, seek};
 use record::sizes::field_size;
 
 // A field takes 33 bytes of the stream, so no two fields have one entry: the place after a field divided by 33.
@@ -15,21 +15,16 @@ fn put_size(sizes: &mut [u64], after: usize, size: u64)
     ensures { sizes.new ≡ set sizes.old (after / 33) size }
 {
     let entry = after / 33;
-    if sizes.len() <= entry {
-        return;
+    if entry < sizes.len() {
+        sizes[entry] = size;
     }
-    sizes[entry] = size;
 }
 
 // The size of the field before a place; a table that is too short has 0 for it.
 pub fn size_before(sizes: &[u64], after: usize) -> u64
     ensures { result ≡ get_or sizes.now (after / 33) 0 }
 {
-    let entry = after / 33;
-    if sizes.len() <= entry {
-        return 0;
-    }
-    sizes[entry]
+    sizes.get(after / 33).copied().unwrap_or(0)
 }
 
 // The sizes of all fields.
@@ -39,10 +34,7 @@ pub fn fill_sizes(rows: &[u8], stream: &[u8], pool: &[u8], index: &[u16], sizes:
         SizesTable cur sizes.new }
 {
     let mut at = 0;
-    loop {
-        let Sought::At(place, after) = seek(stream, at, 11, Between::Anything) else {
-            return;
-        };
+    while let Some((place, after)) = seek(stream, at, 11, Between::Anything) {
         put_size(
             sizes,
             after,

@@ -8,18 +8,15 @@ ghost use Rattle.layout.specs.Fronts.{FrontPut, FrontRead, Fronts};
 use crate::names::{family_part, name_at, place_part, type_before};
 use record::words::front_of;
 
-// What stands for the front of a name that the table does not have.
-const UNKNOWN: u64 = 4294967296;
+// Above every front: it has four bytes.
+const FRONTS_END: u64 = 4294967296;
 
 // Puts the front of the name at a place, with the place. A command takes four bytes at least, so no two types have one entry: their place divided
 // by four.
 fn put_front(fronts: &mut [u64], place: usize, front: u64)
     ensures { FrontPut fronts.old place front fronts.new }
 {
-    if 65536 <= place {
-        return;
-    }
-    if UNKNOWN <= front {
+    if 65536 <= place || FRONTS_END <= front {
         return;
     }
     let entry = place / 4;
@@ -29,22 +26,15 @@ fn put_front(fronts: &mut [u64], place: usize, front: u64)
     fronts[entry] = front * 131072 + (place as u64) + 1;
 }
 
-// The front of the name at a place.
-fn front_at(fronts: &[u64], place: usize) -> u64
+// The front of the name at a place, where the table has it.
+fn front_at(fronts: &[u64], place: usize) -> Option<u64>
     ensures { FrontRead fronts.now place result }
 {
-    let entry = place / 4;
-    if fronts.len() <= entry {
-        return UNKNOWN;
+    let e = *fronts.get(place / 4)?;
+    if 65536 <= place || e % 131072 != (place as u64) + 1 {
+        return None;
     }
-    let e = fronts[entry];
-    if 65536 <= place {
-        return UNKNOWN;
-    }
-    if e % 131072 != (place as u64) + 1 {
-        return UNKNOWN;
-    }
-    e / 131072
+    Some(e / 131072)
 }
 
 // The fronts of the names of some types, in a table without entries.
@@ -52,11 +42,9 @@ pub(crate) fn fill_fronts(stream: &[u8], pool: &[u8], handles: &[u32], fronts: &
     requires { Clear fronts.old }
     ensures { Fronts stream.now pool.now fronts.new }
 {
-    let mut i = 0;
-    while i < handles.len() {
-        let place = place_part(handles[i]);
+    for handle in handles {
+        let place = place_part(*handle);
         put_front(fronts, place, front_of(name_at(stream, pool, place)));
-        i += 1;
     }
 }
 
@@ -66,22 +54,14 @@ pub(crate) fn fronted_before(stream: &[u8], pool: &[u8], fronts: &[u64], g: u32,
     ensures { let key : ℕ → Str = type_name stream.now pool.now in
         result ≡ before (key g) (key h) }
 {
-    if family_part(g) != family_part(h) {
-        return type_before(stream, pool, g, h);
-    }
-    let x = front_at(fronts, place_part(g));
-    let y = front_at(fronts, place_part(h));
-    if x == UNKNOWN {
-        return type_before(stream, pool, g, h);
-    }
-    if y == UNKNOWN {
-        return type_before(stream, pool, g, h);
-    }
-    if x < y {
-        return true;
-    }
-    if y < x {
-        return false;
+    if family_part(g) == family_part(h) {
+        let a = front_at(fronts, place_part(g));
+        let b = front_at(fronts, place_part(h));
+        if let (Some(x), Some(y)) = (a, b) {
+            if x != y {
+                return x < y;
+            }
+        }
     }
     type_before(stream, pool, g, h)
 }

@@ -8,7 +8,7 @@ ghost use Rattle.layout.specs.Room.{Room};
 ghost use Rattle.layout.specs.Handles.{families_from, handles_of};
 
 use record::le::byte_at;
-use record::seek::{Between, Sought, after_at, passes, seek};
+use record::seek::{Between, after_at, passes, seek};
 
 // A place as a part of a handle.
 fn narrow(at: usize) -> u32
@@ -26,14 +26,12 @@ pub(crate) fn fill_places(stream: &[u8], number: u8, out: &mut [u32]) -> usize
 {
     let mut at = 0;
     let mut n = 0;
-    loop {
-        let Sought::At(place, after) = seek(stream, at, number, Between::Anything) else {
-            return n;
-        };
+    while let Some((place, after)) = seek(stream, at, number, Between::Anything) {
         out[n] = narrow(place);
         n += 1;
         at = after;
     }
+    n
 }
 
 // How many structures a record has, and the place of its first family; where there is none it is the stream's end.

@@ -21,11 +21,11 @@ ghost use Rattle.layout.specs.Tables.{Tables};
 use crate::field_sizes::size_before;
 use crate::measure::measure_fields;
 use crate::names::{TypeName, put_name, type_name};
-use crate::spots::{Ahead, Spot, SpotStep, first_spot, next_spot};
+use crate::spots::{Ahead, Spot, first_spot, next_spot};
 use record::cut;
 use record::describe::{put_description, put_shape};
 use record::operands::text_at;
-use record::seek::{Between, Sought, seek};
+use record::seek::{Between, seek};
 use record::sizes::sum;
 use record::text::Text;
 use record::writer::{put, put_number, put_text};
@@ -106,15 +106,13 @@ fn put_fields(
     let mut end = at;
     let mut next = from;
     let mut offset = start;
-    loop {
-        let Sought::At(here, after) = seek(stream, next, 11, Between::Keys) else {
-            return end;
-        };
+    while let Some((here, after)) = seek(stream, next, 11, Between::Keys) {
         let size = size_before(sizes, after);
         end = put_field(out, end, pool, cut::from(stream, here), owner, offset, size);
         offset = sum(offset, size);
         next = after;
     }
+    end
 }
 
 // Puts the lines of a record's fields from a place on, or only measures them, where the buffer is at its end.
@@ -162,7 +160,7 @@ fn put_type(
         if let Ahead::Body(k) = ahead {
             return put_body(out, end, stream, pool, sizes, owner, k.at, cursor.offset);
         }
-        let SpotStep::ASpot(x, after) = next_spot(rows, stream, pool, sizes, cursor) else {
+        let Some((x, after)) = next_spot(rows, stream, pool, sizes, cursor) else {
             return end;
         };
         end = put_line(out, end, pool, owner, x);
@@ -186,10 +184,8 @@ pub(crate) fn put_types(
         × (result ≤ length types.now * lines_most cur.stream) × (result ≤ 1099511627776) }
 {
     let mut end: usize = 0;
-    let mut i = 0;
-    while i < types.len() {
-        end = put_type(out, end, rows, stream, pool, sizes, types[i]);
-        i += 1;
+    for handle in types {
+        end = put_type(out, end, rows, stream, pool, sizes, *handle);
     }
     end
 }

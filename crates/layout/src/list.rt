@@ -1,5 +1,5 @@
 // The list call: the layouts of a record, one line a field.
-ghost use Rattle.std.specs.Prelude.{◌≤◌, length};
+ghost use Rattle.std.specs.Prelude.{◌+◌, ◌/◌, ◌<◌, ◌≤◌, length};
 ghost use Rattle.record.specs.Scalars.{scalars_of, built_in};
 ghost use Rattle.record.specs.Index.{IndexRoom};
 ghost use Rattle.record.specs.Reading.{Rec, rec, schema_of};
@@ -11,9 +11,9 @@ ghost use Rattle.layout.specs.Answer.{text_or, list, Answered};
 
 use crate::answer::{Answer, refused};
 use crate::lines::put_types;
-use crate::tables::{fill_few, fill_tables};
+use crate::tables::{fill_tables, fill_with};
 use record::index::fill_index;
-use record::read::{Outcome, read_record};
+use record::read::read_record;
 use record::refusal::Side;
 use record::scalars::built_in;
 
@@ -99,40 +99,24 @@ fn list_lent(
     list_tables(rows, stream, pool, &types[..n], sizes, out)
 }
 
-// The list of a record that can be read, with tables for the longest stream that number 8 lets pass.
-fn list_long(rows: &[u8], stream: &[u8], pool: &[u8], out: &mut [u8]) -> Answer
+// The list of a record that can be read, with tables for a stream of its length.
+fn list_sized<const INDEX: usize, const TYPES: usize, const SIZES: usize>(
+    rows: &[u8],
+    stream: &[u8],
+    pool: &[u8],
+    out: &mut [u8],
+) -> Answer
     requires { let cur : Rec = rec stream.now pool.now (scalars_of rows.now) in
-        (length cur.stream ≤ 32768) × Exact cur }
+        (length cur.stream ≤ 32768) × Exact cur
+        × (256 + length cur.stream / 7 < INDEX) × (length cur.stream / 4 ≤ TYPES) × (length cur.stream / 33 < SIZES)
+        × (INDEX ≤ 4938) × (TYPES ≤ 8192) × (SIZES ≤ 993) }
     ensures { let cur : Rec = rec stream.now pool.now (scalars_of rows.now) in
         Answered out.old out.new (text_or (length out.old) 0 (list_of (schema_of cur))) result }
 {
-    let mut index = [0u16; 4938];
-    let mut types = [0u32; 8192];
-    let mut scratch = [0u32; 8192];
-    let mut sizes = [0u64; 993];
-    list_lent(
-        rows,
-        stream,
-        pool,
-        &mut index,
-        &mut types,
-        &mut scratch,
-        &mut sizes,
-        out,
-    )
-}
-
-// The list of a short record, with tables of its own, since clearing those for a long one takes longer than its list.
-fn list_short(rows: &[u8], stream: &[u8], pool: &[u8], out: &mut [u8]) -> Answer
-    requires { let cur : Rec = rec stream.now pool.now (scalars_of rows.now) in
-        (length cur.stream ≤ 2048) × Exact cur }
-    ensures { let cur : Rec = rec stream.now pool.now (scalars_of rows.now) in
-        Answered out.old out.new (text_or (length out.old) 0 (list_of (schema_of cur))) result }
-{
-    let mut index = [0u16; 549];
-    let mut types = [0u32; 512];
-    let mut scratch = [0u32; 512];
-    let mut sizes = [0u64; 63];
+    let mut index = [0u16; INDEX];
+    let mut types = [0u32; TYPES];
+    let mut scratch = [0u32; TYPES];
+    let mut sizes = [0u64; SIZES];
     list_lent(
         rows,
         stream,
@@ -156,7 +140,15 @@ fn list_tiny(rows: &[u8], stream: &[u8], pool: &[u8], out: &mut [u8]) -> Answer
     let mut types = [0u32; 128];
     let mut scratch = [0u32; 128];
     let mut sizes = [0u64; 16];
-    let n = fill_few(rows, stream, pool, &mut types, &mut scratch, &mut sizes);
+    let n = fill_with::<1>(
+        rows,
+        stream,
+        pool,
+        &[],
+        &mut types,
+        &mut scratch,
+        &mut sizes,
+    );
     list_tables(rows, stream, pool, &types[..n], &sizes, out)
 }
 
@@ -170,10 +162,11 @@ fn list_read(rows: &[u8], stream: &[u8], pool: &[u8], out: &mut [u8]) -> Answer
     if stream.len() <= 512 {
         return list_tiny(rows, stream, pool, out);
     }
+    // Clearing the tables for the longest stream that number 8 lets pass takes longer than the list of a short record.
     if stream.len() <= 2048 {
-        return list_short(rows, stream, pool, out);
+        return list_sized::<549, 512, 63>(rows, stream, pool, out);
     }
-    list_long(rows, stream, pool, out)
+    list_sized::<4938, 8192, 993>(rows, stream, pool, out)
 }
 
 // The list of a record, read as one side.
@@ -182,7 +175,7 @@ pub fn list_layouts(side: Side, stream: &[u8], pool: &[u8], out: &mut [u8]) -> A
         Answered out.old out.new (list (length out.old) side cur) result }
 {
     let rows = built_in();
-    if let Outcome::Refused(refusal, place) = read_record(side, &rows, stream, pool) {
+    if let Err((refusal, place)) = read_record(side, &rows, stream, pool) {
         return refused(side, refusal, place);
     }
     list_read(&rows, stream, pool, out)

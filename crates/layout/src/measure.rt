@@ -14,7 +14,7 @@ use crate::names::{TypeName, name_len};
 use record::cut;
 use record::describe::shape_len;
 use record::operands::text_at;
-use record::seek::{Between, Sought, seek};
+use record::seek::{Between, seek};
 use record::sizes::sum;
 use record::text::bytes_of;
 use record::writer::{after, number_len};
@@ -46,14 +46,12 @@ pub(crate) fn measure_fields(
     let mut end = at;
     let mut next = from;
     let mut offset = start;
-    loop {
-        let Sought::At(here, past) = seek(stream, next, 11, Between::Keys) else {
-            return end;
-        };
+    while let Some((here, past)) = seek(stream, next, 11, Between::Keys) {
         let size = size_before(sizes, past);
         let rest = field_len(pool, cut::from(stream, here), offset, size);
         end = after(end, n + rest);
         offset = sum(offset, size);
         next = past;
     }
+    end
 }

@@ -7,7 +7,7 @@ ghost use Rattle.layout.specs.Names.{composed, front_of, colons_of, back_of, has
 
 use record::cut::from;
 use record::le::byte_at;
-use record::operands::{OptText, text_at};
+use record::operands::text_at;
 use record::text::{Text, bytes_of, same};
 use record::words::{skip, text_before};
 use record::writer::{put_text, put_worded};
@@ -43,7 +43,7 @@ pub fn name_at<'a>(stream: &[u8], pool: &'a [u8], at: usize) -> &'a [u8]
 #[derive(Clone, Copy)]
 pub struct TypeName {
     pub front: Text,
-    pub back: OptText,
+    pub back: Option<Text>,
 }
 
 // The name of the type of a handle.
@@ -55,12 +55,12 @@ pub fn type_name(stream: &[u8], handle: u32) -> TypeName
     if family == 0 {
         return TypeName {
             front: own,
-            back: OptText::Absent,
+            back: None,
         };
     }
     TypeName {
         front: name_text(stream, family - 1),
-        back: OptText::Given(own),
+        back: Some(own),
     }
 }
 
@@ -79,10 +79,7 @@ pub fn front<'a>(stream: &[u8], pool: &'a [u8], handle: u32) -> &'a [u8]
 pub fn colons(handle: u32) -> usize
     ensures { (result ≡ colons_of handle) × (result ≤ 2) }
 {
-    if family_part(handle) == 0 {
-        return 0;
-    }
-    2
+    if family_part(handle) == 0 { 0 } else { 2 }
 }
 
 // What follows the colons: a variant's own name.
@@ -124,25 +121,17 @@ fn composed_before(f: &[u8], k: usize, b: &[u8], g: &[u8], l: usize, d: &[u8]) -
 {
     let n = composed_len(f, k, b);
     let m = composed_len(g, l, d);
-    let mut i = skip(f, g);
-    while i < n {
+    for i in skip(f, g)..n {
         if m <= i {
             return false;
         }
         let x = composed_byte(f, k, b, i);
         let y = composed_byte(g, l, d, i);
-        if x < y {
-            return true;
+        if x != y {
+            return x < y;
         }
-        if y < x {
-            return false;
-        }
-        i += 1;
     }
-    if i < m {
-        return true;
-    }
-    false
+    n < m
 }
 
 // Whether one name in parts goes before another, by words where the fronts are of one length: if they differ they decide, else what follows.
@@ -207,13 +196,9 @@ pub(crate) fn type_has(
 ) -> bool
     ensures { result ≡ has_parts stream.now pool.now handle g.now l d.now }
 {
-    if colons(handle) != l {
-        return false;
-    }
-    if same(back(stream, pool, handle), d) {
-        return same(front(stream, pool, handle), g);
-    }
-    false
+    colons(handle) == l
+        && same(back(stream, pool, handle), d)
+        && same(front(stream, pool, handle), g)
 }
 
 // Whether one type's name goes before another's; in one family, and of two that are no variants, the own names decide.
@@ -238,7 +223,7 @@ pub fn put_name(out: &mut [u8], at: usize, pool: &[u8], name: TypeName) -> usize
     let front = name.front;
     let back = name.back;
     let next = put_text(out, at, pool, front);
-    let OptText::Given(own) = back else {
+    let Some(own) = back else {
         return next;
     };
     put_worded(out, next, b"::", pool, own)
@@ -251,7 +236,7 @@ pub(crate) fn name_len(pool: &[u8], name: TypeName) -> usize
     let front = name.front;
     let back = name.back;
     let n = bytes_of(pool, front).len();
-    let OptText::Given(own) = back else {
+    let Some(own) = back else {
         return n;
     };
     n + 2 + bytes_of(pool, own).len()

@@ -46,12 +46,12 @@ fn merge_runs(
 {
     let mut i = 0;
     let mut j = 0;
-    while i + j < out.len() {
+    for slot in out.iter_mut() {
         if second_next(stream, pool, fronts, left, right, i, j) {
-            out[i + j] = right[j];
+            *slot = right[j];
             j += 1;
         } else {
-            out[i + j] = left[i];
+            *slot = left[i];
             i += 1;
         }
     }
@@ -62,10 +62,7 @@ fn bound(a: usize, w: usize, n: usize) -> usize
     requires { a ≤ n }
     ensures { Bounded a w n result }
 {
-    if n - a < w {
-        return n;
-    }
-    a + w
+    a + w.min(n - a)
 }
 
 // Each two stretches of w handles merged.
@@ -131,15 +128,11 @@ pub(crate) fn keep_last(stream: &[u8], pool: &[u8], fronts: &[u64], handles: &mu
     ensures { let key : ℕ → Str = type_name stream.now pool.now in
         (take result handles.new ≡ lasts key handles.old) × (result ≤ length handles.old) }
 {
-    let mut i = 0;
     let mut n = 0;
-    while i < handles.len() {
+    for i in 0..handles.len() {
         if ends_run(stream, pool, fronts, handles, i) {
             handles[n] = handles[i];
             n += 1;
-            i += 1;
-        } else {
-            i += 1;
         }
     }
     n
@@ -150,13 +143,5 @@ pub(crate) fn ascending(stream: &[u8], pool: &[u8], handles: &[u32]) -> bool
     ensures { let key : ℕ → Str = type_name stream.now pool.now in
         result ≡ ascends key handles.now }
 {
-    let mut i = 0;
-    while i + 1 < handles.len() {
-        if type_before(stream, pool, handles[i], handles[i + 1]) {
-            i += 1;
-        } else {
-            return false;
-        }
-    }
-    true
+    handles.is_sorted_by(|g, h| type_before(stream, pool, *g, *h))
 }

@@ -9,13 +9,13 @@ ghost use Rattle.layout.specs.Spots.{cursor_at, SpotsFrom, TypeSpots, OthersPass
 
 use crate::field_sizes::size_before;
 use crate::names::{name_at, place_part};
-use record::command::{Command, Cursor, Family, Step};
+use record::command::{Command, Cursor, Family};
 use record::cut;
 use record::describe::{Description, shape_at};
 use record::le::byte_at;
-use record::operands::{OptText, text_at};
+use record::operands::text_at;
 use record::reader::command_at;
-use record::seek::{Between, Sought, after_at, seek};
+use record::seek::{Between, after_at, seek};
 use record::sizes::{front_bytes, scalar_bytes, sum, wide};
 use record::text::{Text, same};
 
@@ -44,12 +44,6 @@ pub struct SpotCursor {
     pub offset: u64,
 }
 
-#[derive(Clone, Copy)]
-pub enum SpotStep {
-    NoSpot,
-    ASpot(Spot, SpotCursor),
-}
-
 // The front of a type, by its handle. Of a number that is no type's handle the contract asks nothing.
 pub fn first_spot(stream: &[u8], handle: u32) -> SpotCursor
     ensures { TypeSpots stream.now handle result }
@@ -62,7 +56,7 @@ pub fn first_spot(stream: &[u8], handle: u32) -> SpotCursor
             offset: 0,
         };
     }
-    let Step::Next(command, after) = command_at(stream, at) else {
+    let Some((command, after)) = command_at(stream, at) else {
         return SpotCursor {
             ahead: Ahead::Body(Cursor::new()),
             offset: 0,
@@ -81,7 +75,13 @@ pub fn first_spot(stream: &[u8], handle: u32) -> SpotCursor
 }
 
 // The next field of a type.
-pub fn next_spot(rows: &[u8], stream: &[u8], pool: &[u8], sizes: &[u64], c: SpotCursor) -> SpotStep
+pub fn next_spot(
+    rows: &[u8],
+    stream: &[u8],
+    pool: &[u8],
+    sizes: &[u64],
+    c: SpotCursor,
+) -> Option<(Spot, SpotCursor)>
     ensures { let cur : Rec = rec stream.now pool.now (scalars_of rows.now) in
         SpotsFrom cur sizes.now c result }
 {
@@ -95,14 +95,20 @@ pub fn next_spot(rows: &[u8], stream: &[u8], pool: &[u8], sizes: &[u64], c: Spot
 }
 
 // A family's discriminant, an enum.
-fn discriminant_spot(stream: &[u8], pool: &[u8], f: Family, k: Cursor, offset: u64) -> SpotStep
+fn discriminant_spot(
+    stream: &[u8],
+    pool: &[u8],
+    f: Family,
+    k: Cursor,
+    offset: u64,
+) -> Option<(Spot, SpotCursor)>
     ensures { let ahead : SpotCursor = cursor_at (Ahead.Front f k) offset in
         ((w : List Scalar) (t : List ℕ) → SpotsFrom (rec stream.now pool.now w) t ahead result) }
 {
     let name = f.discriminant_field;
     let named = f.discriminant_type;
-    let size = wide(front_bytes(stream, pool, OptText::Given(named)));
-    SpotStep::ASpot(
+    let size = wide(front_bytes(stream, pool, Some(named)));
+    Some((
         Spot {
             name,
             offset,
@@ -114,18 +120,24 @@ fn discriminant_spot(stream: &[u8], pool: &[u8], f: Family, k: Cursor, offset: u
             ahead: Ahead::Middle(f, k),
             offset: sum(offset, size),
         },
-    )
+    ))
 }
 
 // A family's length field, a scalar.
-fn length_spot(rows: &[u8], pool: &[u8], f: Family, k: Cursor, offset: u64) -> SpotStep
+fn length_spot(
+    rows: &[u8],
+    pool: &[u8],
+    f: Family,
+    k: Cursor,
+    offset: u64,
+) -> Option<(Spot, SpotCursor)>
     ensures { let ahead : SpotCursor = cursor_at (Ahead.Middle f k) offset in
         ((s : Str) (t : List ℕ) → SpotsFrom (rec s pool.now (scalars_of rows.now)) t ahead result) }
 {
     let name = f.param_len_field;
     let word = f.param_len_type;
     let size = wide(scalar_bytes(rows, pool, word));
-    SpotStep::ASpot(
+    Some((
         Spot {
             name,
             offset,
@@ -137,22 +149,28 @@ fn length_spot(rows: &[u8], pool: &[u8], f: Family, k: Cursor, offset: u64) -> S
             ahead: Ahead::Body(k),
             offset: sum(offset, size),
         },
-    )
+    ))
 }
 
 // The next field of the record, its size from the table.
-fn field_spot(stream: &[u8], pool: &[u8], sizes: &[u64], k: Cursor, offset: u64) -> SpotStep
+fn field_spot(
+    stream: &[u8],
+    pool: &[u8],
+    sizes: &[u64],
+    k: Cursor,
+    offset: u64,
+) -> Option<(Spot, SpotCursor)>
     ensures { let ahead : SpotCursor = cursor_at (Ahead.Body k) offset in
         ((w : List Scalar) → SpotsFrom (rec stream.now pool.now w) sizes.now ahead result) }
 {
-    let Sought::At(place, after) = seek(stream, k.at, 11, Between::Keys) else {
-        return SpotStep::NoSpot;
+    let Some((place, after)) = seek(stream, k.at, 11, Between::Keys) else {
+        return None;
     };
     let s = cut::from(stream, place);
     let shape = shape_at(pool, s);
     let described = shape.described;
     let size = size_before(sizes, after);
-    SpotStep::ASpot(
+    Some((
         Spot {
             name: text_at(s, 1),
             offset,
@@ -164,7 +182,7 @@ fn field_spot(stream: &[u8], pool: &[u8], sizes: &[u64], k: Cursor, offset: u64)
             ahead: Ahead::Body(Cursor::place(after)),
             offset: sum(offset, size),
         },
-    )
+    ))
 }
 
 // The fields from a cursor on without those at their front that have another name; a family's front is not passed over.
@@ -199,20 +217,15 @@ fn pass_fields(
 {
     let mut at = from;
     let mut offset = start;
-    loop {
-        let Sought::At(here, after) = seek(stream, at, 11, Between::Keys) else {
-            return SpotCursor {
-                ahead: Ahead::Body(Cursor::place(at)),
-                offset,
-            };
-        };
+    while let Some((here, after)) = seek(stream, at, 11, Between::Keys) {
         if same(name_at(stream, pool, here), name) {
-            return SpotCursor {
-                ahead: Ahead::Body(Cursor::place(at)),
-                offset,
-            };
+            break;
         }
         offset = sum(offset, size_before(sizes, after));
         at = after;
+    }
+    SpotCursor {
+        ahead: Ahead::Body(Cursor::place(at)),
+        offset,
     }
 }

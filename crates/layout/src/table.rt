@@ -13,7 +13,6 @@ use crate::fronts::fill_fronts;
 use crate::handles::fill_handles;
 use crate::names::{TypeName, back, colons, front, type_has, type_over, type_under};
 use crate::sort::{ascending, keep_last, sort_handles};
-use record::operands::OptText;
 use record::text::bytes_of;
 
 // Handles in byte order of their names, the last of each name at the front; and how many those are.
@@ -48,86 +47,67 @@ fn arrange_lent(
     arrange_by(stream, pool, fronts, handles, scratch)
 }
 
-// Arranges a few handles without fronts: a table of one entry has hardly one.
-fn arrange(stream: &[u8], pool: &[u8], handles: &mut [u32], scratch: &mut [u32]) -> usize
-    requires { (length scratch.old ≡ length handles.old) × (length handles.old ≤ 65536) }
-    ensures { let key : ℕ → Str = type_name stream.now pool.now in
-        (take result handles.new ≡ lasts key (arranged key handles.old)) × (result ≤ length handles.old) }
-{
-    let mut fronts = [0u64; 1];
-    arrange_lent(stream, pool, &mut fronts, handles, scratch)
-}
-
-// Arranges many handles, with a table of fronts that stands in this call.
-fn arrange_many(stream: &[u8], pool: &[u8], handles: &mut [u32], scratch: &mut [u32]) -> usize
-    requires { (length scratch.old ≡ length handles.old) × (length handles.old ≤ 65536) }
-    ensures { let key : ℕ → Str = type_name stream.now pool.now in
-        (take result handles.new ≡ lasts key (arranged key handles.old)) × (result ≤ length handles.old) }
-{
-    let mut fronts = [0u64; 8192];
-    arrange_lent(stream, pool, &mut fronts, handles, scratch)
-}
-
-// Arranges the handles of types or constants, which often go up already.
-pub(crate) fn arrange_few(
+// Arranges handles, with a table of so many fronts that stands in this call.
+fn arrange<const FRONTS: usize>(
     stream: &[u8],
     pool: &[u8],
     handles: &mut [u32],
     scratch: &mut [u32],
 ) -> usize
-    requires { (length scratch.old ≡ length handles.old) × (length handles.old ≤ 65536) }
+    requires { (length scratch.old ≡ length handles.old) × (length handles.old ≤ 65536) × (FRONTS ≤ 8192) }
+    ensures { let key : ℕ → Str = type_name stream.now pool.now in
+        (take result handles.new ≡ lasts key (arranged key handles.old)) × (result ≤ length handles.old) }
+{
+    let mut fronts = [0u64; FRONTS];
+    arrange_lent(stream, pool, &mut fronts, handles, scratch)
+}
+
+// Arranges the handles of types or constants, which often go up already. A table of one front has hardly one, and serves for a few handles.
+pub(crate) fn arrange_handles<const FRONTS: usize>(
+    stream: &[u8],
+    pool: &[u8],
+    handles: &mut [u32],
+    scratch: &mut [u32],
+) -> usize
+    requires { (length scratch.old ≡ length handles.old) × (length handles.old ≤ 65536) × (FRONTS ≤ 8192) }
     ensures { let key : ℕ → Str = type_name stream.now pool.now in
         (take result handles.new ≡ lasts key (arranged key handles.old)) × (result ≤ length handles.old) }
 {
     if ascending(stream, pool, handles) {
         return handles.len();
     }
-    arrange(stream, pool, handles, scratch)
+    arrange::<FRONTS>(stream, pool, handles, scratch)
 }
 
 // Arranges types, of which there may be thousands; for a few a table of fronts costs more than it saves.
-fn arrange_types(stream: &[u8], pool: &[u8], types: &mut [u32], scratch: &mut [u32]) -> usize
-    requires { (length scratch.old ≡ length types.old) × (length types.old ≤ 65536) }
-    ensures { let key : ℕ → Str = type_name stream.now pool.now in
-        (take result types.new ≡ lasts key (arranged key types.old)) × (result ≤ length types.old) }
-{
-    if types.len() < 64 {
-        return arrange_few(stream, pool, types, scratch);
-    }
-    if ascending(stream, pool, types) {
-        return types.len();
-    }
-    arrange_many(stream, pool, types, scratch)
-}
-
-// The table of a record's types at the front of `types`; and how many they are.
-pub(crate) fn type_table(
+fn arrange_types<const FRONTS: usize>(
     stream: &[u8],
     pool: &[u8],
     types: &mut [u32],
     scratch: &mut [u32],
 ) -> usize
-    requires { (length stream.now ≤ 32768) × Room stream.now types.old × Room stream.now scratch.old }
+    requires { (length scratch.old ≡ length types.old) × (length types.old ≤ 65536) × (FRONTS ≤ 8192) }
+    ensures { let key : ℕ → Str = type_name stream.now pool.now in
+        (take result types.new ≡ lasts key (arranged key types.old)) × (result ≤ length types.old) }
+{
+    if types.len() < 64 {
+        return arrange_handles::<1>(stream, pool, types, scratch);
+    }
+    arrange_handles::<FRONTS>(stream, pool, types, scratch)
+}
+
+// The table of a record's types at the front of `types`; and how many they are.
+pub(crate) fn type_table<const FRONTS: usize>(
+    stream: &[u8],
+    pool: &[u8],
+    types: &mut [u32],
+    scratch: &mut [u32],
+) -> usize
+    requires { (length stream.now ≤ 32768) × Room stream.now types.old × Room stream.now scratch.old × (FRONTS ≤ 8192) }
     ensures { TypesTable stream.now pool.now (take result types.new) × (result ≤ length stream.now / 4) }
 {
     let n = fill_handles(stream, types);
-    arrange_types(stream, pool, &mut types[..n], &mut scratch[..n])
-}
-
-// The table of a short record's types, without room for the fronts of names.
-pub(crate) fn few_types(stream: &[u8], pool: &[u8], types: &mut [u32], scratch: &mut [u32]) -> usize
-    requires { (length stream.now ≤ 32768) × Room stream.now types.old × Room stream.now scratch.old }
-    ensures { TypesTable stream.now pool.now (take result types.new) × (result ≤ length stream.now / 4) }
-{
-    let n = fill_handles(stream, types);
-    arrange_few(stream, pool, &mut types[..n], &mut scratch[..n])
-}
-
-// A type of the table, by its index.
-#[derive(Clone, Copy)]
-pub enum TypeFound {
-    NoType,
-    At(usize),
+    arrange_types::<FRONTS>(stream, pool, &mut types[..n], &mut scratch[..n])
 }
 
 // Where to look next between two indexes: at the one that is thought near, while it lies there and may be tried, else in the middle.
@@ -135,19 +115,10 @@ fn look_at(lo: usize, hi: usize, near: usize, tries: usize) -> usize
     requires { lo < hi }
     ensures { (lo ≤ result) × (result < hi) }
 {
-    if 0 < tries {
-        if lo <= near {
-            if near < hi {
-                return near;
-            }
-        }
+    if 0 < tries && lo <= near && near < hi {
+        return near;
     }
     lo + (hi - lo) / 2
-}
-
-// One less, and 0 of none.
-fn less_one(n: usize) -> usize {
-    if n == 0 { 0 } else { n - 1 }
 }
 
 // The type of a name in parts. It is thought to be near an index: there and beside it is looked first.
@@ -159,7 +130,7 @@ fn find_parts(
     k: usize,
     b: &[u8],
     near: usize,
-) -> TypeFound
+) -> Option<usize>
     requires { Parts f.now k b.now }
     ensures { FoundType stream.now pool.now types.now (composed f.now k b.now) result }
 {
@@ -169,26 +140,23 @@ fn find_parts(
     let mut tries = 2;
     while lo < hi {
         let at = look_at(lo, hi, next, tries);
-        tries = less_one(tries);
+        tries = tries.saturating_sub(1);
         if type_under(stream, pool, types[at], f, k, b) {
             lo = at + 1;
             next = lo;
         } else {
             hi = at;
-            next = less_one(at);
+            next = at.saturating_sub(1);
         }
     }
-    if types.len() <= lo {
-        return TypeFound::NoType;
+    if types.len() <= lo || type_over(stream, pool, types[lo], f, k, b) {
+        return None;
     }
-    if type_over(stream, pool, types[lo], f, k, b) {
-        return TypeFound::NoType;
-    }
-    TypeFound::At(lo)
+    Some(lo)
 }
 
 // The type of a name.
-fn find_type(stream: &[u8], pool: &[u8], types: &[u32], name: &[u8]) -> TypeFound
+fn find_type(stream: &[u8], pool: &[u8], types: &[u32], name: &[u8]) -> Option<usize>
     ensures { FoundType stream.now pool.now types.now name.now result }
 {
     find_parts(stream, pool, types, name, 0, &name[..0], 0)
@@ -203,7 +171,7 @@ pub fn find_same(
     old: &[u8],
     handle: u32,
     near: usize,
-) -> TypeFound
+) -> Option<usize>
     ensures { let name : Str = type_name past.now old.now handle in
         FoundType stream.now pool.now types.now name result }
 {
@@ -211,10 +179,8 @@ pub fn find_same(
     let b = back(past, old, handle);
     let k = colons(handle);
     // It is nearly always there, and to see that takes one comparison of names, where the search takes three.
-    if near < types.len() {
-        if type_has(stream, pool, types[near], f, k, b) {
-            return TypeFound::At(near);
-        }
+    if near < types.len() && type_has(stream, pool, types[near], f, k, b) {
+        return Some(near);
     }
     find_parts(stream, pool, types, f, k, b, near)
 }
@@ -226,13 +192,13 @@ pub fn find_named(
     types: &[u32],
     texts: &[u8],
     name: TypeName,
-) -> TypeFound
+) -> Option<usize>
     ensures { FoundType stream.now pool.now types.now (name_of texts.now name) result }
 {
     let front = name.front;
     let back = name.back;
     let f = bytes_of(texts, front);
-    let OptText::Given(own) = back else {
+    let Some(own) = back else {
         return find_type(stream, pool, types, f);
     };
     find_parts(stream, pool, types, f, 2, bytes_of(texts, own), 0)

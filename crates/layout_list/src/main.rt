@@ -3,7 +3,7 @@
 #![tactic(auto)]
 
 use layout::list::list_layouts;
-use parts::{lent_len, print_refusal};
+use parts::{lent_part, print_refusal};
 use record::refusal::Side;
 use std::io;
 use std::io::Write;
@@ -15,9 +15,8 @@ fn print_list(rt: &impl Print, stream: &[u8], pool: &[u8]) -> io::Result<()> {
     if a.number != 0 {
         return print_refusal(rt, a.number, a.side, a.place);
     }
-    let n = a.len;
-    if n <= 65536 {
-        io::writer(rt).write_all(&out[..n])?;
+    if let Some(list) = out.get(..a.len) {
+        io::writer(rt).write_all(list)?;
     }
     Ok(())
 }
@@ -26,7 +25,7 @@ fn main(rt: HostRuntime) -> io::Result<()> {
     let mut stream = [0u8; 32769];
     let mut pool = [0u8; 16385];
     let mut input = rt.stdin();
-    let n = lent_len(&mut input, &mut stream);
-    let m = lent_len(&mut input, &mut pool);
-    print_list(&rt, &stream[..n], &pool[..m])
+    let stream = lent_part(&mut input, &mut stream);
+    let pool = lent_part(&mut input, &mut pool);
+    print_list(&rt, stream, pool)
 }

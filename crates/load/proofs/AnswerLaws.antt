@@ -1,4 +1,5 @@
 -- The load call's answer, from what is measured and put. Assumes nothing.
+use Rattle.std.specs.Prelude.{Some, None}
 use mathlib.Core.Path.{◌≡◌, refl, sym, ◌∙◌, ap}
 use mathlib.Core.List.{[], ◌++◌, append_assoc}
 use Prim.Native.Nat.{ℕ, ◌+◌, ◌≤◌, ◌<◌}
@@ -21,7 +22,6 @@ use Rattle.load.specs.Bytes.{parts_of}
 use Rattle.load.proofs.CommandLaws.{pool-long}
 use Rattle.load.proofs.Pairs.{released-short, current-short}
 use Rattle.load.specs.declared.outcomes.Outcome.{Outcome}
-use Rattle.load.specs.declared.outcomes.Outcome.TheVariants as O
 use Rattle.load.specs.declared.settings.Setting.{Setting}
 
 -- lengths are measured
@@ -85,38 +85,20 @@ module _ (g : Setting) (seed : ℕ) (o : Outcome) (k : g ≡ setting_of seed) (n
       rw (le-leb (length (pair_of seed o)) (length out) (omega arith))
       (record { number = refl; side = refl; place = refl; len = e; buffer = puts-front (puts-as (puts_then p q) pair_is) (omega arith) })
 
+-- the outcome of a number
+pub outcome-none : (n : ℕ) → (n ≡ 0 → ⊥) → (n ≡ 20 → ⊥) → (n ≡ 34 → ⊥) → (n ≡ 35 → ⊥) → (n ≡ 36 → ⊥) → (n ≡ 43 → ⊥) → outcome_at n ≡ None
+unfolding outcome_at
+outcome-none n a b c d e f = rw (ne_eqb n 0 a, ne_eqb n 20 b, ne_eqb n 34 c, ne_eqb n 35 d, ne_eqb n 36 e, ne_eqb n 43 f)
+
 -- the call
-module _ (out after : Str) (n seed : ℕ) (h : seed ≤ 2147483647) (r : A.Answer) where
-  pub load-0 : n ≡ 0 → Answered out after (text_or (length out) 0 (pair_of seed O.Accepted)) r → Answered out after (load (length out) n seed) r
-  unfolding load load_as outcome_at
-  load-0 e a = rw (le-leb seed 2147483647 h, e) a
+module _ (out : Str) (n seed : ℕ) (h : seed ≤ 2147483647) where
+  pub load-as : (o : Outcome) (after : Str) (r : A.Answer) → outcome_at n ≡ Some o → Answered out after (text_or (length out) 0 (pair_of seed o)) r → Answered out after (load (length out) n seed) r
+  unfolding load load_as
+  load-as o after r e a = rw (le-leb seed 2147483647 h, e) a
 
-  pub load-20 : n ≡ 20 → Answered out after (text_or (length out) 0 (pair_of seed O.ConstantGone)) r → Answered out after (load (length out) n seed) r
-  unfolding load load_as outcome_at
-  load-20 e a = rw (le-leb seed 2147483647 h, e) a
-
-  pub load-34 : n ≡ 34 → Answered out after (text_or (length out) 0 (pair_of seed O.FieldGone)) r → Answered out after (load (length out) n seed) r
-  unfolding load load_as outcome_at
-  load-34 e a = rw (le-leb seed 2147483647 h, e) a
-
-  pub load-35 : n ≡ 35 → Answered out after (text_or (length out) 0 (pair_of seed O.FieldMoved)) r → Answered out after (load (length out) n seed) r
-  unfolding load load_as outcome_at
-  load-35 e a = rw (le-leb seed 2147483647 h, e) a
-
-  pub load-36 : n ≡ 36 → Answered out after (text_or (length out) 0 (pair_of seed O.FieldResized)) r → Answered out after (load (length out) n seed) r
-  unfolding load load_as outcome_at
-  load-36 e a = rw (le-leb seed 2147483647 h, e) a
-
-  pub load-43 : n ≡ 43 → Answered out after (text_or (length out) 0 (pair_of seed O.Unraised)) r → Answered out after (load (length out) n seed) r
-  unfolding load load_as outcome_at
-  load-43 e a = rw (le-leb seed 2147483647 h, e) a
-
-pub load-unknown : (out : Str) (n seed : ℕ) → seed ≤ 2147483647 → (n ≡ 0 → ⊥) → (n ≡ 20 → ⊥) → (n ≡ 34 → ⊥) → (n ≡ 35 → ⊥) → (n ≡ 36 → ⊥) → (n ≡ 43 → ⊥)
-    → Answered out out (load (length out) n seed) (record { number = 61; side = 0; place = 0; len = 0 })
-unfolding load load_as outcome_at unfit fronted
-load-unknown out n seed h a b c d e f =
-    rw (le-leb seed 2147483647 h, ne_eqb n 0 a, ne_eqb n 20 b, ne_eqb n 34 c, ne_eqb n 35 d, ne_eqb n 36 e, ne_eqb n 43 f)
-    (record { number = refl; side = refl; place = refl; len = refl; buffer = refl })
+  pub load-unknown : outcome_at n ≡ None → Answered out out (load (length out) n seed) (record { number = 61; side = 0; place = 0; len = 0 })
+  unfolding load load_as unfit fronted
+  load-unknown e = rw (le-leb seed 2147483647 h, e) (record { number = refl; side = refl; place = refl; len = refl; buffer = refl })
 
 pub load-late : (out : Str) (n seed : ℕ) → 2147483647 < seed → Answered out out (load (length out) n seed) (record { number = 61; side = 0; place = 0; len = 0 })
 unfolding load unfit fronted

@@ -1,7 +1,7 @@
 -- What the load call answers: two readable records with the wanted outcome, for every seed. 02, W-213. Assumes nothing.
+use Rattle.std.specs.Prelude.{Option, Some, None}
 use mathlib.Core.Path.{◌≡◌, refl, sym, ◌∙◌, ap, subst}
 use mathlib.Core.List.{[], ◌∷◌, ◌++◌}
-use mathlib.Core.Option.{Option, none, some}
 use mathlib.Core.Bool.{Bool, true, false, cond}
 use Prim.Native.Nat.{ℕ, ◌≤◌}
 use native.Mathlib.Omega.{arith}
@@ -28,15 +28,15 @@ use Rattle.load.specs.declared.outcomes.Outcome.{Outcome}
 use Rattle.load.specs.declared.outcomes.Outcome.TheVariants as O
 
 -- the outcome of a number has this number
-pub outcome-number : (n : ℕ) (o : Outcome) → outcome_at n ≡ some o → outcome_number o ≡ n
+pub outcome-number : (n : ℕ) (o : Outcome) → outcome_at n ≡ Some o → outcome_number o ≡ n
 unfolding outcome_at outcome_number
 outcome-number n o h = go (eqb n 0) refl (eqb n 20) refl (eqb n 34) refl (eqb n 35) refl (eqb n 36) refl (eqb n 43) refl h
   where
-    is : (k : ℕ) (x : Outcome) → outcome_number x ≡ k → eqb n k ≡ true → some x ≡ some o → outcome_number o ≡ n
+    is : (k : ℕ) (x : Outcome) → outcome_number x ≡ k → eqb n k ≡ true → Some x ≡ Some o → outcome_number o ≡ n
     is k x a e q = let y : x ≡ o = cc in ap outcome_number (sym y) ∙ a ∙ sym (eqb-true n k e)
 
     go : (a : Bool) → eqb n 0 ≡ a → (b : Bool) → eqb n 20 ≡ b → (c : Bool) → eqb n 34 ≡ c → (d : Bool) → eqb n 35 ≡ d → (e : Bool) → eqb n 36 ≡ e → (f : Bool) → eqb n 43 ≡ f
-        → cond a (some O.Accepted) (cond b (some O.ConstantGone) (cond c (some O.FieldGone) (cond d (some O.FieldMoved) (cond e (some O.FieldResized) (cond f (some O.Unraised) none))))) ≡ some o → outcome_number o ≡ n
+        → cond a (Some O.Accepted) (cond b (Some O.ConstantGone) (cond c (Some O.FieldGone) (cond d (Some O.FieldMoved) (cond e (Some O.FieldResized) (cond f (Some O.Unraised) None))))) ≡ Some o → outcome_number o ≡ n
     go true q b q2 c q3 d q4 e q5 f q6 h = is 0 O.Accepted refl q h
     go false q true q2 c q3 d q4 e q5 f q6 h = is 20 O.ConstantGone refl q2 h
     go false q false q2 true q3 d q4 e q5 f q6 h = is 34 O.FieldGone refl q3 h
@@ -83,14 +83,14 @@ text-met room outcome seed h = go (leb seed 2147483647) (outcome_at outcome) ref
     Good : Answer → Type 0
     Good a = Met outcome seed a.text × (a.len ≡ length a.text)
 
-    in-room : (o : Outcome) → outcome_at outcome ≡ some o → (b : Bool) → (cond b (given (pair_of seed o)) (roomless (pair_of seed o))).number ≡ 0
+    in-room : (o : Outcome) → outcome_at outcome ≡ Some o → (b : Bool) → (cond b (given (pair_of seed o)) (roomless (pair_of seed o))).number ≡ 0
         → Good (cond b (given (pair_of seed o)) (roomless (pair_of seed o)))
     in-room o e true h = (subst (λ (n : ℕ). Met n seed (pair_of seed o)) (outcome-number outcome o e) (pair-met seed o), refl)
     in-room o e false h = absurd (omega (arith, h))
 
     go : (b : Bool) (x : Option Outcome) → outcome_at outcome ≡ x → (cond b (load_as room seed x) unfit).number ≡ 0 → Good (cond b (load_as room seed x) unfit)
-    go true (some o) e h = in-room o e (leb (length (pair_of seed o)) room) h
-    go true none e h = absurd (omega (arith, h))
+    go true (Some o) e h = in-room o e (leb (length (pair_of seed o)) room) h
+    go true None e h = absurd (omega (arith, h))
     go false x e h = absurd (omega (arith, h))
 
 front-taken : (x y : Str) → take (length x) (x ++ y) ≡ x
@@ -106,7 +106,7 @@ load-met out after outcome seed r a h =
     rw (a.buffer, a.len, t.1, front-taken (load (length out) outcome seed).text (drop (length (load (length out) outcome seed).text) out)) t.0
 
 -- and it answers 0 for every seed and each outcome of 02 wherever the length that it gives fits the buffer
-pub load_given : (room outcome seed : ℕ) (o : Outcome) → seed ≤ 2147483647 → outcome_at outcome ≡ some o → (load room outcome seed).len ≤ room
+pub load_given : (room outcome seed : ℕ) (o : Outcome) → seed ≤ 2147483647 → outcome_at outcome ≡ Some o → (load room outcome seed).len ≤ room
     → (load room outcome seed).number ≡ 0
 unfolding load load_as text_or
 load_given room outcome seed o h e = rw (le-leb seed 2147483647 h, e) (go (leb (length (pair_of seed o)) room) refl)

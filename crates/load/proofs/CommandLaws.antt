@@ -1,4 +1,5 @@
 -- Commands and their bytes: what is written is read back, texts in the pool are without fault, fields and structures fit. Assumes nothing.
+use Rattle.std.specs.Prelude.{Some}
 use mathlib.Core.Path.{◌≡◌, refl, ap}
 use mathlib.Core.List.{List, [], ◌∷◌, Memᴰ}
 use mathlib.Core.Logic.{◌⊎◌, inl, inr}
@@ -17,14 +18,13 @@ use Rattle.record.specs.Operands.{text_at, opt_text, opt_text_at}
 use Rattle.record.specs.Commands.{operands, wide, widths}
 use Rattle.record.specs.Judge.{if_absent, text_fault, flag_fault, operand_fault, faults_from, may_stand, parent_after}
 use Rattle.record.specs.declared.text.Text.{Text}
-use Rattle.record.specs.declared.operands.OptText.TheVariants.{Given}
 use Rattle.record.specs.declared.command.Parent.{Parent}
 use Rattle.record.specs.declared.command.Parent.TheVariants.{InStruct}
 use Rattle.record.specs.declared.refusal.Side.{Side}
 use Rattle.record.specs.declared.judge.Fault.{Fault}
 use Rattle.record.specs.declared.judge.Fault.TheVariants.{Fine, Outside}
 use Rattle.load.specs.Pool as W
-use Rattle.load.specs.Commands.{field_bytes, StructCommand, struct_bytes}
+use Rattle.load.specs.Commands.{flag_of, field_bytes, StructCommand, struct_bytes}
 use Rattle.load.specs.Generator.{field_commands, struct_commands}
 use Rattle.load.specs.Written.{opcode, Fits, AllFit}
 use Rattle.load.specs.declared.commands.FieldCommand.{FieldCommand}
@@ -52,7 +52,7 @@ back t = record { start = t.start % 256 + 256 * (t.start / 256); len = t.len }
 pub back_is : (t : Text) → back t ≡ t
 back_is t = ap (λ (n : ℕ). record { start = n; len = t.len }) (two_bytes t.start)
 
-pub given : (t : Text) → InPool t → opt_text t ≡ Given t
+pub given : (t : Text) → InPool t → opt_text t ≡ Some t
 unfolding opt_text
 given t h = rw (ne_eqb t.start 65535 (λ e. omega arith))
 
@@ -90,10 +90,10 @@ pub record FieldFits (f : FieldCommand) : Type 0 where
   pub kind : InPool f.kind
   pub typ : MayPool f.typ
   pub element : MayPool f.element
-  pub count : f.count.flag < 2
-  pub rows : f.rows.flag < 2
-  pub cols : f.cols.flag < 2
-  pub size : f.size.flag < 2
+  pub count : flag_of f.count < 2
+  pub rows : flag_of f.rows < 2
+  pub cols : flag_of f.cols < 2
+  pub size : flag_of f.size < 2
 
 pub record StructFits (s : StructCommand) : Type 0 where
   pub name : InPool s.name
@@ -114,10 +114,10 @@ module _ (side : Side) where
       text-fine f.kind h.kind Outside,
       may-fine f.typ h.typ,
       may-fine f.element h.element,
-      flag-fine f.count.flag h.count,
-      flag-fine f.rows.flag h.rows,
-      flag-fine f.cols.flag h.cols,
-      flag-fine f.size.flag h.size,
+      flag-fine (flag_of f.count) h.count,
+      flag-fine (flag_of f.rows) h.rows,
+      flag-fine (flag_of f.cols) h.cols,
+      flag-fine (flag_of f.size) h.size,
     );
     going = λ e. omega arith;
   }

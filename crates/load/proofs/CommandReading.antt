@@ -1,7 +1,7 @@
 -- What fields and structures mean is read back from their commands. Assumes nothing.
+use Rattle.std.specs.Prelude.{Some, None, Option}
 use mathlib.Core.Path.{◌≡◌, refl, ◌∙◌, ap, ap₂}
 use mathlib.Core.List.{List, [], ◌∷◌, ◌++◌}
-use mathlib.Core.Option.{none, some}
 use mathlib.Core.Bool.{Bool, true, false, cond}
 use Prim.Native.Nat.{ℕ, ◌+◌, ◌*◌, ◌/◌, ◌%◌}
 use lib.Dec.{eqb}
@@ -10,26 +10,24 @@ use Rattle.record.specs.Stretch.{text_of}
 use Rattle.record.specs.Le.{u16_at, u32_at}
 use Rattle.record.specs.Operands.{text_at, opt_text, opt_text_at, opt_number_at}
 use Rattle.record.specs.Commands.{struct_at, field_at}
-use Rattle.record.specs.Lists.{opt_of, number_of, struct_of, field_of, anything}
+use Rattle.record.specs.Lists.{opt_of, struct_of, field_of, anything}
 use Rattle.record.specs.Schema.{Field, Key}
-use Rattle.record.specs.declared.operands.OptNumber.TheVariants.{Missing, Number}
 use Rattle.load.specs.Pool as W
-use Rattle.load.specs.Commands.{field_bytes, StructCommand, struct_bytes, meant_text, meant_number, field_meant, fields_meant, struct_meant, structs_meant}
+use Rattle.load.specs.Commands.{flag_of, value_of, field_bytes, StructCommand, struct_bytes, meant_text, meant_number, field_meant, fields_meant, struct_meant, structs_meant}
 use Rattle.load.specs.Generator.{field_commands, struct_commands, stream_of}
 use Rattle.load.specs.Written.{listed_in, keys_in, fields_in, structs_in}
 use Rattle.load.proofs.CommandLaws.{four_bytes, back_is}
 use Rattle.load.specs.declared.commands.FieldCommand.{FieldCommand}
-use Rattle.load.specs.declared.commands.Num.{Num}
 
-num-back : (n : Num) → number_of (cond (eqb n.flag 0) Missing (Number (n.value % 256 + 256 * (n.value / 256 % 256) + 65536 * (n.value / 65536 % 256 + 256 * (n.value / 16777216))))) ≡ meant_number n
+num-back : (n : Option ℕ) → cond (eqb (flag_of n) 0) None (Some ((value_of n) % 256 + 256 * ((value_of n) / 256 % 256) + 65536 * ((value_of n) / 65536 % 256 + 256 * ((value_of n) / 16777216)))) ≡ meant_number n
 unfolding meant_number
-num-back n = rw (four_bytes n.value) (go (eqb n.flag 0))
+num-back n = rw (four_bytes (value_of n)) (go (eqb (flag_of n) 0))
   where
-    go : (b : Bool) → number_of (cond b Missing (Number n.value)) ≡ cond b none (some n.value)
+    go : (b : Bool) → cond b None (Some (value_of n)) ≡ cond b None (Some (value_of n))
     go true = refl
     go false = refl
 
-field_back : (f : FieldCommand) (x : Str) → field_of W.pool (field_at (field_bytes f ++ x)) none ≡ field_meant f
+field_back : (f : FieldCommand) (x : Str) → field_of W.pool (field_at (field_bytes f ++ x)) None ≡ field_meant f
 unfolding field_bytes field_meant meant_text opt_text_at text_at opt_number_at u16_at u32_at
 field_back f x = λ i. record {
   name = text_of W.pool (back_is f.name i);
@@ -40,7 +38,7 @@ field_back f x = λ i. record {
   rows = num-back f.rows i;
   cols = num-back f.cols i;
   size = num-back f.size i;
-  key = none;
+  key = None;
 }
 
 struct_back : (s : StructCommand) (x : Str) (fs : List Field) → struct_of W.pool (struct_at (struct_bytes s ++ x)) fs ≡ record { name = text_of W.pool s.name; slot = meant_text s.slot; version = meant_text s.version; fields = fs }

@@ -8,17 +8,14 @@ use mathlib.Core.List.{[], ◌∷◌}
 use lib.ListN.{get_or-eq_default}
 use Rattle.record.specs.declared.kind.Kind.TheVariants as K
 use lib.Dec.{eqb}
-use borrow.Author.Tests.{eq-eqb, ne_eqb}
+use borrow.Author.Tests.{ne_eqb}
 use Rattle.record.specs.declared.text.Text.{Text}
 use Rattle.load.specs.Pool as W
 use Rattle.load.specs.Pool.{struct_text}
 use Rattle.load.specs.Draws.{scalar_text, enum_text, alias_text, kind_at, plain_field, array_field, grid_field, padding_field, field_as}
 use Rattle.load.specs.declared.commands.FieldCommand.{FieldCommand}
 
--- the first of two texts where a number is the one tested for, and what the rest of the chain gives where it is not
-pub picked : (n k : ℕ) (a b : Text) → n ≡ k → a ≡ cond (eqb n k) a b
-picked n k a b e = rw (eq-eqb n k e)
-
+-- what the rest of a chain gives where a number is not the one tested for
 pub skipped : (n k : ℕ) (a b x : Text) → (n ≡ k → ⊥) → x ≡ b → x ≡ cond (eqb n k) a b
 skipped n k a b x h q = rw (ne_eqb n k h) q
 

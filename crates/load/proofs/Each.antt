@@ -1,8 +1,8 @@
 -- Lists of verdicts, look-ups in joined lists, and a map by name of which one element is exchanged. Assumes nothing.
+use Rattle.std.specs.Prelude.{Option, Some, None}
 use mathlib.Core.Path.{◌≡◌, refl, sym, ◌∙◌, ap, subst}
 use mathlib.Core.List.Memᴰ
 use mathlib.Core.List.{List, [], ◌∷◌, ◌++◌, map, Memᴰ}
-use mathlib.Core.Option.{Option, none, some}
 use mathlib.Core.Bool.{Bool, true, false, cond}
 use mathlib.Core.Logic.{◌⊎◌, inl, inr}
 use Rattle.record.specs.Base.{Str, eqs, before, find, last_or, find_last, filter_b}
@@ -46,12 +46,12 @@ module _ {A : Type 0} where
   each-front f [] k h = refl
   each-front f (y ∷ ys) k h = rw (h y (Memᴰ.head refl)) (each-front f ys k (λ x m. h x (Memᴰ.tail m)))
 
-  pub find-left : (p : A → Bool) (l k : List A) {x : A} → find p l ≡ some x → find p (l ++ k) ≡ some x
+  pub find-left : (p : A → Bool) (l k : List A) {x : A} → find p l ≡ Some x → find p (l ++ k) ≡ Some x
   unfolding find
   find-left p [] k h = absurd (none≢some h)
   find-left p (y ∷ ys) k {x} h = go (p y) h (λ e. find-left p ys k e)
     where
-      go : (b : Bool) → cond b (some y) (find p ys) ≡ some x → (find p ys ≡ some x → find p (ys ++ k) ≡ some x) → cond b (some y) (find p (ys ++ k)) ≡ some x
+      go : (b : Bool) → cond b (Some y) (find p ys) ≡ Some x → (find p ys ≡ Some x → find p (ys ++ k) ≡ Some x) → cond b (Some y) (find p (ys ++ k)) ≡ Some x
       go true e r = e
       go false e r = r e
 
@@ -60,7 +60,7 @@ module _ {A : Type 0} where
   find-right p [] k h = refl
   find-right p (y ∷ ys) k h = rw (h y (Memᴰ.head refl)) (find-right p ys k (λ x m. h x (Memᴰ.tail m)))
 
-  pub find-nowhere : (p : A → Bool) (l : List A) → ((x : A) → Memᴰ x l → p x ≡ false) → find p l ≡ none
+  pub find-nowhere : (p : A → Bool) (l : List A) → ((x : A) → Memᴰ x l → p x ≡ false) → find p l ≡ None
   unfolding find
   find-nowhere p [] h = refl
   find-nowhere p (y ∷ ys) h = rw (h y (Memᴰ.head refl)) (find-nowhere p ys (λ x m. h x (Memᴰ.tail m)))
@@ -78,7 +78,7 @@ module _ {A : Type 0} where
   last-append : (o : Option A) (p : A → Bool) (l k : List A) → last_or o p (l ++ k) ≡ last_or (last_or o p l) p k
   unfolding last_or
   last-append o p [] k = refl
-  last-append o p (y ∷ ys) k = last-append (cond (p y) (some y) o) p ys k
+  last-append o p (y ∷ ys) k = last-append (cond (p y) (Some y) o) p ys k
 
   last-nowhere : (o : Option A) (p : A → Bool) (l : List A) → ((x : A) → Memᴰ x l → p x ≡ false) → last_or o p l ≡ o
   unfolding last_or
@@ -86,24 +86,24 @@ module _ {A : Type 0} where
   last-nowhere o p (y ∷ ys) h = rw (h y (Memᴰ.head refl)) (last-nowhere o p ys (λ x m. h x (Memᴰ.tail m)))
 
   -- by a key that no two have, each is found
-  pub find-keyed : (key : A → Str) (l : List A) → NoDup (map key l) → {x : A} → Memᴰ x l → find (λ (y : A). eqs (key y) (key x)) l ≡ some x
+  pub find-keyed : (key : A → Str) (l : List A) → NoDup (map key l) → {x : A} → Memᴰ x l → find (λ (y : A). eqs (key y) (key x)) l ≡ Some x
   find-keyed key l d {x} m = find-only (λ (y : A). eqs (key y) (key x)) l m (eqs-refl (key x)) (λ y n e. key-only key l d n m (eqs→eq (key y) (key x) e))
 
 -- a list in which one element is exchanged for another of its name, and no other has that name
 module _ {A : Type 0} (name : A → Str) (l k : List A) (n : Str)
     (left : (x : A) → Memᴰ x l → eqs (name x) n ≡ false) (right : (x : A) → Memᴰ x k → eqs (name x) n ≡ false) where
-  pub last-this : (x : A) → name x ≡ n → find_last (λ (y : A). eqs (name y) n) (l ++ (x ∷ k)) ≡ some x
+  pub last-this : (x : A) → name x ≡ n → find_last (λ (y : A). eqs (name y) n) (l ++ (x ∷ k)) ≡ Some x
   unfolding find_last last_or
   last-this x e =
-      last-append none (λ (y : A). eqs (name y) n) l (x ∷ k)
-      ∙ rw (last-nowhere none (λ (y : A). eqs (name y) n) l left, e, eqs-refl n) (last-nowhere (some x) (λ (y : A). eqs (name y) n) k right)
+      last-append None (λ (y : A). eqs (name y) n) l (x ∷ k)
+      ∙ rw (last-nowhere None (λ (y : A). eqs (name y) n) l left, e, eqs-refl n) (last-nowhere (Some x) (λ (y : A). eqs (name y) n) k right)
 
   pub last-other : (x y : A) → name x ≡ n → name y ≡ n → (m : Str) → eqs n m ≡ false
       → find_last (λ (z : A). eqs (name z) m) (l ++ (x ∷ k)) ≡ find_last (λ (z : A). eqs (name z) m) (l ++ (y ∷ k))
   unfolding find_last last_or
   last-other x y e f m d =
-      last-append none (λ (z : A). eqs (name z) m) l (x ∷ k)
-      ∙ rw (e, d) (sym (last-append none (λ (z : A). eqs (name z) m) l (y ∷ k) ∙ rw (f, d)))
+      last-append None (λ (z : A). eqs (name z) m) l (x ∷ k)
+      ∙ rw (e, d) (sym (last-append None (λ (z : A). eqs (name z) m) l (y ∷ k) ∙ rw (f, d)))
 
 -- in byte order of names
 module _ {A : Type 0} (name : A → Str) where
@@ -117,7 +117,7 @@ module _ {A : Type 0} (name : A → Str) where
   sorted-only (z ∷ zs) s (Memᴰ.tail m) (Memᴰ.tail n) e = sorted-only zs s.1 m n e
 
   -- each is found by its name
-  pub sorted-self : (l : List A) {x : A} → Memᴰ x (sorted name l) → find (λ (y : A). eqs (name y) (name x)) (sorted name l) ≡ some x
+  pub sorted-self : (l : List A) {x : A} → Memᴰ x (sorted name l) → find (λ (y : A). eqs (name y) (name x)) (sorted name l) ≡ Some x
   sorted-self l {x} m =
       find-only (λ (y : A). eqs (name y) (name x)) (sorted name l) m (eqs-refl (name x))
       (λ y i e. sorted-only (sorted name l) (sorted-sorted name l) i m (eqs→eq (name y) (name x) e))

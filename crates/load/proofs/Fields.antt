@@ -1,8 +1,8 @@
 -- The fields pass over a plan's two records: it is that of the root alone, and what it says for each outcome. Assumes nothing.
+use Rattle.std.specs.Prelude.{Some}
 use mathlib.Core.Path.{◌≡◌, refl, sym, ◌∙◌, ap, subst}
 use mathlib.Core.List.Memᴰ
 use mathlib.Core.List.{List, [], ◌∷◌, ◌++◌, map, Memᴰ, map-append}
-use mathlib.Core.Option.{some}
 use mathlib.Core.Bool.{Bool, true, false, ◌&&◌, beq}
 use mathlib.Core.Logic.{◌⊎◌, inl, inr}
 use Prim.Native.Nat.{ℕ, ◌+◌}
@@ -24,7 +24,7 @@ use Rattle.load.proofs.Each.{each-one, each_all, each-front, find-left, find-rig
 use Rattle.load.proofs.Layouts.{laid, layouts, eqs-swap, place-names, root-found, other-found, self-found, root-member, layout-cases}
 
 -- a field that is found as it was
-kept : (owner : Str) (is : List FieldLayout) (f : FieldLayout) → place_in f.name is ≡ some f → check_place owner is f ≡ pass
+kept : (owner : Str) (is : List FieldLayout) (f : FieldLayout) → place_in f.name is ≡ Some f → check_place owner is f ≡ pass
 unfolding check_place check_kept on_found ◌then◌ ensure
 kept owner is f h = go f.padding
   where

@@ -1,8 +1,8 @@
 -- A setting in range gives a feasible plan. Assumes nothing.
+use Rattle.std.specs.Prelude.{None}
 use mathlib.Core.Path.{◌≡◌, refl, sym, ◌∙◌, ap, subst}
 use mathlib.Core.List.Memᴰ
 use mathlib.Core.List.{List, [], ◌∷◌, ◌++◌, map, Memᴰ}
-use mathlib.Core.Option.{none}
 use mathlib.Core.Bool.{Bool, true, false, ◌&&◌, not, false≢true}
 use Prim.Native.Nat.{ℕ, zero, suc, ◌+◌, ◌-◌, ◌*◌, ◌/◌, ◌%◌, ◌<◌, ◌≤◌}
 use native.Mathlib.Omega.{arith}
@@ -174,7 +174,7 @@ some_size : (n : ℕ) → n < 4 → ltb 0 (word_size (Draws.scalar_text n)) ≡ 
 unfolding word_size Draws.scalar_text prim_size scalar_in find built_in or_else meant_text opt_text text_of W.pool W.struct_names W.field_names W.kind_texts W.word_texts bytes eqs
 some_size = four (λ (n : ℕ). ltb 0 (word_size (Draws.scalar_text n)) ≡ true) refl refl refl refl
 
-keyless-field : (f : FieldCommand) → (field_meant f).key ≡ none
+keyless-field : (f : FieldCommand) → (field_meant f).key ≡ None
 unfolding field_meant
 keyless-field f = refl
 

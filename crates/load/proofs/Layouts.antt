@@ -1,8 +1,8 @@
 -- The layouts of a plan's two records: they differ in the root's alone. Assumes nothing.
+use Rattle.std.specs.Prelude.{Some}
 use mathlib.Core.Path.{◌≡◌, refl, sym, ◌∙◌, ap, ap₂, subst}
 use mathlib.Core.List.Memᴰ
 use mathlib.Core.List.{List, [], ◌∷◌, ◌++◌, map, map-append, append_assoc, Memᴰ}
-use mathlib.Core.Option.{some}
 use mathlib.Core.Bool.{Bool, true, false, false≢true}
 use mathlib.Core.Logic.{◌⊎◌, inl, inr}
 use Prim.Native.Nat.{ℕ, ◌+◌}
@@ -134,7 +134,7 @@ module _ (p : Plan) (g : Feasible p) where
       go (inl n) = laid-other p.after g.after-other t n
       go (inr n) = g.families-apart t n
 
-  pub root-found : (fs : List Field) → type_in p.name (layouts p fs) ≡ some (laid p fs)
+  pub root-found : (fs : List Field) → type_in p.name (layouts p fs) ≡ Some (laid p fs)
   unfolding type_in layouts laid root lay_struct
   root-found fs =
       sorted-last (λ (t : TypeLayout). t.name) p.name (ahead p ++ (laid p fs ∷ behind p))
@@ -147,7 +147,7 @@ module _ (p : Plan) (g : Feasible p) where
       ∙ last-other (λ (t : TypeLayout). t.name) (ahead p) (behind p) p.name (λ t i. (ahead_apart t i).named) (λ t i. (behind-apart t i).named) (laid p fs) (laid p gs) refl refl m d
       ∙ sym (sorted-last (λ (t : TypeLayout). t.name) m (ahead p ++ (laid p gs ∷ behind p)))
 
-  pub self-found : (fs : List Field) {t : TypeLayout} → Memᴰ t (layouts p fs) → type_in t.name (layouts p fs) ≡ some t
+  pub self-found : (fs : List Field) {t : TypeLayout} → Memᴰ t (layouts p fs) → type_in t.name (layouts p fs) ≡ Some t
   unfolding type_in layouts
   self-found fs m = sorted-self (λ (t : TypeLayout). t.name) (ahead p ++ (laid p fs ∷ behind p)) m
 

@@ -1,7 +1,7 @@
 -- The lists and the schema of a stream of commands are those of the commands. Assumes nothing.
+use Rattle.std.specs.Prelude.{None}
 use mathlib.Core.Path.{◌≡◌, refl, sym, ◌∙◌, ap, subst}
 use mathlib.Core.List.{List, [], ◌∷◌, ◌++◌, append_assoc}
-use mathlib.Core.Option.{none}
 use mathlib.Core.Bool.{Bool, true, false, ◌||◌, ◌&&◌, not, cond}
 use Prim.Native.Nat.{ℕ, ◌+◌}
 use native.Mathlib.Omega.{arith}
@@ -152,12 +152,12 @@ module _ (s p : Str) where
       go false true q q2 r k = rw (← q, ← q2) (λ i. k i ∷ r i)
       go false false q q2 r k = rw (← q, ← q2) r
 
-  none-vast : (t : Schema) (l : List Opened) → slim t (fields_of l) ≡ true → find (vast t) l ≡ none
+  none-vast : (t : Schema) (l : List Opened) → slim t (fields_of l) ≡ true → find (vast t) l ≡ None
   unfolding slim fields_of find vast
   none-vast t [] h = refl
   none-vast t (o ∷ l) h =
       let k = both (not (any large (places t 0 o.fields))) (slim t (fields_of l)) h in
       rw (not-true (any large (places t 0 o.fields)) k.0) (none-vast t l k.1)
 
-  pub slim-written : (t : Schema) (cs : List Str) → s ≡ stream_of cs → slim t (opened_in p cs) ≡ true → find (vast t) (opened s p (places_from 0 cs)) ≡ none
+  pub slim-written : (t : Schema) (cs : List Str) → s ≡ stream_of cs → slim t (opened_in p cs) ≡ true → find (vast t) (opened s p (places_from 0 cs)) ≡ None
   slim-written t cs e h = none-vast t (opened s p (places_from 0 cs)) (ap (slim t) (opened-written [] cs e) ∙ h)

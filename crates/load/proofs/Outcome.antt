@@ -1,8 +1,8 @@
 -- A feasible plan's pair gets the wanted verdict, pass by pass: 02's "the wanted outcome .. is met", over schemas. Assumes nothing.
+use Rattle.std.specs.Prelude.{Some, None}
 use mathlib.Core.Path.{◌≡◌, refl, ◌∙◌, ap, subst}
 use mathlib.Core.List.Memᴰ
 use mathlib.Core.List.{List, [], ◌∷◌, ◌++◌, Memᴰ}
-use mathlib.Core.Option.{none, some}
 use mathlib.Core.Logic.{◌⊎◌, inl, inr}
 use Prim.Native.Nat.{ℕ, ◌+◌, ◌<◌, ◌^◌}
 use native.Mathlib.Omega.{arith}
@@ -59,11 +59,11 @@ module _ (p : Plan) (g : Feasible p) where
   joined-keyless : (l k : List Field) → Keyless l → Keyless k → Keyless (l ++ k)
   joined-keyless l k a b f m = go (Memᴰ.append_cases l m)
     where
-      go : Memᴰ f l ⊎ Memᴰ f k → f.key ≡ none
+      go : Memᴰ f l ⊎ Memᴰ f k → f.key ≡ None
       go (inl i) = a f i
       go (inr i) = b f i
 
-  front_of : (f : Field) (k : List Field) → f.key ≡ none → Keyless k → Keyless (f ∷ k)
+  front_of : (f : Field) (k : List Field) → f.key ≡ None → Keyless k → Keyless (f ∷ k)
   front_of f k e h x (Memᴰ.head q) = ap (λ (y : Field). y.key) q ∙ e
   front_of f k e h x (Memᴰ.tail m) = h x m
 
@@ -87,15 +87,15 @@ module _ (p : Plan) (g : Feasible p) where
 
   given : (r s : Str) (cs ds : List Const) (fs : List Field) (vs : List Version) → List TypeLayout → List TypeLayout → List Key → List Key → Verdict
   given r s cs ds fs vs is was ks ls =
-      check_release_order r (some s)
-      then (check_first_releases r (some s) cs ds p.enums p.enums ks ls
+      check_release_order r (Some s)
+      then (check_first_releases r (Some s) cs ds p.enums p.enums ks ls
       then (check_constants (structs_with p fs) cs ds
       then (check_enums p.enums p.enums
       then (check_bitfields p.bitfields p.bitfields
       then (check_bitfield_releases r p.bitfields p.bitfields
       then (check_fields is was
       then (check_standalone p.families p.families is was
-      then (check_generations r (some s) vs (types_with p g fs) cs ds (changed is was)
+      then (check_generations r (Some s) vs (types_with p g fs) cs ds (changed is was)
       then pass))))))))
 
   compare-is : (r s : Str) (cs ds : List Const) (fs gs : List Field) (vs ws : List Version) → Keyless fs → Keyless gs
@@ -108,7 +108,7 @@ module _ (p : Plan) (g : Feasible p) where
   from_fields : (m : ℕ) (fs : List Field) (vs : List Version) → m < 2 ^ 32 → Keyless fs
       → compare (schema_with p p.now (constants_with p m) fs vs) (released p)
       ≡ (check_places p.name (laid p fs).fields (laid p (whole p)).fields
-      then (check_generations p.now (some p.was) vs (types_with p g fs) (constants_with p m) (constants_with p p.generation) (changed (layouts p fs) (layouts p (whole p))) then pass))
+      then (check_generations p.now (Some p.was) vs (types_with p g fs) (constants_with p m) (constants_with p p.generation) (changed (layouts p fs) (layouts p (whole p))) then pass))
   unfolding released given ◌then◌ constants_with
   from_fields m fs vs h k =
       compare-is p.now p.was (constants_with p m) (constants_with p p.generation) fs (whole p) vs (entry_at p p.generation ∷ []) k whole-keyless

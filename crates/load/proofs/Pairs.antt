@@ -1,8 +1,8 @@
 -- Both records of every pair can be read, and the check of their bytes gives the wanted verdict. Assumes nothing.
+use Rattle.std.specs.Prelude.{Some}
 use mathlib.Core.Path.{◌≡◌, refl, sym, ◌∙◌, ap, subst}
 use mathlib.Core.List.Memᴰ
 use mathlib.Core.List.{List, [], ◌∷◌, ◌++◌, Memᴰ}
-use mathlib.Core.Option.{some}
 use mathlib.Core.Bool.{true, false}
 use Prim.Native.Nat.{ℕ, suc, ◌+◌, ◌*◌, ◌≤◌}
 use native.Mathlib.Omega.{arith}
@@ -76,11 +76,11 @@ module _ (g : Setting) where
   edited-plan O.FieldResized = fields-append (Draws.front_fields g) (Draws.retyped_field g ∷ Draws.back_fields g)
   edited-plan O.Unraised = fields-append (whole_fields g) (Draws.added_field g ∷ []) ∙ ap (λ (x : List Field). x ++ (field_meant (Draws.added_field g) ∷ [])) whole-plan
 
-  root-slot : meant_text (Draws.slot_text g.slot) ≡ some (text_of W.pool (Draws.slot_text g.slot))
+  root-slot : meant_text (Draws.slot_text g.slot) ≡ Some (text_of W.pool (Draws.slot_text g.slot))
   unfolding meant_text
   root-slot = rw (given (Draws.slot_text g.slot) (slot-in g.slot))
 
-  root-constant : meant_text W.t·GENERATION ≡ some (bytes "GENERATION")
+  root-constant : meant_text W.t·GENERATION ≡ Some (bytes "GENERATION")
   unfolding meant_text opt_text text_of W.pool W.struct_names W.field_names W.kind_texts W.word_texts bytes
   root-constant = refl
 
@@ -95,7 +95,7 @@ module _ (g : Setting) where
   unfolding target schema_with plan_of entry_at
   target-plan release n cs fs = λ i. record {
     scalars = built_in;
-    release = some (text_of W.pool release);
+    release = Some (text_of W.pool release);
     unreleased = false;
     constants = cs;
     aliases = alias_list;

@@ -1,4 +1,5 @@
 -- A stream of commands each of which fits is judged without refusal, and its commands stand where they were put. Assumes nothing.
+use Rattle.std.specs.Prelude.{Some, None, Ok}
 use mathlib.Core.Path.{◌≡◌, refl, ap, subst}
 use mathlib.Core.List.{List, [], ◌∷◌, ◌++◌, append_assoc}
 use Prim.Native.Nat.{ℕ, zero, suc, ◌+◌, ◌-◌, ◌<◌, ◌≤◌}
@@ -12,7 +13,6 @@ use Rattle.record.specs.Judge.{may_stand, parent_after, ready, faults_from, judg
 use Rattle.record.specs.Reading.{ok, onto, continued, parse}
 use Rattle.record.specs.declared.command.Parent.{Parent}
 use Rattle.record.specs.declared.refusal.Side.{Side}
-use Rattle.record.specs.declared.judge.Judged.TheVariants.{Next, Done}
 use Rattle.load.specs.Generator.{stream_of}
 use Rattle.load.specs.Written.{opcode, places_from, cursor_at, Fits, AllFit}
 
@@ -28,7 +28,7 @@ seam-byte pre x = subst (λ (n : ℕ). get_or (pre ++ x) n 0 ≡ get_or x 0 0) (
 module _ (side : Side) (pool : Str) where
   -- one command
   judged-next : (pre c x : Str) (last : ℕ) (parent : Parent) (f : Fits side pool last parent c)
-      → judged_at side (pre ++ (c ++ x)) pool (cursor_at (length pre) last parent) ≡ Next (command_of (opcode c) (c ++ x)) (cursor_at (length pre + length c) (opcode c) (parent_after parent (opcode c)))
+      → judged_at side (pre ++ (c ++ x)) pool (cursor_at (length pre) last parent) ≡ Ok (Some (command_of (opcode c) (c ++ x), cursor_at (length pre + length c) (opcode c) (parent_after parent (opcode c))))
   unfolding judged_at judged_with ready
   judged-next pre c x last parent f =
       let w = f.whole in
@@ -52,7 +52,7 @@ module _ (side : Side) (pool : Str) where
       )
 
   -- the end
-  judged-end : (pre : Str) (last : ℕ) (parent : Parent) → (last ≡ 0 → ⊥) → judged_at side (pre ++ (15 ∷ [])) pool (cursor_at (length pre) last parent) ≡ Done
+  judged-end : (pre : Str) (last : ℕ) (parent : Parent) → (last ≡ 0 → ⊥) → judged_at side (pre ++ (15 ∷ [])) pool (cursor_at (length pre) last parent) ≡ Ok None
   unfolding judged_at judged_with ready operands widths may_stand faults_from bytes
   judged-end pre last parent h =
       let e = length-append pre (15 ∷ []) in

@@ -1,4 +1,5 @@
 -- Bytes put, in the form in which the code has them. Assumes nothing.
+use Rattle.std.specs.Prelude.{Option, Some, None}
 use mathlib.Core.Path.{◌≡◌, refl}
 use mathlib.Core.List.{[], ◌∷◌, ◌++◌}
 use Prim.Native.Nat.{ℕ, ◌/◌, ◌%◌}
@@ -8,7 +9,6 @@ use Rattle.record.specs.Write.{Puts}
 use Rattle.record.proofs.WriterLaws.{puts_then, puts-as}
 use Rattle.load.specs.Commands.{struct_bytes, struct_command, operand_bytes, num_bytes, texts_bytes, nums_bytes, field_bytes}
 use Rattle.load.specs.declared.commands.FieldCommand.{FieldCommand}
-use Rattle.load.specs.declared.commands.Num.{Num}
 
 module _ (n s v : Text) (a b c d e f : ℕ) (p : a ≡ n.start % 256) (q : b ≡ n.start / 256) (r : c ≡ s.start % 256) (x : d ≡ s.start / 256) (y : e ≡ v.start % 256) (z : f ≡ v.start / 256) where
   pub struct-put : (8 ∷ a ∷ b ∷ n.len ∷ c ∷ d ∷ s.len ∷ e ∷ f ∷ v.len ∷ []) ≡ struct_bytes (struct_command n s v)
@@ -20,10 +20,14 @@ module _ (n : Text) (a b : ℕ) (p : a ≡ n.start % 256) (q : b ≡ n.start / 2
   unfolding operand_bytes
   operand-put = λ i. p i ∷ q i ∷ n.len ∷ []
 
-module _ (n : Num) (a b c d : ℕ) (p : a ≡ n.value % 256) (q : b ≡ n.value / 256 % 256) (r : c ≡ n.value / 65536 % 256) (x : d ≡ n.value / 16777216) where
-  pub num-put : (n.flag ∷ a ∷ b ∷ c ∷ d ∷ []) ≡ num_bytes n
+module _ (n : Option ℕ) where
+  pub num-none : n ≡ None → (0 ∷ 0 ∷ 0 ∷ 0 ∷ 0 ∷ []) ≡ num_bytes n
   unfolding num_bytes
-  num-put = λ i. n.flag ∷ p i ∷ q i ∷ r i ∷ x i ∷ []
+  num-none e = rw e
+
+  pub num-put : (v a b c d : ℕ) → n ≡ Some v → a ≡ v % 256 → b ≡ v / 256 % 256 → c ≡ v / 65536 % 256 → d ≡ v / 16777216 → (1 ∷ a ∷ b ∷ c ∷ d ∷ []) ≡ num_bytes n
+  unfolding num_bytes
+  num-put v a b c d e p q r x = rw (e, p, q, r, x)
 
 pub field_put : (f : FieldCommand) → (11 ∷ []) ++ texts_bytes f ++ nums_bytes f ≡ field_bytes f
 unfolding texts_bytes nums_bytes operand_bytes num_bytes field_bytes

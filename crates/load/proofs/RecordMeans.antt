@@ -1,7 +1,7 @@
 -- A record of a pair is read as the plan's schema: each section off its commands. Assumes nothing.
+use Rattle.std.specs.Prelude.{Some, None}
 use mathlib.Core.Path.{◌≡◌, refl, ◌∙◌, ap, ap₂}
 use mathlib.Core.List.{List, [], ◌∷◌, ◌++◌}
-use mathlib.Core.Option.{none, some}
 use mathlib.Core.Bool.{true, false}
 use Prim.Native.Nat.{ℕ, ◌+◌, ◌*◌, ◌/◌, ◌%◌}
 use native.Mathlib.Omega.{arith}
@@ -29,17 +29,17 @@ eight-bytes n = omega (arith, four_bytes n)
 
 generation-back : (n : ℕ) (x : Str) → constant_of W.pool (constant_at (integer_bytes W.t·GENERATION n 0 W.absent ++ x)) ≡ generation_const n
 unfolding integer_bytes opt_text_at opt_text text_at flag_at u16_at u32_at u64_at text_of W.pool W.struct_names W.field_names W.kind_texts W.word_texts bytes generation_const
-generation-back n x = λ i. record { name = bytes "GENERATION"; value = integer (eight-bytes n i); api = false; since = none }
+generation-back n x = λ i. record { name = bytes "GENERATION"; value = integer (eight-bytes n i); api = false; since = None }
 
 spare-back : (n : ℕ) (x : Str) → constant_of W.pool (constant_at (integer_bytes W.t·TILE-LIMIT n 1 W.t·0·8·0 ++ x)) ≡ spare_at n
 unfolding integer_bytes opt_text_at opt_text text_at flag_at u16_at u32_at u64_at text_of W.pool W.struct_names W.field_names W.kind_texts W.word_texts bytes spare_at
-spare-back n x = λ i. record { name = bytes "TILE_LIMIT"; value = integer (eight-bytes n i); api = true; since = some (bytes "0.8.0") }
+spare-back n x = λ i. record { name = bytes "TILE_LIMIT"; value = integer (eight-bytes n i); api = true; since = Some (bytes "0.8.0") }
 
 version-back : (t : Text) (n : ℕ) (x : Str) → version_of W.pool (version_at (version_bytes t n ++ x)) ≡ record { struct = text_of W.pool t; version = n }
 unfolding version_bytes text_at u16_at u32_at
 version-back t n x = λ i. record { struct = text_of W.pool (back_is t i); version = four_bytes n i }
 
-head-back : (t : Text) → InPool t → (x : Str) → head_of W.pool (head_at (head_bytes t ++ x)) ≡ record { release = some (text_of W.pool t); unreleased = false }
+head-back : (t : Text) → InPool t → (x : Str) → head_of W.pool (head_at (head_bytes t ++ x)) ≡ record { release = Some (text_of W.pool t); unreleased = false }
 unfolding head_bytes opt_text_at text_at flag_at u16_at
 head-back t h x = (λ i. record { release = opt_of W.pool (opt_text (back_is t i)); unreleased = false }) ∙ rw (given t h)
 
@@ -88,7 +88,7 @@ module _ (t : Text) (n : ℕ) (ss : List StructCommand) where
   unfoldable pub target : Text → List Const → Schema
   target release cs = record {
     scalars = built_in;
-    release = some (text_of W.pool release);
+    release = Some (text_of W.pool release);
     unreleased = false;
     constants = cs;
     aliases = alias_list;
@@ -102,7 +102,7 @@ module _ (t : Text) (n : ℕ) (ss : List StructCommand) where
 
   -- what the commands before the last ones give
   read_as : (release : Text) (cs : List Const) (l : List Str)
-      → heads_in W.pool l ≡ record { release = some (text_of W.pool release); unreleased = false } ∷ []
+      → heads_in W.pool l ≡ record { release = Some (text_of W.pool release); unreleased = false } ∷ []
       → constants_in W.pool l ≡ cs → aliases_in W.pool l ≡ aliases_in W.pool last → enums_in W.pool l ≡ enums_in W.pool last → bitfields_in W.pool l ≡ bitfields_in W.pool last
       → structs_in W.pool l ≡ structs_in W.pool last → families_in W.pool l ≡ families_in W.pool last → unstored_in W.pool l ≡ unstored_in W.pool last → versions_in W.pool l ≡ versions_in W.pool last
       → schema_in W.pool l ≡ target release cs

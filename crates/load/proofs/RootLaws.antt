@@ -1,5 +1,6 @@
 -- The root's fields and all structures, in the form in which the code puts them. Assumes nothing.
-use mathlib.Core.Path.{◌≡◌, sym, ◌∙◌, ap, ap₂}
+use mathlib.Core.Path.{◌≡◌, refl, sym, ◌∙◌, ap, ap₂}
+use mathlib.Core.Logic.{◌⊎◌, inl, inr}
 use mathlib.Core.List.{List, [], ◌∷◌, ◌++◌, append_assoc, append-nil}
 use Prim.Native.Nat.{ℕ, ◌+◌, ◌-◌, ◌*◌, ◌≤◌, ◌<◌}
 use native.Mathlib.Omega.{arith}
@@ -49,54 +50,43 @@ module _ (g : Setting) (out : Str) (at : ℕ) where
   one-put f after r w = puts-as w (sym (append-nil (field_bytes f)))
 
   module _ (o : Outcome) (after : Str) (r : ℕ) where
-    pub middle-accepted : o ≡ O.Accepted → Puts out at (field_bytes (target_field g)) after r → Puts out at (fields_bytes (target_fields g o)) after r
-    unfolding target_fields
-    middle-accepted e w = rw e (one-put (target_field g) after r w)
-
-    pub middle-constant : o ≡ O.ConstantGone → Puts out at (field_bytes (target_field g)) after r → Puts out at (fields_bytes (target_fields g o)) after r
-    unfolding target_fields
-    middle-constant e w = rw e (one-put (target_field g) after r w)
-
     pub middle-resized : o ≡ O.FieldResized → Puts out at (field_bytes (retyped_field g)) after r → Puts out at (fields_bytes (target_fields g o)) after r
     unfolding target_fields
     middle-resized e w = rw e (one-put (retyped_field g) after r w)
 
-    pub middle-unraised : o ≡ O.Unraised → Puts out at (field_bytes (target_field g)) after r → Puts out at (fields_bytes (target_fields g o)) after r
-    unfolding target_fields
-    middle-unraised e w = rw e (one-put (target_field g) after r w)
-
     pub middle-moved : (mid : Str) (q : ℕ) → o ≡ O.FieldMoved → Puts out at (field_bytes (inserted_field g)) mid q → Puts mid q (field_bytes (target_field g)) after r → Puts out at (fields_bytes (target_fields g o)) after r
     unfolding target_fields fields_bytes
     middle-moved mid q e v w = rw e (puts-as (puts_then v w) (ap (λ (x : Str). field_bytes (inserted_field g) ++ x) (sym (append-nil (field_bytes (target_field g))))))
-
-    pub last-accepted : o ≡ O.Accepted → Puts out at (field_bytes (added_field g)) after r → Puts out at (fields_bytes (last_fields g o)) after r
-    unfolding last_fields
-    last-accepted e w = rw e (one-put (added_field g) after r w)
-
-    pub last-unraised : o ≡ O.Unraised → Puts out at (field_bytes (added_field g)) after r → Puts out at (fields_bytes (last_fields g o)) after r
-    unfolding last_fields
-    last-unraised e w = rw e (one-put (added_field g) after r w)
 
   module _ (o : Outcome) (after : Str) (r : ℕ) where
     pub middle-gone : o ≡ O.FieldGone → Puts out at [] after r → Puts out at (fields_bytes (target_fields g o)) after r
     unfolding target_fields fields_bytes
     middle-gone e w = rw e w
 
-    pub last-constant : o ≡ O.ConstantGone → Puts out at [] after r → Puts out at (fields_bytes (last_fields g o)) after r
-    unfolding last_fields fields_bytes
-    last-constant e w = rw e w
+  -- what most outcomes make of the target field and add at the end
+  pub middle-same : (o : Outcome) (after : Str) (r : ℕ) → (o ≡ O.FieldGone → ⊥) → (o ≡ O.FieldMoved → ⊥) → (o ≡ O.FieldResized → ⊥)
+      → Puts out at (field_bytes (target_field g)) after r → Puts out at (fields_bytes (target_fields g o)) after r
+  unfolding target_fields
+  middle-same O.Accepted after r a b c w = one-put (target_field g) after r w
+  middle-same O.ConstantGone after r a b c w = one-put (target_field g) after r w
+  middle-same O.FieldGone after r a b c w = absurd (a refl)
+  middle-same O.FieldMoved after r a b c w = absurd (b refl)
+  middle-same O.FieldResized after r a b c w = absurd (c refl)
+  middle-same O.Unraised after r a b c w = one-put (target_field g) after r w
 
-    pub last-gone : o ≡ O.FieldGone → Puts out at [] after r → Puts out at (fields_bytes (last_fields g o)) after r
-    unfolding last_fields fields_bytes
-    last-gone e w = rw e w
+  pub last-added : (o : Outcome) (after : Str) (r : ℕ) → (o ≡ O.Accepted) ⊎ (o ≡ O.Unraised) → Puts out at (field_bytes (added_field g)) after r → Puts out at (fields_bytes (last_fields g o)) after r
+  unfolding last_fields
+  last-added o after r (inl e) w = rw e (one-put (added_field g) after r w)
+  last-added o after r (inr e) w = rw e (one-put (added_field g) after r w)
 
-    pub last-moved : o ≡ O.FieldMoved → Puts out at [] after r → Puts out at (fields_bytes (last_fields g o)) after r
-    unfolding last_fields fields_bytes
-    last-moved e w = rw e w
-
-    pub last-resized : o ≡ O.FieldResized → Puts out at [] after r → Puts out at (fields_bytes (last_fields g o)) after r
-    unfolding last_fields fields_bytes
-    last-resized e w = rw e w
+  pub last-none : (o : Outcome) (after : Str) (r : ℕ) → (o ≡ O.Accepted → ⊥) → (o ≡ O.Unraised → ⊥) → Puts out at [] after r → Puts out at (fields_bytes (last_fields g o)) after r
+  unfolding last_fields fields_bytes
+  last-none O.Accepted after r a b w = absurd (a refl)
+  last-none O.ConstantGone after r a b w = w
+  last-none O.FieldGone after r a b w = w
+  last-none O.FieldMoved after r a b w = w
+  last-none O.FieldResized after r a b w = w
+  last-none O.Unraised after r a b w = absurd (b refl)
 
 -- the root's fields as four stretches
 edited-four : (g : Setting) (o : Outcome) → front_fields g ++ (target_fields g o ++ (back_fields g ++ last_fields g o)) ≡ edited_fields g o

@@ -1,8 +1,8 @@
 -- The root of a plan's records: it is the one in a slot, it holds the generation, it owns itself. The standalone pass and the generations pass. Assumes nothing.
+use Rattle.std.specs.Prelude.{Option, Some, None}
 use mathlib.Core.Path.{◌≡◌, refl, sym, ◌∙◌, ap, subst}
 use mathlib.Core.List.Memᴰ
 use mathlib.Core.List.{List, [], ◌∷◌, Memᴰ}
-use mathlib.Core.Option.{Option, none, some}
 use mathlib.Core.Bool.{Bool, true, false, false≢true, not, cond}
 use mathlib.Core.Logic.{◌⊎◌, inl, inr}
 use Prim.Native.Nat.{ℕ, ◌<◌, ◌^◌}
@@ -42,11 +42,11 @@ module _ (p : Plan) (g : Feasible p) (fs : List Field) where
   after-not n t m = ap (λ (o : Option Str). is_text o n) (g.after-other t m).free
 
   -- what a slot holds
-  in-slot : (n : Str) → struct_in_slot n (structs_with p fs) ≡ cond (eqs p.slot n) (some (root p fs)) none
+  in-slot : (n : Str) → struct_in_slot n (structs_with p fs) ≡ cond (eqs p.slot n) (Some (root p fs)) None
   unfolding struct_in_slot structs_with find root is_text
   in-slot n =
       find-right (λ (t : Struct). is_text t.slot n) p.before (root p fs ∷ p.after) (before-not n)
-      ∙ ap (cond (eqs p.slot n) (some (root p fs))) (find-nowhere (λ (t : Struct). is_text t.slot n) p.after (after-not n))
+      ∙ ap (cond (eqs p.slot n) (Some (root p fs))) (find-nowhere (λ (t : Struct). is_text t.slot n) p.after (after-not n))
 
   -- one root, in whatever order the slots are taken
   slot_cases : (x : Str) → Memᴰ x slot_order → (x ≡ bytes "info") ⊎ ((x ≡ bytes "metadata") ⊎ (x ≡ bytes "runtime"))
@@ -78,16 +78,16 @@ module _ (p : Plan) (g : Feasible p) (fs : List Field) where
   abbrev pub types_with : Types
   types_with = record { structs = structs_with p fs; families = p.families }
 
-  pub owns-itself : owner_of types_with p.name ≡ some p.name
+  pub owns-itself : owner_of types_with p.name ≡ Some p.name
   unfolding roots
   owns-itself = (owner-is-first types_with p.name p.name).1 (subst (λ (l : List Str). First types_with p.name l p.name) (sym roots-one) (now refl (here refl)))
 
-  named-root : struct_in p.name (structs_with p fs) ≡ some (root p fs)
+  named-root : struct_in p.name (structs_with p fs) ≡ Some (root p fs)
   unfolding struct_in structs_with find root
   named-root = find-right (λ (t : Struct). eqs t.name p.name) p.before (root p fs ∷ p.after) (λ t m. (g.before-other t m).named) ∙ rw (eqs-refl p.name)
 
   -- the generation that it holds, where the constant comes first
-  pub holds : (n : ℕ) (cs : List Const) → n < 2 ^ 32 → generation_of (structs_with p fs) (generation_at p n ∷ cs) p.name ≡ some (record { constant = p.constant; number = n })
+  pub holds : (n : ℕ) (cs : List Const) → n < 2 ^ 32 → generation_of (structs_with p fs) (generation_at p n ∷ cs) p.name ≡ Some (record { constant = p.constant; number = n })
   unfolding generation_of of_struct of_version of_constant as_generation constant_in find generation_at root
   holds n cs h = rw (named-root, eqs-refl p.constant, lt-ltb n (2 ^ 32) h)
 
@@ -103,8 +103,8 @@ module _ (p : Plan) (g : Feasible p) (is was : List Field) where
   shipped k d = rw (other-found p g is was k d) (go (type_in k (layouts p was)))
     where
       go : (o : Option TypeLayout) → on_found o pass (λ (old : TypeLayout). on_found o pass (λ (new : TypeLayout). check_same k new.fields old.fields)) ≡ pass
-      go none = refl
-      go (some t) = rw (same-places t.fields)
+      go None = refl
+      go (Some t) = rw (same-places t.fields)
 
   family-pass : (m : Family) → Memᴰ m p.families → check_family p.families (layouts p is) (layouts p was) m ≡ pass
   unfolding check_family ◌then◌ check_shipped_all ensure
@@ -146,18 +146,18 @@ module _ (p : Plan) (g : Feasible p) (is was : List Field) where
   is-under t e = rw (e, owning-plain p.name g.no-colon, g.none-alone, owns-itself p g is, eqs-refl p.name)
 
   -- where the root's layout changed, it is what is found under the root
-  pub root-touched : eq_places (laid p was).fields (laid p is).fields ≡ false → first_under (types_with p g is) (changed (layouts p is) (layouts p was)) p.name ≡ some p.name
+  pub root-touched : eq_places (laid p was).fields (laid p is).fields ≡ false → first_under (types_with p g is) (changed (layouts p is) (layouts p was)) p.name ≡ Some p.name
   unfolding first_under map_option changed same_as laid root lay_struct
   root-touched d =
       let m = filter-mem (λ (t : TypeLayout). not (same_as (type_in t.name (layouts p was)) t)) (layouts p is) (root-member p g is) (rw (root-found p g was, d)) in
       let f = find-any (under (types_with p g is) p.name) (changed (layouts p is) (layouts p was)) m (is-under (laid p is) refl) in
       let k = find-some (under (types_with p g is) p.name) (changed (layouts p is) (layouts p was)) f.1 in
-      ap (map_option (λ (t : TypeLayout). t.name)) f.1 ∙ ap some (changed-named f.0 k.0)
+      ap (map_option (λ (t : TypeLayout). t.name)) f.1 ∙ ap Some (changed-named f.0 k.0)
 
   -- the pass, for the generation before and now
   module _ (r s : Str) (vs : List Version) (cs cs₀ : List Const) where
     pub risen : (a b : ℕ) → a < 2 ^ 32 → b < 2 ^ 32
-        → check_generations r (some s) vs (types_with p g is) (generation_at p b ∷ cs) (generation_at p a ∷ cs₀) (changed (layouts p is) (layouts p was))
-        ≡ (check_rise r (some s) vs (first_under (types_with p g is) (changed (layouts p is) (layouts p was)) p.name) p.name p.constant a b then pass)
+        → check_generations r (Some s) vs (types_with p g is) (generation_at p b ∷ cs) (generation_at p a ∷ cs₀) (changed (layouts p is) (layouts p was))
+        ≡ (check_rise r (Some s) vs (first_under (types_with p g is) (changed (layouts p is) (layouts p was)) p.name) p.name p.constant a b then pass)
     unfolding check_generations ◌then◌ check_roots each check_generation on_found check_against check_from ensure constant_in find generation_at
     risen a b h k = rw (all-covered, versioned-one p g is, holds p g is b cs k, eqs-refl p.constant, lt-ltb a (2 ^ 32) h)

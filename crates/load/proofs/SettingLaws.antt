@@ -18,13 +18,14 @@ unfolding seed_after
 seed-after-one s zero h = absurd (omega arith)
 seed-after-one s (suc n) h = rw sub-one
 
-pub seed-after-on : (s t n a : ℕ) → a ≡ seed_after n s → 0 < n → t ≡ next_seed s → a ≡ seed_after (n - 1) t
-seed-after-on s t n a e h q = e ∙ seed-after-one s n h ∙ ap (seed_after (n - 1)) (sym q)
+pub seed-after-on : (s t k i a : ℕ) → a ≡ seed_after (k - i) s → i < k → t ≡ next_seed s → a ≡ seed_after (k - (i + 1)) t
+seed-after-on s t k i a e h q =
+    let n : k - i - 1 ≡ k - (i + 1) = omega arith in
+    e ∙ seed-after-one s (k - i) (omega arith) ∙ rw (n, q)
 
-pub seed-after-end : (s n a : ℕ) → a ≡ seed_after n s → n ≤ 0 → s ≡ a
+pub seed-after-end : (s k i a : ℕ) → a ≡ seed_after (k - i) s → k ≤ i → s ≡ a
 unfolding seed_after
-seed-after-end s zero a e h = sym e
-seed-after-end s (suc n) a e h = absurd (omega arith)
+seed-after-end s k i a e h = let n : k - i ≡ 0 = omega arith in sym (rw n at e)
 
 pub draw-is : (s k n t : ℕ) → t ≡ seed_after k s → t / 65536 % n ≡ draw s k n
 unfolding draw

@@ -1,7 +1,7 @@
 -- The sections that both records of a pair share pass beside themselves. Computed, for each pair of releases. Assumes nothing.
+use Rattle.std.specs.Prelude.{Some, None}
 use mathlib.Core.Path.{◌≡◌, refl, ◌∙◌, ap}
 use mathlib.Core.List.{List, [], ◌∷◌, Memᴰ}
-use mathlib.Core.Option.{none, some}
 use mathlib.Core.Bool.{Bool, true, false, ◌||◌}
 use Prim.Native.Nat.{ℕ, zero, suc, ◌<◌}
 use native.Mathlib.Omega.{arith}
@@ -40,12 +40,12 @@ unfoldable pub was_spelt : ℕ → Str
 was_spelt e = text_of W.pool (was_text e)
 
 unfoldable pub generation_const : ℕ → Const
-generation_const n = record { name = bytes "GENERATION"; value = integer n; api = false; since = none }
+generation_const n = record { name = bytes "GENERATION"; value = integer n; api = false; since = None }
 
 OrderAt : ℕ → Type 0
-OrderAt e = check_release_order (now_spelt e) (some (was_spelt e)) ≡ pass
+OrderAt e = check_release_order (now_spelt e) (Some (was_spelt e)) ≡ pass
 
-pub order-releases : (e : ℕ) → e < 4 → check_release_order (now_spelt e) (some (was_spelt e)) ≡ pass
+pub order-releases : (e : ℕ) → e < 4 → check_release_order (now_spelt e) (Some (was_spelt e)) ≡ pass
 unfolding OrderAt now_spelt was_spelt now_text was_text text_of W.pool W.struct_names W.field_names W.kind_texts W.word_texts bytes
     check_release_order check_copy check_earlier ensure release_parts is_release parts onto_head all_decimal is_decimal all_digits digit eqs number as_u32 parsed_part earlier
 order-releases = four OrderAt refl refl refl refl
@@ -53,10 +53,10 @@ order-releases = four OrderAt refl refl refl refl
 -- the released and the current constants, with the spare one or without
 DatedAt : ℕ → Type 0
 DatedAt e =
-    (m n v : ℕ) → check_first_releases (now_spelt e) (some (was_spelt e)) (generation_const m ∷ spare_at v ∷ other_constants) (generation_const n ∷ spare_at v ∷ other_constants)
+    (m n v : ℕ) → check_first_releases (now_spelt e) (Some (was_spelt e)) (generation_const m ∷ spare_at v ∷ other_constants) (generation_const n ∷ spare_at v ∷ other_constants)
     enum_list enum_list unstored_list unstored_list ≡ pass
 
-pub dated-releases : (e : ℕ) → e < 4 → (m n v : ℕ) → check_first_releases (now_spelt e) (some (was_spelt e)) (generation_const m ∷ spare_at v ∷ other_constants) (generation_const n ∷ spare_at v ∷ other_constants)
+pub dated-releases : (e : ℕ) → e < 4 → (m n v : ℕ) → check_first_releases (now_spelt e) (Some (was_spelt e)) (generation_const m ∷ spare_at v ∷ other_constants) (generation_const n ∷ spare_at v ∷ other_constants)
     enum_list enum_list unstored_list unstored_list ≡ pass
 unfolding DatedAt now_spelt was_spelt now_text was_text text_of W.pool W.struct_names W.field_names W.kind_texts W.word_texts bytes generation_const spare_at other_constants enum_list unstored_list
     check_first_releases check_constant_arrivals check_constant_arrival check_enum_arrivals check_enum_arrival check_value_arrivals check_value_arrival check_key_arrivals check_key_arrival check_arrival
@@ -65,10 +65,10 @@ dated-releases = four DatedAt (λ m n v. refl) (λ m n v. refl) (λ m n v. refl)
 
 DatedWithoutAt : ℕ → Type 0
 DatedWithoutAt e =
-    (m n v : ℕ) → check_first_releases (now_spelt e) (some (was_spelt e)) (generation_const m ∷ other_constants) (generation_const n ∷ spare_at v ∷ other_constants)
+    (m n v : ℕ) → check_first_releases (now_spelt e) (Some (was_spelt e)) (generation_const m ∷ other_constants) (generation_const n ∷ spare_at v ∷ other_constants)
     enum_list enum_list unstored_list unstored_list ≡ pass
 
-pub dated-without-releases : (e : ℕ) → e < 4 → (m n v : ℕ) → check_first_releases (now_spelt e) (some (was_spelt e)) (generation_const m ∷ other_constants) (generation_const n ∷ spare_at v ∷ other_constants)
+pub dated-without-releases : (e : ℕ) → e < 4 → (m n v : ℕ) → check_first_releases (now_spelt e) (Some (was_spelt e)) (generation_const m ∷ other_constants) (generation_const n ∷ spare_at v ∷ other_constants)
     enum_list enum_list unstored_list unstored_list ≡ pass
 unfolding DatedWithoutAt now_spelt was_spelt now_text was_text text_of W.pool W.struct_names W.field_names W.kind_texts W.word_texts bytes generation_const spare_at other_constants enum_list unstored_list
     check_first_releases check_constant_arrivals check_constant_arrival check_enum_arrivals check_enum_arrival check_value_arrivals check_value_arrival check_key_arrivals check_key_arrival check_arrival
@@ -107,17 +107,17 @@ unfolding ◌then◌
 third a b c d p q = rw (p, q)
 
 abbrev plugin : Const
-plugin = record { name = bytes "PLUGIN_API"; value = integer 4; api = true; since = none }
+plugin = record { name = bytes "PLUGIN_API"; value = integer 4; api = true; since = None }
 
 abbrev vendor : Const
-vendor = record { name = bytes "VENDOR"; value = Schema.words (bytes "menqachu"); api = false; since = none }
+vendor = record { name = bytes "VENDOR"; value = Schema.words (bytes "menqachu"); api = false; since = None }
 
 in_order : (n v : ℕ) → sorted (λ (c : Const). c.name) (generation_const n ∷ spare_at v ∷ other_constants) ≡ generation_const n ∷ plugin ∷ spare_at v ∷ vendor ∷ []
 unfolding generation_const spare_at other_constants sorted insert_all insert before eqs bytes
 in_order n v = refl
 
 -- a constant that is found, with a value that is the same
-module _ (ss : List Struct) (cs : List Const) (c d : Const) (found : last_constant c.name cs ≡ some d) where
+module _ (ss : List Struct) (cs : List Const) (c d : Const) (found : last_constant c.name cs ≡ Some d) where
   stays : constant_text d.value ≡ constant_text c.value → check_constant ss cs c ≡ pass
   unfolding check_constant on_found
   stays e = rw (found, e) (same-value (is_generation ss cs c.name) (constant_text c.value) _)

@@ -41,29 +41,28 @@ module _ (g : Setting) (out : Str) (at : ℕ) (o : Outcome) (after : Str) (r : �
   unfolding commands_bytes spare_command
   spare-put w = puts-as w (sym (append-nil (integer_bytes W.t·TILE-LIMIT g.spare 1 W.t·0·8·0)))
 
-  pub spare-accepted : o ≡ O.Accepted → Puts out at (integer_bytes W.t·TILE-LIMIT g.spare 1 W.t·0·8·0) after r → Puts out at (commands_bytes (spare_now g o)) after r
-  unfolding spare_now
-  spare-accepted e w = rw e (spare-put w)
-
   pub spare-constant : o ≡ O.ConstantGone → Puts out at [] after r → Puts out at (commands_bytes (spare_now g o)) after r
   unfolding spare_now commands_bytes
   spare-constant e w = rw e w
 
-  pub spare-gone : o ≡ O.FieldGone → Puts out at (integer_bytes W.t·TILE-LIMIT g.spare 1 W.t·0·8·0) after r → Puts out at (commands_bytes (spare_now g o)) after r
+module _ (g : Setting) (out : Str) (at : ℕ) where
+  pub spare-kept : (o : Outcome) (after : Str) (r : ℕ) → (o ≡ O.ConstantGone → ⊥) → Puts out at (integer_bytes W.t·TILE-LIMIT g.spare 1 W.t·0·8·0) after r → Puts out at (commands_bytes (spare_now g o)) after r
   unfolding spare_now
-  spare-gone e w = rw e (spare-put w)
+  spare-kept O.Accepted after r n w = spare-put g out at O.Accepted after r w
+  spare-kept O.ConstantGone after r n w = absurd (n refl)
+  spare-kept O.FieldGone after r n w = spare-put g out at O.FieldGone after r w
+  spare-kept O.FieldMoved after r n w = spare-put g out at O.FieldMoved after r w
+  spare-kept O.FieldResized after r n w = spare-put g out at O.FieldResized after r w
+  spare-kept O.Unraised after r n w = spare-put g out at O.Unraised after r w
 
-  pub spare-moved : o ≡ O.FieldMoved → Puts out at (integer_bytes W.t·TILE-LIMIT g.spare 1 W.t·0·8·0) after r → Puts out at (commands_bytes (spare_now g o)) after r
-  unfolding spare_now
-  spare-moved e w = rw e (spare-put w)
-
-  pub spare-resized : o ≡ O.FieldResized → Puts out at (integer_bytes W.t·TILE-LIMIT g.spare 1 W.t·0·8·0) after r → Puts out at (commands_bytes (spare_now g o)) after r
-  unfolding spare_now
-  spare-resized e w = rw e (spare-put w)
-
-  pub spare-unraised : o ≡ O.Unraised → Puts out at (integer_bytes W.t·TILE-LIMIT g.spare 1 W.t·0·8·0) after r → Puts out at (commands_bytes (spare_now g o)) after r
-  unfolding spare_now
-  spare-unraised e w = rw e (spare-put w)
+pub not-raised : (o : Outcome) (n : ℕ) → (o ≡ O.Accepted → ⊥) → n ≡ generation_now o n
+unfolding generation_now
+not-raised O.Accepted n h = absurd (h refl)
+not-raised O.ConstantGone n h = refl
+not-raised O.FieldGone n h = refl
+not-raised O.FieldMoved n h = refl
+not-raised O.FieldResized n h = refl
+not-raised O.Unraised n h = refl
 
 pub raised : (g : Setting) (o : Outcome) (r : ℕ) → o ≡ O.Accepted → r ≡ g.generation + 1 → r ≡ generation_now o g.generation
 unfolding generation_now

@@ -43,31 +43,31 @@ module _ (g : Setting) (out : Str) (at : ℕ) (xs mid : Str) (q s j : ℕ) where
   fields-one zero h = absurd (omega arith)
   fields-one (suc n) h = rw sub-one
 
-  pub fields-on : (n t : ℕ) (field : FieldCommand) (after : Str) (r : ℕ) → Putting out at xs mid q (fields_bytes (fields_from g s j n)) → 0 < n → field ≡ field_drawn g s j
-      → Puts mid q (field_bytes field) after r → t ≡ seed_after 3 s → Putting out at xs after r (fields_bytes (fields_from g t (j + 1) (n - 1)))
+  pub fields-on : (end t : ℕ) (field : FieldCommand) (after : Str) (r : ℕ) → Putting out at xs mid q (fields_bytes (fields_from g s j (end - j))) → j < end → field ≡ field_drawn g s j
+      → Puts mid q (field_bytes field) after r → t ≡ seed_after 3 s → Putting out at xs after r (fields_bytes (fields_from g t (j + 1) (end - (j + 1))))
   unfolding field_bytes
-  fields-on n t field after r p h e w k =
-      rw k (putting-next out at xs mid q (fields_bytes (fields_from g s j n)) (field_bytes (field_drawn g s j)) (fields_bytes (fields_from g (seed_after 3 s) (j + 1) (n - 1))) after r p (fields-one n h) (puts-as w (ap field_bytes e)))
+  fields-on end t field after r p h e w k =
+      let n : end - j - 1 ≡ end - (j + 1) = omega arith in
+      rw (k, ← n) (putting-next out at xs mid q (fields_bytes (fields_from g s j (end - j))) (field_bytes (field_drawn g s j)) (fields_bytes (fields_from g (seed_after 3 s) (j + 1) (end - j - 1))) after r p (fields-one (end - j) (omega arith)) (puts-as w (ap field_bytes e)))
 
-  pub fields-end : (n : ℕ) → Putting out at xs mid q (fields_bytes (fields_from g s j n)) → n ≤ 0 → Puts out at xs mid q
+  pub fields-end : (end : ℕ) → Putting out at xs mid q (fields_bytes (fields_from g s j (end - j))) → end ≤ j → Puts out at xs mid q
   unfolding fields_bytes fields_from
-  fields-end zero p h = putting-end out at xs mid q [] p refl
-  fields-end (suc n) p h = absurd (omega arith)
+  fields-end end p h = let n : end - j ≡ 0 = omega arith in putting-end out at xs mid q [] (rw n at p) refl
 
   structs-one : (n : ℕ) → 0 < n → structs_bytes (structs_from g s j n) ≡ struct_with_fields (plain_struct g s j) ++ structs_bytes (structs_from g (seed_after (3 * g.fields) s) (j + 1) (n - 1))
   unfolding structs_from
   structs-one zero h = absurd (omega arith)
   structs-one (suc n) h = rw sub-one (sym (structs-cons (plain_struct g s j) (structs_from g (seed_after (3 * g.fields) s) (j + 1) n)))
 
-  pub structs-on : (n t : ℕ) (after : Str) (r : ℕ) → Putting out at xs mid q (structs_bytes (structs_from g s j n)) → 0 < n
-      → Puts mid q (struct_with_fields (plain_struct g s j)) after r → t ≡ seed_after (3 * g.fields) s → Putting out at xs after r (structs_bytes (structs_from g t (j + 1) (n - 1)))
-  structs-on n t after r p h w k =
-      rw k (putting-next out at xs mid q (structs_bytes (structs_from g s j n)) (struct_with_fields (plain_struct g s j)) (structs_bytes (structs_from g (seed_after (3 * g.fields) s) (j + 1) (n - 1))) after r p (structs-one n h) w)
+  pub structs-on : (end t : ℕ) (after : Str) (r : ℕ) → Putting out at xs mid q (structs_bytes (structs_from g s j (end - j))) → j < end
+      → Puts mid q (struct_with_fields (plain_struct g s j)) after r → t ≡ seed_after (3 * g.fields) s → Putting out at xs after r (structs_bytes (structs_from g t (j + 1) (end - (j + 1))))
+  structs-on end t after r p h w k =
+      let n : end - j - 1 ≡ end - (j + 1) = omega arith in
+      rw (k, ← n) (putting-next out at xs mid q (structs_bytes (structs_from g s j (end - j))) (struct_with_fields (plain_struct g s j)) (structs_bytes (structs_from g (seed_after (3 * g.fields) s) (j + 1) (end - j - 1))) after r p (structs-one (end - j) (omega arith)) w)
 
-  pub structs_end : (n : ℕ) → Putting out at xs mid q (structs_bytes (structs_from g s j n)) → n ≤ 0 → Puts out at xs mid q
+  pub structs_end : (end : ℕ) → Putting out at xs mid q (structs_bytes (structs_from g s j (end - j))) → end ≤ j → Puts out at xs mid q
   unfolding structs_bytes structs_from
-  structs_end zero p h = putting-end out at xs mid q [] p refl
-  structs_end (suc n) p h = absurd (omega arith)
+  structs_end end p h = let n : end - j ≡ 0 = omega arith in putting-end out at xs mid q [] (rw n at p) refl
 
   -- a structure, and its fields
   pub plain-put : (name : Text) (after : Str) (r i : ℕ) (end : Str) (k : ℕ) → name ≡ W.struct_text g.lengths i → Puts mid q (struct_bytes (struct_command name W.absent W.absent)) after r

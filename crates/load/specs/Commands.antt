@@ -1,7 +1,6 @@
 -- Commands as bytes, and what a field's and a structure's mean over the pool. Each operand of 01 stands in front of more bytes, so that a command's
 -- bytes are one explicit list. They are below 256 where a start is below 65536, a length below 256 and a number below 2 ^ 32. Assumes nothing.
-use Rattle.std.specs.Prelude.{List, [], ◌∷◌, ◌++◌, cond, ℕ, ◌/◌, ◌%◌, eqb}
-use Rattle.std.proofs.Math.Option.{Option, none, some}
+use Rattle.std.specs.Prelude.{List, [], ◌∷◌, ◌++◌, cond, ℕ, ◌/◌, ◌%◌, eqb, Option, Some, None}
 use Rattle.record.specs.Base.{Str}
 use Rattle.record.specs.Stretch.{text_of}
 use Rattle.record.specs.Operands.{opt_text}
@@ -10,7 +9,6 @@ use Rattle.record.specs.Lists.{opt_of}
 use Rattle.record.specs.declared.text.Text.{Text}
 use Rattle.load.specs.Pool.{pool}
 use Rattle.load.specs.declared.commands.FieldCommand.{FieldCommand}
-use Rattle.load.specs.declared.commands.Num.{Num}
 
 -- 01's T, W, V (as two W) and N
 abbrev pub t3 : Text → Str → Str
@@ -22,21 +20,30 @@ w4 n x = n % 256 ∷ n / 256 % 256 ∷ n / 65536 % 256 ∷ n / 16777216 ∷ x
 abbrev pub v8 : ℕ → ℕ → Str → Str
 v8 low high x = w4 low (w4 high x)
 
-abbrev pub n5 : Num → Str → Str
-n5 n x = n.flag ∷ w4 n.value x
+-- an absent number has flag 0, and 0 for its value
+abbrev pub flag_of : Option ℕ → ℕ
+flag_of None = 0
+flag_of (Some n) = 1
+
+abbrev pub value_of : Option ℕ → ℕ
+value_of None = 0
+value_of (Some n) = n
+
+abbrev pub n5 : Option ℕ → Str → Str
+n5 n x = flag_of n ∷ w4 (value_of n) x
 
 -- an absent number, and a number
-abbrev pub no : Num
-no = record { flag = 0; value = 0 }
+abbrev pub no : Option ℕ
+no = None
 
-abbrev pub number : ℕ → Num
-number n = record { flag = 1; value = n }
+abbrev pub number : ℕ → Option ℕ
+number n = Some n
 
 -- a T and an N by themselves
 unfoldable pub operand_bytes : Text → Str
 operand_bytes t = t3 t []
 
-unfoldable pub num_bytes : Num → Str
+unfoldable pub num_bytes : Option ℕ → Str
 num_bytes n = n5 n []
 
 -- 0B, a field: its four texts, its four numbers
@@ -68,8 +75,8 @@ struct_command n s v = record { name = n; slot = s; version = v; fields = [] }
 unfoldable pub meant_text : Text → Option Str
 meant_text t = opt_of pool (opt_text t)
 
-unfoldable pub meant_number : Num → Option ℕ
-meant_number n = cond (eqb n.flag 0) none (some n.value)
+unfoldable pub meant_number : Option ℕ → Option ℕ
+meant_number n = cond (eqb (flag_of n) 0) None (Some (value_of n))
 
 unfoldable pub field_meant : FieldCommand → Field
 field_meant f = record {
@@ -81,7 +88,7 @@ field_meant f = record {
   rows = meant_number f.rows;
   cols = meant_number f.cols;
   size = meant_number f.size;
-  key = none;
+  key = None;
 }
 
 unfoldable pub fields_meant : List FieldCommand → List Field

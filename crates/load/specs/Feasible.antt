@@ -1,7 +1,6 @@
 -- What a plan must meet for its outcome to be met: the premises of the outcome theorem (proofs/Outcome). Assumes nothing.
-use Rattle.std.specs.Prelude.{◌≡◌, true, false, ℕ, ◌+◌, ◌^◌, ◌<◌}
+use Rattle.std.specs.Prelude.{◌≡◌, true, false, ℕ, ◌+◌, ◌^◌, ◌<◌, Some, None}
 use mathlib.Core.List.{List, map, Memᴰ}
-use Rattle.std.proofs.Math.Option.{none, some}
 use Rattle.record.specs.Base.{Str, eqs}
 use Rattle.record.specs.Schema.{Const, Field, Struct, Family}
 use Rattle.record.specs.Kind.{kind_of, is_padding}
@@ -24,12 +23,12 @@ abbrev pub field_names : List Field → List Str
 field_names fs = map (λ (f : Field). f.name) fs
 
 abbrev pub Keyless : List Field → Type 0
-Keyless fs = (f : Field) → Memᴰ f fs → f.key ≡ none
+Keyless fs = (f : Field) → Memᴰ f fs → f.key ≡ None
 
 -- a structure that is not the root
 pub record Other (n : Str) (t : Struct) : Type 0 where
   pub named : eqs t.name n ≡ false
-  pub free : t.slot ≡ none
+  pub free : t.slot ≡ None
   pub once : NoDup (field_names t.fields)
   pub keyless : Keyless t.fields
 
@@ -45,11 +44,11 @@ pub record Stands (p : Plan) (m : Family) : Type 0 where
 
 -- the first releases of the shared sections, with these current constants beside the released ones
 abbrev pub dated_with : Plan → List Const → ℕ → Verdict
-dated_with p cs n = check_first_releases p.now (some p.was) cs (constants_with p n) p.enums p.enums p.unstored p.unstored
+dated_with p cs n = check_first_releases p.now (Some p.was) cs (constants_with p n) p.enums p.enums p.unstored p.unstored
 
 pub record Feasible (p : Plan) : Type 0 where
   -- the sections that both records share pass beside themselves
-  pub order : check_release_order p.now (some p.was) ≡ pass
+  pub order : check_release_order p.now (Some p.was) ≡ pass
   pub dated : (m n : ℕ) → dated_with p (constants_with p m) n ≡ pass
   pub dated-without : (m n : ℕ) → dated_with p (constants_without p m) n ≡ pass
   pub constants-kept : (ss : List Struct) (m n : ℕ)
@@ -72,10 +71,10 @@ pub record Feasible (p : Plan) : Type 0 where
   pub once : NoDup (field_names (whole p))
   pub front-keyless : Keyless p.front
   pub back-keyless : Keyless p.back
-  pub target-keyless : p.target.key ≡ none
-  pub retyped-keyless : p.retyped.key ≡ none
-  pub inserted-keyless : p.inserted.key ≡ none
-  pub added-keyless : p.added.key ≡ none
+  pub target-keyless : p.target.key ≡ None
+  pub retyped-keyless : p.retyped.key ≡ None
+  pub inserted-keyless : p.inserted.key ≡ None
+  pub added-keyless : p.added.key ≡ None
   pub target_real : is_padding (kind_of p.target.kind) ≡ false
   pub retyped-named : p.retyped.name ≡ p.target.name
   pub retyped-sized : shape_size (released p) p.retyped ≡ shape_size (released p) p.target → ⊥

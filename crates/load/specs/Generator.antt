@@ -1,7 +1,6 @@
 -- The plan that a setting gives, and its records as commands: the sections that both records share come first, the structures last.
 -- Assumes nothing.
-use Rattle.std.specs.Prelude.{List, [], ◌∷◌, ◌++◌, true, false, ℕ, ◌-◌, ◌^◌}
-use Rattle.std.proofs.Math.Option.{Option, none, some}
+use Rattle.std.specs.Prelude.{List, [], ◌∷◌, ◌++◌, true, false, ℕ, ◌-◌, ◌^◌, Option, Some, None}
 use Rattle.record.specs.Base.{Str, bytes}
 use Rattle.record.specs.Stretch.{text_of}
 use Rattle.record.specs.Schema.{integer, words, Const, Alias, Enum, BitField, Key, Field, Family}
@@ -14,20 +13,19 @@ use Rattle.load.specs.declared.outcomes.Outcome.{Outcome}
 use Rattle.load.specs.declared.outcomes.Outcome.TheVariants as O
 use Rattle.load.specs.declared.settings.Setting.{Setting}
 use Rattle.load.specs.declared.commands.FieldCommand.{FieldCommand}
-use Rattle.load.specs.declared.commands.Num.{Num}
 
 -- the sections that both records share ----------------------------------------------------------------------------------------------------------
 
 abbrev pub since : Option Str
-since = some (bytes "0.8.0")
+since = Some (bytes "0.8.0")
 
 unfoldable pub spare_at : ℕ → Const
 spare_at n = record { name = bytes "TILE_LIMIT"; value = integer n; api = true; since = since }
 
 unfoldable pub other_constants : List Const
 other_constants =
-    record { name = bytes "PLUGIN_API"; value = integer 4; api = true; since = none }
-    ∷ record { name = bytes "VENDOR"; value = words (bytes "menqachu"); api = false; since = none }
+    record { name = bytes "PLUGIN_API"; value = integer 4; api = true; since = None }
+    ∷ record { name = bytes "VENDOR"; value = words (bytes "menqachu"); api = false; since = None }
     ∷ []
 
 unfoldable pub alias_list : List Alias
@@ -41,20 +39,20 @@ enum_list =
       api = true;
       since = since;
       values =
-          record { name = bytes "dark"; number = 0; since = none }
+          record { name = bytes "dark"; number = 0; since = None }
           ∷ record { name = bytes "dapi"; number = 1; since = since }
-          ∷ record { name = bytes "fitc"; number = 2; since = none }
+          ∷ record { name = bytes "fitc"; number = 2; since = None }
           ∷ [];
     }
     ∷ record {
       name = bytes "mode";
       size = 2;
       api = false;
-      since = none;
+      since = None;
       values =
-          record { name = bytes "idle"; number = 0; since = none }
-          ∷ record { name = bytes "scan"; number = 1; since = none }
-          ∷ record { name = bytes "fault"; number = 2 ^ 64 - 1; since = none }
+          record { name = bytes "idle"; number = 0; since = None }
+          ∷ record { name = bytes "scan"; number = 1; since = None }
+          ∷ record { name = bytes "fault"; number = 2 ^ 64 - 1; since = None }
           ∷ [];
     }
     ∷ []
@@ -66,15 +64,15 @@ bitfield_list =
       size = 1;
       since = since;
       members =
-          record { name = bytes "lamp"; bit = 0; width = none; since = none }
-          ∷ record { name = bytes "zoom"; bit = 1; width = some 3; since = since }
+          record { name = bytes "lamp"; bit = 0; width = None; since = None }
+          ∷ record { name = bytes "zoom"; bit = 1; width = Some 3; since = since }
           ∷ [];
     }
     ∷ []
 
 abbrev pub family_field : Str → Str → Option Str → Option Str → Option ℕ → Option ℕ → Field
 family_field n k ty el count size =
-    record { name = n; kind = k; typ = ty; element = el; count = count; rows = none; cols = none; size = size; key = none }
+    record { name = n; kind = k; typ = ty; element = el; count = count; rows = None; cols = None; size = size; key = None }
 
 unfoldable pub family_list : List Family
 family_list =
@@ -83,18 +81,18 @@ family_list =
       disc_field = bytes "tag";
       disc_type = bytes "mode";
       len_field = bytes "len";
-      len_type = some (bytes "u16");
+      len_type = Some (bytes "u16");
       standalone = false;
-      common = family_field (bytes "seq") (bytes "scalar") (some (bytes "u16")) none none none ∷ [];
+      common = family_field (bytes "seq") (bytes "scalar") (Some (bytes "u16")) None None None ∷ [];
       variants =
           record {
             disc = bytes "A";
             fields =
-                family_field (bytes "gain") (bytes "scalar") (some (bytes "u8")) none none none
-                ∷ family_field (bytes "gap") (bytes "padding") none none none (some 1)
+                family_field (bytes "gain") (bytes "scalar") (Some (bytes "u8")) None None None
+                ∷ family_field (bytes "gap") (bytes "padding") None None None (Some 1)
                 ∷ [];
           }
-          ∷ record { disc = bytes "B"; fields = family_field (bytes "pos") (bytes "inline_array") none (some (bytes "u16")) (some 3) none ∷ [] }
+          ∷ record { disc = bytes "B"; fields = family_field (bytes "pos") (bytes "inline_array") None (Some (bytes "u16")) (Some 3) None ∷ [] }
           ∷ [];
     }
     ∷ record {
@@ -102,10 +100,10 @@ family_list =
       disc_field = bytes "sort";
       disc_type = bytes "filter";
       len_field = bytes "size";
-      len_type = none;
+      len_type = None;
       standalone = true;
-      common = family_field (bytes "old") (bytes "type_alias") (some (bytes "ticks")) none none none ∷ [];
-      variants = record { disc = bytes "C"; fields = family_field (bytes "txt") (bytes "string") none none none none ∷ [] } ∷ [];
+      common = family_field (bytes "old") (bytes "type_alias") (Some (bytes "ticks")) None None None ∷ [];
+      variants = record { disc = bytes "C"; fields = family_field (bytes "txt") (bytes "string") None None None None ∷ [] } ∷ [];
     }
     ∷ []
 
@@ -153,7 +151,7 @@ vendor_bytes = 2 ∷ t3 W.t·VENDOR (1 ∷ v8 0 0 (t3 W.t·menqachu (0 ∷ t3 W.
 abbrev pub value_bytes : Text → ℕ → ℕ → Text → Str
 value_bytes name low high first = 5 ∷ t3 name (v8 low high (t3 first []))
 
-abbrev pub family_field_bytes : Text → Text → Text → Text → Num → Num → Str
+abbrev pub family_field_bytes : Text → Text → Text → Text → Option ℕ → Option ℕ → Str
 family_field_bytes n k ty el count size = 11 ∷ t3 n (t3 k (t3 ty (t3 el (n5 count (n5 no (n5 no (n5 size [])))))))
 
 unfoldable pub version_bytes : Text → ℕ → Str

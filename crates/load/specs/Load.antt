@@ -1,6 +1,5 @@
 -- The load call of 02, W-213: a pair as bytes, and the call's answer. Assumes nothing.
-use Rattle.std.specs.Prelude.{[], ◌++◌, cond, ℕ, eqb, leb, length}
-use Rattle.std.proofs.Math.Option.{Option, none, some}
+use Rattle.std.specs.Prelude.{[], ◌++◌, cond, ℕ, eqb, leb, length, Option, Some, None}
 use Rattle.record.specs.Base.{Str}
 use Rattle.layout.specs.Answer.{Answer, text_or}
 use Rattle.load.specs.Pool.{pool}
@@ -28,20 +27,20 @@ pair_of seed o = part (now_stream seed o) ++ (part pool ++ (part (was_stream see
 -- 02: "the wanted outcome (accepted, or one named verdict among 20, 34, 35, 36 and 43) is an operand"; any other number names none
 unfoldable pub outcome_at : ℕ → Option Outcome
 outcome_at n =
-    cond (eqb n 0) (some O.Accepted)
-    (cond (eqb n 20) (some O.ConstantGone)
-    (cond (eqb n 34) (some O.FieldGone)
-    (cond (eqb n 35) (some O.FieldMoved)
-    (cond (eqb n 36) (some O.FieldResized)
-    (cond (eqb n 43) (some O.Unraised) none)))))
+    cond (eqb n 0) (Some O.Accepted)
+    (cond (eqb n 20) (Some O.ConstantGone)
+    (cond (eqb n 34) (Some O.FieldGone)
+    (cond (eqb n 35) (Some O.FieldMoved)
+    (cond (eqb n 36) (Some O.FieldResized)
+    (cond (eqb n 43) (Some O.Unraised) None)))))
 
 -- 02: "Errors: 61 another outcome or a seed above 2147483647, before 10"
 unfoldable pub unfit : Answer
 unfit = record { number = 61; side = 0; place = 0; len = 0; text = [] }
 
 unfoldable pub load_as : ℕ → ℕ → Option Outcome → Answer
-load_as room seed none = unfit
-load_as room seed (some o) = text_or room 0 (pair_of seed o)
+load_as room seed None = unfit
+load_as room seed (Some o) = text_or room 0 (pair_of seed o)
 
 -- by the room in the lent buffer, the outcome's number and the seed: 61, or the pair with 0, or 10 with its length
 unfoldable pub load : ℕ → ℕ → ℕ → Answer

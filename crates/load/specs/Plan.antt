@@ -1,8 +1,7 @@
 -- A pair of records with a wanted outcome: a plan has what both records share, and the outcome decides what the current one has otherwise.
 -- 02, W-213: "the two records are always readable, and the wanted outcome (accepted, or one named verdict among 20, 34, 35, 36 and 43) is an
 -- operand and is met". Assumes nothing.
-use Rattle.std.specs.Prelude.{List, [], ◌∷◌, ◌++◌, false, ℕ, ◌+◌}
-use Rattle.std.proofs.Math.Option.{none, some}
+use Rattle.std.specs.Prelude.{List, [], ◌∷◌, ◌++◌, false, ℕ, ◌+◌, Some, None}
 use Rattle.record.specs.Base.{Str}
 use Rattle.record.specs.Scalars.{built_in}
 use Rattle.record.specs.Schema.{Schema, integer, Const, Alias, Enum, BitField, Key, Field, Struct, Family, Version}
@@ -61,14 +60,14 @@ edited O.FieldResized p = p.front ++ (p.retyped ∷ p.back)
 edited O.Unraised p = whole p ++ (p.added ∷ [])
 
 unfoldable pub root : Plan → List Field → Struct
-root p fs = record { name = p.name; slot = some p.slot; version = some p.constant; fields = fs }
+root p fs = record { name = p.name; slot = Some p.slot; version = Some p.constant; fields = fs }
 
 unfoldable pub structs_with : Plan → List Field → List Struct
 structs_with p fs = p.before ++ (root p fs ∷ p.after)
 
 -- the generation's constant and its version entry, with a number
 unfoldable pub generation_at : Plan → ℕ → Const
-generation_at p n = record { name = p.constant; value = integer n; api = false; since = none }
+generation_at p n = record { name = p.constant; value = integer n; api = false; since = None }
 
 unfoldable pub entry_at : Plan → ℕ → Version
 entry_at p n = record { struct = p.name; version = n }
@@ -100,7 +99,7 @@ constants_now O.Unraised p = constants_with p p.generation
 unfoldable pub schema_with : Plan → Str → List Const → List Field → List Version → Schema
 schema_with p release cs fs vs = record {
   scalars = built_in;
-  release = some release;
+  release = Some release;
   unreleased = false;
   constants = cs;
   aliases = p.aliases;

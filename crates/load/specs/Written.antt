@@ -1,6 +1,5 @@
 -- A record as a list of its commands: where they stand, and what the lists of a record are, read off the commands themselves. Assumes nothing.
-use Rattle.std.specs.Prelude.{◌≡◌, List, [], ◌∷◌, ◌++◌, Bool, true, ◌||◌, cond, ℕ, ◌+◌, eqb, length, get_or}
-use Rattle.std.proofs.Math.Option.{some}
+use Rattle.std.specs.Prelude.{◌≡◌, List, [], ◌∷◌, ◌++◌, Bool, true, ◌||◌, cond, ℕ, ◌+◌, eqb, length, get_or, Some}
 use Rattle.record.specs.Base.{Str, first}
 use Rattle.record.specs.Scalars.{built_in}
 use Rattle.record.specs.Schema.{Schema, Heading, Const, Alias, Enum, EnumValue, BitField, Member, Key, Field, Struct, Variant, Family, Version}
@@ -33,7 +32,7 @@ cursor_at at last parent = record { at = at; last = last; parent = parent }
 -- a command that is whole, may stand after another, and is without fault beside a pool of n bytes
 pub record Fits (side : Side) (pool : Str) (last : ℕ) (parent : Parent) (c : Str) : Type 0 where
   pub row : Str
-  pub has-row : operands (opcode c) ≡ some row
+  pub has-row : operands (opcode c) ≡ Some row
   pub whole : length c ≡ 1 + widths row
   pub stands : (at : ℕ) → may_stand (cursor_at at last parent) (opcode c) ≡ true
   pub fine : (x : Str) → faults_from side pool (c ++ x) 1 row ≡ Fine

@@ -6,13 +6,6 @@ ghost use Rattle.load.specs.Commands.{struct_bytes, struct_command, operand_byte
 use record::text::Text;
 use record::writer::put;
 
-// A number that may be absent: flag 0.
-#[derive(Clone, Copy)]
-pub struct Num {
-    pub flag: u8,
-    pub value: u32,
-}
-
 // A field's operands; an absent text has start 65535 and length 0.
 #[derive(Clone, Copy)]
 pub struct FieldCommand {
@@ -20,10 +13,10 @@ pub struct FieldCommand {
     pub kind: Text,
     pub typ: Text,
     pub element: Text,
-    pub count: Num,
-    pub rows: Num,
-    pub cols: Num,
-    pub size: Num,
+    pub count: Option<u32>,
+    pub rows: Option<u32>,
+    pub cols: Option<u32>,
+    pub size: Option<u32>,
 }
 
 // The lower and the upper byte of a number of 16 bits.
@@ -68,16 +61,18 @@ fn put_operand(out: &mut [u8], at: usize, t: Text) -> usize
     put(out, at, &[low(t.start), high(t.start), t.len])
 }
 
-// Puts a number's operand.
-fn put_num(out: &mut [u8], at: usize, n: Num) -> usize
+// Puts a number's operand; one that is absent has zeros.
+fn put_num(out: &mut [u8], at: usize, n: Option<u32>) -> usize
     ensures { Puts out.old at (num_bytes n) out.new result }
 {
-    let v = n.value;
+    let Some(v) = n else {
+        return put(out, at, &[0, 0, 0, 0, 0]);
+    };
     put(
         out,
         at,
         &[
-            n.flag,
+            1,
             (v % 256) as u8,
             (v / 256 % 256) as u8,
             (v / 65536 % 256) as u8,

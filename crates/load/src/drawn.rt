@@ -5,7 +5,7 @@ ghost use Rattle.load.specs.Range.{InRange};
 ghost use Rattle.load.specs.Draws.{scalar_text, retyped_text, enum_text, alias_text, slot_text, now_text, was_text};
 ghost use Rattle.load.specs.Draws.{plain_field, array_field, grid_field, padding_field, field_as, kind_at, field_drawn};
 
-use crate::commands::{FieldCommand, Num};
+use crate::commands::FieldCommand;
 use crate::draws::draw;
 use crate::settings::Setting;
 use record::text::Text;
@@ -14,34 +14,30 @@ use record::text::Text;
 pub(crate) fn scalar_text(n: u32) -> Text
     ensures { result ≡ scalar_text n }
 {
-    if n == 0 {
-        return Text { start: 959, len: 2 };
+    match n {
+        0 => Text { start: 959, len: 2 },
+        1 => Text { start: 961, len: 3 },
+        2 => Text { start: 964, len: 3 },
+        _ => Text { start: 967, len: 4 },
     }
-    if n == 1 {
-        return Text { start: 961, len: 3 };
-    }
-    if n == 2 {
-        return Text { start: 964, len: 3 };
-    }
-    Text { start: 967, len: 4 }
 }
 
 fn enum_text(n: u32) -> Text
     ensures { result ≡ enum_text n }
 {
-    if n == 0 {
-        return Text { start: 856, len: 6 };
+    match n {
+        0 => Text { start: 856, len: 6 },
+        _ => Text { start: 874, len: 4 },
     }
-    Text { start: 874, len: 4 }
 }
 
 fn alias_text(n: u32) -> Text
     ensures { result ≡ alias_text n }
 {
-    if n == 0 {
-        return Text { start: 847, len: 5 };
+    match n {
+        0 => Text { start: 847, len: 5 },
+        _ => Text { start: 852, len: 4 },
     }
-    Text { start: 852, len: 4 }
 }
 
 // A structure's name.
@@ -60,60 +56,46 @@ pub(crate) fn struct_text(l: u32, i: u32) -> Text
 pub(crate) fn retyped_text(n: u32) -> Text
     ensures { result ≡ retyped_text n }
 {
-    if n == 0 {
-        return Text { start: 961, len: 3 };
+    match n {
+        0 => Text { start: 961, len: 3 },
+        1 => Text { start: 964, len: 3 },
+        2 => Text { start: 967, len: 4 },
+        _ => Text { start: 964, len: 3 },
     }
-    if n == 1 {
-        return Text { start: 964, len: 3 };
-    }
-    if n == 2 {
-        return Text { start: 967, len: 4 };
-    }
-    Text { start: 964, len: 3 }
 }
 
 // The root's slot.
 pub(crate) fn slot_text(n: u32) -> Text
     ensures { result ≡ slot_text n }
 {
-    if n == 0 {
-        return Text { start: 784, len: 8 };
+    match n {
+        0 => Text { start: 784, len: 8 },
+        1 => Text { start: 792, len: 7 },
+        _ => Text { start: 799, len: 4 },
     }
-    if n == 1 {
-        return Text { start: 792, len: 7 };
-    }
-    Text { start: 799, len: 4 }
 }
 
 // The current release, and the released one.
 pub(crate) fn now_text(n: u32) -> Text
     ensures { result ≡ now_text n }
 {
-    if n == 0 {
-        return Text { start: 757, len: 5 };
+    match n {
+        0 => Text { start: 757, len: 5 },
+        1 => Text { start: 762, len: 6 },
+        2 => Text { start: 768, len: 5 },
+        _ => Text { start: 778, len: 6 },
     }
-    if n == 1 {
-        return Text { start: 762, len: 6 };
-    }
-    if n == 2 {
-        return Text { start: 768, len: 5 };
-    }
-    Text { start: 778, len: 6 }
 }
 
 pub(crate) fn was_text(n: u32) -> Text
     ensures { result ≡ was_text n }
 {
-    if n == 0 {
-        return Text { start: 752, len: 5 };
+    match n {
+        0 => Text { start: 752, len: 5 },
+        1 => Text { start: 757, len: 5 },
+        2 => Text { start: 762, len: 6 },
+        _ => Text { start: 773, len: 5 },
     }
-    if n == 1 {
-        return Text { start: 757, len: 5 };
-    }
-    if n == 2 {
-        return Text { start: 762, len: 6 };
-    }
-    Text { start: 773, len: 5 }
 }
 
 // A field's name.
@@ -127,65 +109,47 @@ pub(crate) fn field_text(l: u32, i: u32) -> Text
     }
 }
 
+// No text.
+pub(crate) const ABSENT: Text = Text {
+    start: 65535,
+    len: 0,
+};
+
+// A field without numbers.
+fn plain(name: Text, kind: Text, typ: Text, element: Text) -> FieldCommand
+    ensures { result ≡ plain_field name kind typ element }
+{
+    FieldCommand {
+        name,
+        kind,
+        typ,
+        element,
+        count: None,
+        rows: None,
+        cols: None,
+        size: None,
+    }
+}
+
 // A field of a kind whose word stands at a place of the pool: one with a type.
 fn typed(name: Text, start: u16, len: u8, typ: Text) -> FieldCommand
     ensures { result ≡ plain_field name (at start len) typ absent }
 {
-    let no = Num { flag: 0, value: 0 };
-    FieldCommand {
-        name,
-        kind: Text { start, len },
-        typ,
-        element: Text {
-            start: 65535,
-            len: 0,
-        },
-        count: no,
-        rows: no,
-        cols: no,
-        size: no,
-    }
+    plain(name, Text { start, len }, typ, ABSENT)
 }
 
 // One with an element.
 fn of_element(name: Text, start: u16, len: u8, element: Text) -> FieldCommand
     ensures { result ≡ plain_field name (at start len) absent element }
 {
-    let no = Num { flag: 0, value: 0 };
-    FieldCommand {
-        name,
-        kind: Text { start, len },
-        typ: Text {
-            start: 65535,
-            len: 0,
-        },
-        element,
-        count: no,
-        rows: no,
-        cols: no,
-        size: no,
-    }
+    plain(name, Text { start, len }, ABSENT, element)
 }
 
 // One with neither.
 fn untyped(name: Text, start: u16, len: u8) -> FieldCommand
     ensures { result ≡ plain_field name (at start len) absent absent }
 {
-    let no = Num { flag: 0, value: 0 };
-    let none = Text {
-        start: 65535,
-        len: 0,
-    };
-    FieldCommand {
-        name,
-        kind: Text { start, len },
-        typ: none,
-        element: none,
-        count: no,
-        rows: no,
-        cols: no,
-        size: no,
-    }
+    plain(name, Text { start, len }, ABSENT, ABSENT)
 }
 
 // An array of n + 1 elements.
@@ -193,25 +157,9 @@ fn array(name: Text, element: Text, n: u32) -> FieldCommand
     requires { n < 8 }
     ensures { result ≡ array_field name k·inline-array element (n + 1) }
 {
-    let no = Num { flag: 0, value: 0 };
     FieldCommand {
-        name,
-        kind: Text {
-            start: 512,
-            len: 12,
-        },
-        typ: Text {
-            start: 65535,
-            len: 0,
-        },
-        element,
-        count: Num {
-            flag: 1,
-            value: n + 1,
-        },
-        rows: no,
-        cols: no,
-        size: no,
+        count: Some(n + 1),
+        ..of_element(name, 512, 12, element)
     }
 }
 
@@ -221,28 +169,10 @@ fn grid(name: Text, element: Text, n: u32, t: u32) -> FieldCommand
     requires t_bound { t < 8 }
     ensures { result ≡ grid_field name k·inline-array2d element (n + 1) (t + 1) }
 {
-    let no = Num { flag: 0, value: 0 };
     FieldCommand {
-        name,
-        kind: Text {
-            start: 532,
-            len: 14,
-        },
-        typ: Text {
-            start: 65535,
-            len: 0,
-        },
-        element,
-        count: no,
-        rows: Num {
-            flag: 1,
-            value: n + 1,
-        },
-        cols: Num {
-            flag: 1,
-            value: t + 1,
-        },
-        size: no,
+        rows: Some(n + 1),
+        cols: Some(t + 1),
+        ..of_element(name, 532, 14, element)
     }
 }
 
@@ -251,23 +181,9 @@ fn padding(name: Text, n: u32) -> FieldCommand
     requires { n < 8 }
     ensures { result ≡ padding_field name k·padding (n + 1) }
 {
-    let no = Num { flag: 0, value: 0 };
-    let none = Text {
-        start: 65535,
-        len: 0,
-    };
     FieldCommand {
-        name,
-        kind: Text { start: 712, len: 7 },
-        typ: none,
-        element: none,
-        count: no,
-        rows: no,
-        cols: no,
-        size: Num {
-            flag: 1,
-            value: n + 1,
-        },
+        size: Some(n + 1),
+        ..untyped(name, 712, 7)
     }
 }
 

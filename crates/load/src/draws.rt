@@ -6,7 +6,7 @@ ghost use Rattle.load.specs.Draws.{next_seed, seed_after, draw};
 fn next_seed(seed: u32) -> u32
     ensures { result ≡ next_seed seed }
 {
-    ((seed as u64 * 1103515245 + 12345) % 2147483648) as u32
+    ((u64::from(seed) * 1103515245 + 12345) % 2147483648) as u32
 }
 
 // The seed after k draws.
@@ -14,10 +14,8 @@ pub(crate) fn seed_after(seed: u32, k: u32) -> u32
     ensures { result ≡ seed_after k seed }
 {
     let mut s = seed;
-    let mut left = k;
-    while 0 < left {
+    for _ in 0..k {
         s = next_seed(s);
-        left -= 1;
     }
     s
 }

@@ -37,16 +37,7 @@ fn put_len(out: &mut [u8], at: usize, n: usize) -> usize
     requires { n ≤ 32768 }
     ensures { Puts out.old at (w4 n []) out.new result }
 {
-    put(
-        out,
-        at,
-        &[
-            (n % 256) as u8,
-            (n / 256 % 256) as u8,
-            (n / 65536 % 256) as u8,
-            (n / 16777216) as u8,
-        ],
-    )
+    put(out, at, &(n as u32).to_le_bytes())
 }
 
 // Puts the pool as a part.
@@ -130,13 +121,8 @@ pub fn load(outcome: u32, seed: u32, out: &mut [u8]) -> Answer
     if 2147483647 < seed {
         return unfit;
     }
-    match outcome {
-        0 => write_pair(out, seed, Outcome::Accepted),
-        20 => write_pair(out, seed, Outcome::ConstantGone),
-        34 => write_pair(out, seed, Outcome::FieldGone),
-        35 => write_pair(out, seed, Outcome::FieldMoved),
-        36 => write_pair(out, seed, Outcome::FieldResized),
-        43 => write_pair(out, seed, Outcome::Unraised),
-        _ => unfit,
+    match Outcome::numbered(outcome) {
+        Some(o) => write_pair(out, seed, o),
+        None => unfit,
     }
 }

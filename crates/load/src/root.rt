@@ -74,15 +74,13 @@ fn put_middle(out: &mut [u8], at: usize, g: Setting, o: Outcome) -> usize
     ensures { Puts out.old at (fields_bytes (target_fields g o)) out.new result }
 {
     match o {
-        Outcome::Accepted => put_target(out, at, g),
-        Outcome::ConstantGone => put_target(out, at, g),
         Outcome::FieldGone => put_none(out, at),
         Outcome::FieldMoved => {
             let next = put_inserted(out, at, g);
             put_target(out, next, g)
         }
         Outcome::FieldResized => put_retyped(out, at, g),
-        Outcome::Unraised => put_target(out, at, g),
+        _ => put_target(out, at, g),
     }
 }
 
@@ -92,12 +90,8 @@ fn put_last(out: &mut [u8], at: usize, g: Setting, o: Outcome) -> usize
     ensures { Puts out.old at (fields_bytes (last_fields g o)) out.new result }
 {
     match o {
-        Outcome::Accepted => put_added(out, at, g),
-        Outcome::ConstantGone => put_none(out, at),
-        Outcome::FieldGone => put_none(out, at),
-        Outcome::FieldMoved => put_none(out, at),
-        Outcome::FieldResized => put_none(out, at),
-        Outcome::Unraised => put_added(out, at, g),
+        Outcome::Accepted | Outcome::Unraised => put_added(out, at, g),
+        _ => put_none(out, at),
     }
 }
 

@@ -9,7 +9,7 @@ ghost use Rattle.load.specs.Generator.{released_commands, current_commands, stre
 ghost use Rattle.load.specs.Bytes.{commands_bytes, shared_bytes, rest_bytes};
 
 use crate::commands::{high, low};
-use crate::drawn::{now_text, struct_text, was_text};
+use crate::drawn::{ABSENT, now_text, struct_text, was_text};
 use crate::outcomes::Outcome;
 use crate::root::put_all;
 use crate::settings::Setting;
@@ -139,10 +139,7 @@ fn put_start(out: &mut [u8], at: usize, release: Text, n: u32) -> usize
         },
         n,
         0,
-        Text {
-            start: 65535,
-            len: 0,
-        },
+        ABSENT,
     )
 }
 
@@ -168,12 +165,8 @@ fn put_spare_now(out: &mut [u8], at: usize, g: Setting, o: Outcome) -> usize
     ensures { Puts out.old at (commands_bytes (spare_now g o)) out.new result }
 {
     match o {
-        Outcome::Accepted => put_spare(out, at, g),
         Outcome::ConstantGone => put_none(out, at),
-        Outcome::FieldGone => put_spare(out, at, g),
-        Outcome::FieldMoved => put_spare(out, at, g),
-        Outcome::FieldResized => put_spare(out, at, g),
-        Outcome::Unraised => put_spare(out, at, g),
+        _ => put_spare(out, at, g),
     }
 }
 
@@ -184,11 +177,7 @@ fn number_now(g: Setting, o: Outcome) -> u32
 {
     match o {
         Outcome::Accepted => g.generation + 1,
-        Outcome::ConstantGone => g.generation,
-        Outcome::FieldGone => g.generation,
-        Outcome::FieldMoved => g.generation,
-        Outcome::FieldResized => g.generation,
-        Outcome::Unraised => g.generation,
+        _ => g.generation,
     }
 }
 

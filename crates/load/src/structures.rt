@@ -6,10 +6,9 @@ ghost use Rattle.load.specs.Range.{InRange};
 ghost use Rattle.load.specs.Bytes.{fields_bytes, struct_with_fields, structs_bytes};
 
 use crate::commands::{put_field, put_struct};
-use crate::drawn::{field_drawn, struct_text};
+use crate::drawn::{ABSENT, field_drawn, struct_text};
 use crate::draws::seed_after;
 use crate::settings::Setting;
-use record::text::Text;
 
 // Puts nothing.
 pub(crate) fn put_none(out: &mut [u8], at: usize) -> usize
@@ -32,14 +31,10 @@ pub(crate) fn put_fields(
 {
     let mut next = at;
     let mut s = seed;
-    let mut j = from;
-    let mut left = n;
-    while 0 < left {
+    for j in from..from + n {
         let field = field_drawn(g, s, j);
         next = put_field(out, next, field);
         s = seed_after(s, 3);
-        j += 1;
-        left -= 1;
     }
     next
 }
@@ -50,11 +45,7 @@ fn put_plain(out: &mut [u8], at: usize, g: Setting, seed: u32, i: u32) -> usize
     ensures { Puts out.old at (struct_with_fields (plain_struct g seed i)) out.new result }
 {
     let name = struct_text(g.lengths, i);
-    let none = Text {
-        start: 65535,
-        len: 0,
-    };
-    let next = put_struct(out, at, name, none, none);
+    let next = put_struct(out, at, name, ABSENT, ABSENT);
     put_fields(out, next, g, seed, 0, g.fields)
 }
 
@@ -72,13 +63,9 @@ pub(crate) fn put_structs(
 {
     let mut next = at;
     let mut s = seed;
-    let mut i = from;
-    let mut left = n;
-    while 0 < left {
+    for i in from..from + n {
         next = put_plain(out, next, g, s, i);
         s = seed_after(s, 3 * g.fields);
-        i += 1;
-        left -= 1;
     }
     next
 }

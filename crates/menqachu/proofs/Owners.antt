@@ -1,8 +1,8 @@
 -- The owner call goes by the schema that the reading gives. Assumes nothing.
+use Rattle.std.specs.Prelude.{Option, Some, None, Ok}
 use mathlib.Core.Path.{◌≡◌, refl, sym, ap, subst, ◌∙◌}
 use mathlib.Core.List.Memᴰ
 use mathlib.Core.List.{List, [], ◌∷◌, map, Memᴰ}
-use mathlib.Core.Option.{Option, none, some}
 use mathlib.Core.Bool.{Bool, true, false, cond, false≢true}
 use Prim.Native.Nat.{ℕ}
 use lib.Dec.{eqb}
@@ -17,16 +17,14 @@ use Rattle.record.specs.Reading.{Reading, read, refuse, reading, schema_from, sc
 use Rattle.record.specs.Owner.{Types, types_in, struct_in_slot, with_name, roots_in, ownership_order, roots, owner_of, First, now, later}
 use Rattle.record.specs.References.{types_at}
 use Rattle.record.specs.Versioned.{struct_commands_at, command_in_slot}
-use Rattle.record.specs.Ownership.{with_stretch, stretches_in, owned_by, stretch_of, owner_at, owner_meant}
+use Rattle.record.specs.Ownership.{with_stretch, stretches_in, stretch_of, owner_at}
 use Rattle.record.specs.declared.text.Text.{Text}
 use Rattle.record.specs.declared.command as D
 use Rattle.record.specs.declared.refusal.Side.TheVariants.{Current}
-use Rattle.record.specs.declared.ownership.Owner.{Owner}
-use Rattle.record.specs.declared.ownership.Owner.TheVariants.{Nobody, Owned}
 use Rattle.record.proofs.Basics.{eqs→eq, eqs-refl, none≢some}
 use Rattle.record.proofs.Walk.{owner-is-first}
 use Rattle.record.proofs.Accepted.{accepting}
-use Rattle.layout.specs.OwnerCall.{owner_given, owner_read, owner_fields, owner_asked}
+use Rattle.layout.specs.OwnerCall.{owner_read, owner_fields, owner_asked}
 use Rattle.layout.specs.declared.owner.OwnerFields.{OwnerFields}
 use Rattle.menqachu.specs.Guarantees.{owner_name, OwnersBySchema}
 
@@ -72,15 +70,15 @@ module _ (s p : Str) where
     where
       both : (o : Option Struct) (c : Option D.Struct.Struct) → map_option name_of o ≡ map_option name_at c
           → (rs : List Str) (ts : List Text) → rs ≡ map (text_of p) ts → with_name o rs ≡ map (text_of p) (with_stretch c ts)
-      both none none e rs ts h = h
-      both (some t) (some c) e rs ts h = let k : t.name ≡ text_of p c.name = cc in rw (k, h)
-      both none (some c) e rs ts h = absurd (none≢some e)
-      both (some t) none e rs ts h = absurd (none≢some (sym e))
+      both None None e rs ts h = h
+      both (Some t) (Some c) e rs ts h = let k : t.name ≡ text_of p c.name = cc in rw (k, h)
+      both None (Some c) e rs ts h = absurd (none≢some e)
+      both (Some t) None e rs ts h = absurd (none≢some (sym e))
 
   -- a name that one of the stretches reads is found by it
   found : (ts : List Text) (r : Str) → Memᴰ r (map (text_of p) ts)
-      → owner_meant p (owned_by (find (λ (t : Text). eqs (text_of p t) r) ts)) ≡ some r
-  unfolding owned_by find
+      → opt_of p (find (λ (t : Text). eqs (text_of p t) r) ts) ≡ Some r
+  unfolding find
   found [] r m = absurd (Memᴰ.not-nil m)
   found (t ∷ ts) r m = go (eqs (text_of p t) r) refl m (λ i. found ts r i)
     where
@@ -88,31 +86,31 @@ module _ (s p : Str) where
       rest = find (λ (x : Text). eqs (text_of p x) r) ts
 
       go : (b : Bool) → eqs (text_of p t) r ≡ b → Memᴰ r (text_of p t ∷ map (text_of p) ts)
-          → (Memᴰ r (map (text_of p) ts) → owner_meant p (owned_by rest) ≡ some r) → owner_meant p (owned_by (cond b (some t) rest)) ≡ some r
-      go true e m h = ap some (eqs→eq (text_of p t) r e)
+          → (Memᴰ r (map (text_of p) ts) → opt_of p rest ≡ Some r) → opt_of p (cond b (Some t) rest) ≡ Some r
+      go true e m h = ap Some (eqs→eq (text_of p t) r e)
       go false e (Memᴰ.head q) h = absurd (false≢true (sym e ∙ subst (λ (x : Str). eqs x r ≡ true) q (eqs-refl r)))
       go false e (Memᴰ.tail i) h = h i
 
   -- the stretch that is answered reads as the owner's name
-  name-is : (n : Str) → owner_meant p (owner_at s p n) ≡ owner_of (types_at s p) n
+  name-is : (n : Str) → opt_of p (owner_at s p n) ≡ owner_of (types_at s p) n
   unfolding owner_at stretch_of roots struct_commands_at structs_at
   name-is n = go (owner_of (types_at s p) n) refl
     where
       go : (o : Option Str) → owner_of (types_at s p) n ≡ o
-          → owner_meant p (stretch_of p (stretches_in p (struct_commands_at s 0) ownership_order) o) ≡ o
-      go none e = refl
-      go (some r) e =
+          → opt_of p (stretch_of p (stretches_in p (struct_commands_at s 0) ownership_order) o) ≡ o
+      go None e = refl
+      go (Some r) e =
           found (stretches_in p (struct_commands_at s 0) ownership_order) r
           (subst (λ (l : List Str). Memᴰ r l) (roots-are (commands_at s 0) ownership_order) (first-in ((owner-is-first (types_at s p) n r).0 e)))
 
-given-name : (p : Str) (o : Owner) → owner_name p (owner_fields (owner_given o)) ≡ owner_meant p o
+given-name : (p : Str) (o : Option Text) → owner_name p (owner_fields (Ok o)) ≡ opt_of p o
 unfolding text_of
-given-name p Nobody = refl
-given-name p (Owned t) = refl
+given-name p None = refl
+given-name p (Some t) = refl
 
-given-number : (o : Owner) → (owner_fields (owner_given o)).number ≡ 0
-given-number Nobody = refl
-given-number (Owned t) = refl
+given-number : (o : Option Text) → (owner_fields (Ok o)).number ≡ 0
+given-number None = refl
+given-number (Some t) = refl
 
 pub owners-by-schema : OwnersBySchema
 unfolding owner_asked schema_of schema_from structs_at families_at
@@ -126,7 +124,7 @@ owners-by-schema cur name r e = record {
   refused = λ x place h. given (refuse x place) h;
 }
   where
-    answer : Owner
+    answer : Option Text
     answer = owner_at cur.stream cur.pool name
 
     given : (x : Reading) → reading Current cur ≡ x → r ≡ owner_fields (owner_read cur name x)

@@ -1,8 +1,7 @@
 -- What every exported call promises, a line each, and demand 3. The contracts of src/lib.rt are these lines, said of what the call was lent, of the
 -- buffer before and after, and of its answer; proofs/Guaranteed proves demand 3, proofs/Owners that the owner call goes by the schema. Assumes
 -- nothing.
-use Rattle.std.specs.Prelude.{◌≡◌, List, Bool, cond, ℕ, eqb, length, take, drop}
-use Rattle.std.proofs.Math.Option.{Option, none, some}
+use Rattle.std.specs.Prelude.{◌≡◌, List, Bool, cond, ℕ, eqb, length, take, drop, Option, Some, None, Err}
 use Rattle.record.specs.Base.{Str}
 use Rattle.record.specs.Schema.{Schema}
 use Rattle.record.specs.Scalars.{built_in}
@@ -14,7 +13,6 @@ use Rattle.layout.specs.Answer.{list, Answered}
 use Rattle.layout.specs.OwnerCall.{owner_fields, owner_asked}
 use Rattle.layout.specs.declared.answer.Answer.{Answer}
 use Rattle.layout.specs.declared.owner.OwnerFields.{OwnerFields}
-use Rattle.layout.specs.declared.owner.OwnerAnswer.TheVariants.{Unreadable}
 use Rattle.definition.specs.Answer.{check}
 use Rattle.definition.specs.Offers.{Offer, Demand3}
 use Rattle.pointers.specs.Pointers.{pointers, Answers}
@@ -88,13 +86,13 @@ ShelfBackPromise copy shelf name held draft after r = shelved_as r after ≡ bac
 
 -- the name that the five numbers of an owner give: the bytes of their stretch, or none
 abbrev pub owner_name : Str → OwnerFields → Option Str
-owner_name pool r = cond (eqb r.owned 0) none (some (take r.len (drop r.start pool)))
+owner_name pool r = cond (eqb r.owned 0) None (Some (take r.len (drop r.start pool)))
 
 -- the owner call goes by the schema that the reading gives, and by its refusal
 pub record OwnerBySchema (cur : Rec) (name : Str) (r : OwnerFields) : Type 0 where
   pub number : (s : Schema) → reading Current cur ≡ read s → r.number ≡ 0
   pub owner : (s : Schema) → reading Current cur ≡ read s → owner_name cur.pool r ≡ owner_of (types_in s) name
-  pub refused : (x : Refusal) (place : ℕ) → reading Current cur ≡ refuse x place → r ≡ owner_fields (Unreadable x place)
+  pub refused : (x : Refusal) (place : ℕ) → reading Current cur ≡ refuse x place → r ≡ owner_fields (Err (x, place))
 
 abbrev pub OwnersBySchema : Type 0
 OwnersBySchema = (cur : Rec) (name : Str) (r : OwnerFields) → OwnerPromise cur name r → OwnerBySchema cur name r

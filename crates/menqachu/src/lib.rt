@@ -47,7 +47,7 @@ pub fn menqachu_owner(stream: &[u8], pool: &[u8], name: &[u8]) -> OwnerFields
     ensures { let cur : Rec = lent stream.now pool.now in
         OwnerPromise cur name.now result }
 {
-    ask_owner(stream, pool, name).fields()
+    OwnerFields::from(ask_owner(stream, pool, name))
 }
 
 // Whether the pointers of a current record name what they must.

@@ -1,8 +1,8 @@
 -- The check of pointers accepts exactly if every field points where it must, and else gives the first that does not: 02, W-212. Assumes nothing.
+use Rattle.std.specs.Prelude.{Option, Some, None}
 use mathlib.Core.Path.{◌≡◌, refl, sym, ◌∙◌, ap, subst}
 use mathlib.Core.List.Memᴰ
 use mathlib.Core.List.{List, [], ◌∷◌}
-use mathlib.Core.Option.{Option, none, some}
 use mathlib.Core.Logic.{◌⊎◌, inl, inr}
 use Prim.Native.Nat.{ℕ, ◌≤◌}
 use native.Mathlib.Omega.{arith}
@@ -60,8 +60,8 @@ module _ (r : Rec) (c : Schema) where
       more p qs a x (Memᴰ.tail m) = a x m
 
       go : (o : Option ℕ) → FaultMeans (types_in c) (here at) o → AllOrFirst ps (first ps) → AllOrFirst (at ∷ ps) (or_next at o (first ps))
-      go none p (inl w) = inl (more p ps w.0, w.1)
-      go none p (inr w) = inr (record {
+      go None p (inl w) = inl (more p ps w.0, w.1)
+      go None p (inr w) = inr (record {
         before = at ∷ w.before;
         after = w.after;
         split = ap (λ (l : List ℕ). at ∷ l) w.split;
@@ -69,7 +69,7 @@ module _ (r : Rec) (c : Schema) where
         breaks = w.breaks;
         rest = w.rest;
       })
-      go (some n) b w = inr (record {
+      go (Some n) b w = inr (record {
         before = [];
         after = ps;
         split = refl;

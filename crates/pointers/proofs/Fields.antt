@@ -1,9 +1,9 @@
 -- The field commands of a readable record are the fields of its structures, families and variants: each gives one, by the rules of place, and each
 -- of them comes from one. So what holds of all these fields is what holds at the places of the commands. Assumes nothing.
+use Rattle.std.specs.Prelude.{Option, Some, None, Result, Ok, Err}
 use mathlib.Core.Path.{◌≡◌, refl, sym, ◌∙◌, ap, subst}
 use mathlib.Core.List.Memᴰ
 use mathlib.Core.List.{List, [], ◌∷◌, Memᴰ}
-use mathlib.Core.Option.{Option, none}
 use mathlib.Core.Bool.{Bool, true, false, cond, false≢true}
 use mathlib.Core.Logic.{◌⊎◌, inl, inr}
 use Prim.Native.Nat.{ℕ, zero, suc, ◌+◌}
@@ -24,14 +24,14 @@ use Rattle.record.specs.declared.command.Command.{Command}
 use Rattle.record.specs.declared.command.Cursor.{Cursor}
 use Rattle.record.specs.declared.command.Parent.{Parent}
 use Rattle.record.specs.declared.command.Parent.TheVariants.{NoParent, InStruct, InFamily}
-use Rattle.record.specs.declared.judge.Judged.{Judged}
-use Rattle.record.specs.declared.judge.Judged.TheVariants.{Next, Done, Refused}
 use Rattle.record.specs.declared.refusal.Refusal.TheVariants as R
 use Rattle.record.specs.declared.refusal.Side.{Side}
 use Rattle.record.specs.declared.refusal.Side.TheVariants.{Current}
+use Rattle.record.proofs.Basics.{same-parts}
 use Rattle.record.proofs.Accepted.{passed, onto-ok, accepting}
 use Rattle.pointers.specs.Pointers.{field_here, field_places}
 use Rattle.pointers.specs.Rule.{FieldIn, of-struct, of-family, of-variant}
+use Rattle.record.specs.Judge.{Judged}
 
 -- the elements of a list and the commands of its number -----------------------------------------------------------------------------------
 
@@ -228,15 +228,17 @@ stands_variant : (c : Cursor) (b : ℕ) → eqb b 10 ≡ true → may_stand c b 
 unfolding may_stand
 stands_variant c b e h = let n = eqb-true b 10 e in rw n at h
 
-parent-after : (s : Str) (c : Cursor) (b w : ℕ) (d : Command) (k : Cursor) → ready s c b w ≡ Next d k → parent_after c.parent b ≡ k.parent
+parent-after : (s : Str) (c : Cursor) (b w : ℕ) (d : Command) (k : Cursor) → ready s c b w ≡ Ok (Some (d, k)) → parent_after c.parent b ≡ k.parent
 unfolding ready
 parent-after s c b w d k e = go (eqb b 15) (eqb (c.at + w) (length s)) e
   where
-    go : (t u : Bool) → cond t (cond u Done (Refused R.Misplaced (c.at + w))) (Next (command_of b (drop c.at s)) (advanced c b w)) ≡ Next d k
+    go : (t u : Bool) → cond {A = Judged} t (cond u (Ok None) (Err (R.Misplaced, c.at + w))) (Ok (Some (command_of b (drop c.at s), advanced c b w))) ≡ Ok (Some (d, k))
         → parent_after c.parent b ≡ k.parent
     go true true h = absurd (let z : ◌≡◌ {A = ℕ} 0 1 = cc in omega arith)
     go true false h = absurd (let z : ◌≡◌ {A = ℕ} 0 1 = cc in omega arith)
-    go false u h = let z : advanced c b w ≡ k = cc in ap (λ (x : Cursor). x.parent) z
+    go false u h =
+        let z : ◌≡◌ {A = Option (Command × Cursor)} (Some (command_of b (drop c.at s), advanced c b w)) (Some (d, k)) = cc in
+        ap (λ (x : Cursor). x.parent) (same-parts z).1
 
 module _ (side : Side) (s p : Str) where
   found : (k : ℕ) (c : Cursor) (ps : List ℕ) → parse k side s p c ≡ ok ps → (at : ℕ) → Memᴰ at ps → eqb (get_or s at 0) 11 ≡ true
@@ -247,11 +249,11 @@ module _ (side : Side) (s p : Str) where
     where
       go : ((d : Cursor) (qs : List ℕ) → parse k side s p d ≡ ok qs → Memᴰ at qs → Found s p d.parent qs at) → (j : Judged)
           → judged_at side s p c ≡ j → continued c.at (parse k side s p) j ≡ ok ps → Found s p c.parent ps at
-      go ih Done q g = absurd (Memᴰ.not-nil (subst (λ (l : List ℕ). Memᴰ at l) (sym (let z : [] ≡ ps = cc in z)) m))
-      go ih (Refused x y) q g = absurd (let z : ◌≡◌ {A = ℕ} 0 1 = cc in omega arith)
-      go ih (Next d j) q g =
+      go ih (Ok None) q g = absurd (Memᴰ.not-nil (subst (λ (l : List ℕ). Memᴰ at l) (sym (let z : [] ≡ ps = cc in z)) m))
+      go ih (Err (x, y)) q g = absurd (let z : ◌≡◌ {A = ℕ} 0 1 = cc in omega arith)
+      go ih (Ok (Some (d, j))) q g =
           let t = onto-ok c.at (parse k side s p j) ps g in
-          let w = passed side s p c (Next d j) tt q in
+          let w = passed side s p c (Ok (Some (d, j))) tt q in
           subst (λ (l : List ℕ). Found s p c.parent l at) t.whole
           (each t.more w.stands (parent-after s c (get_or s c.at 0) (1 + widths w.row) d j w.is-ready)
           (λ n. ih j t.more t.parsed-so n) (subst (λ (l : List ℕ). Memᴰ at l) (sym t.whole) m))
@@ -285,7 +287,7 @@ module _ (r : Rec) (c : Schema) (e : reading Current r ≡ read c) (P : Field �
   of_fields a f m =
       let w = all-stand r.stream r.pool places (subst (λ (x : Schema). FieldIn (types_in x) f) (sym (accepting Current r c e).is-schema) m) in
       let there = a w.at (in-places r.stream 11 places w.is-in w.number) in
-      subst P (sym w.is_field) (keyless (field_at (drop w.at r.stream)) none w.key there)
+      subst P (sym w.is_field) (keyless (field_at (drop w.at r.stream)) None w.key there)
 
   -- and the other way round
   pub at_places : ((f : Field) → FieldIn (types_in c) f → P f)
@@ -296,7 +298,7 @@ module _ (r : Rec) (c : Schema) (e : reading Current r ≡ read c) (P : Field �
       let g = accepting Current r c e in
       let f = found Current r.stream r.pool (length r.stream + 1) start places g.parsed-all w.at w.is-in w.number in
       subst (λ (y : ℕ). P (field_here r.stream r.pool y)) (sym w.is_made)
-      (keyless (field_at (drop w.at r.stream)) f.key none
+      (keyless (field_at (drop w.at r.stream)) f.key None
       (a _ (subst (λ (x : Schema). FieldIn (types_in x) (field_of r.pool (field_at (drop w.at r.stream)) f.key)) g.is-schema
       (declared-by _ f.within))))
     where

@@ -1,6 +1,5 @@
 -- The check of a current record's pointers: 02, W-212, "Pointers that point somewhere". Rule says it without a walk. Assumes nothing.
-use Rattle.std.specs.Prelude.{◌≡◌, List, [], ◌∷◌, Bool, true, false, ℕ, drop}
-use Rattle.std.proofs.Math.Option.{Option, none, some}
+use Rattle.std.specs.Prelude.{◌≡◌, List, [], ◌∷◌, Bool, true, false, ℕ, drop, Option, Some, None}
 use Rattle.record.specs.Base.{Str, is_some}
 use Rattle.record.specs.Schema.{Field}
 use Rattle.record.specs.Steps.{struct_in, family_in}
@@ -19,8 +18,6 @@ use Rattle.layout.specs.Answer.{Answer, refusal_of}
 use Rattle.layout.specs.declared.answer.Answer as D
 use Rattle.pointers.specs.declared.rule.Pointee.{Pointee}
 use Rattle.pointers.specs.declared.rule.Pointee.TheVariants.{ToStruct, ToFamily, Unjudged}
-use Rattle.pointers.specs.declared.rule.Fault.{Fault}
-use Rattle.pointers.specs.declared.rule.Fault.TheVariants.{NoFault, Faulty}
 
 -- what a pointer of a kind must name. 02: "a struct_ptr, struct_array_ptr or struct_ptr_array_ptr must name a declared structure, a tagged_fam_ptr
 -- a declared family; simple_fam_ptr and the rest are not judged"
@@ -54,17 +51,17 @@ is_family t n = is_some (family_in n t.families)
 -- by whether a name is declared as what it must be, and as the other of the two. 02: "59 names neither a structure nor a family, 60 names only the
 -- other of the two"
 unfoldable pub name_fault : Bool → Bool → Option ℕ
-name_fault true other = none
-name_fault false true = some 60
-name_fault false false = some 59
+name_fault true other = None
+name_fault false true = Some 60
+name_fault false false = Some 59
 
 -- 02: "A pointer with no name counts as naming nothing"
 unfoldable pub pointee_fault : Types → Pointee → Option Str → Option ℕ
-pointee_fault t Unjudged o = none
-pointee_fault t ToStruct none = some 59
-pointee_fault t ToFamily none = some 59
-pointee_fault t ToStruct (some n) = name_fault (is_struct t n) (is_family t n)
-pointee_fault t ToFamily (some n) = name_fault (is_family t n) (is_struct t n)
+pointee_fault t Unjudged o = None
+pointee_fault t ToStruct None = Some 59
+pointee_fault t ToFamily None = Some 59
+pointee_fault t ToStruct (Some n) = name_fault (is_struct t n) (is_family t n)
+pointee_fault t ToFamily (Some n) = name_fault (is_family t n) (is_struct t n)
 
 -- the number of a field's error, if it has one. 02: "By referenced_type"
 unfoldable pub field_fault : Types → Field → Option ℕ
@@ -72,7 +69,7 @@ field_fault t f = pointee_fault t (pointee_of (kind_of f.kind)) (referenced f)
 
 -- the field whose command stands at a place; its plugin key is not looked at
 abbrev pub field_here : Str → Str → ℕ → Field
-field_here s p at = field_of p (field_at (drop at s)) none
+field_here s p at = field_of p (field_at (drop at s)) None
 
 -- the places of the field commands, in the order of the stream
 abbrev pub field_places : Str → List ℕ
@@ -83,8 +80,8 @@ accepted = record { number = 0; side = 0; place = 0; len = 0; text = [] }
 
 -- the error of the field at a place, or else what the fields after it give
 unfoldable pub or_next : ℕ → Option ℕ → Answer → Answer
-or_next at none a = a
-or_next at (some n) a = record { number = n; side = 0; place = at; len = 0; text = [] }
+or_next at None a = a
+or_next at (Some n) a = record { number = n; side = 0; place = at; len = 0; text = [] }
 
 -- the first error among the fields at some places. 02: "gives the place of the first that does"
 unfoldable pub first_fault : Types → Str → Str → List ℕ → Answer
@@ -101,10 +98,6 @@ unfoldable pub pointers : Rec → Answer
 pointers r = pointers_read r (reading Current r)
 
 -- what the code answers -------------------------------------------------------------------------------------------------------------------
-
-abbrev pub fault_of : Fault → Option ℕ
-fault_of NoFault = none
-fault_of (Faulty n) = some n
 
 -- the first error among the fields from a place on, under the names that the whole record declares
 unfoldable pub fault_from : Str → Str → ℕ → Answer

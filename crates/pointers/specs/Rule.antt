@@ -1,8 +1,7 @@
 -- 02's rule of pointers as a statement on a record's schema: which fields there are, which of them break the rule and how, and which is the first.
 -- Assumes nothing.
-use Rattle.std.specs.Prelude.{◌≡◌, ◌⊎◌, ℕ}
+use Rattle.std.specs.Prelude.{◌≡◌, ◌⊎◌, ℕ, Option, Some}
 use mathlib.Core.List.{List, [], ◌∷◌, ◌++◌, Memᴰ}
-use Rattle.std.proofs.Math.Option.{Option, some}
 use Rattle.record.specs.Base.{Str}
 use Rattle.record.specs.Schema.{Schema, Field, Struct, Family, Variant}
 use Rattle.record.specs.Kind.{kind_of}
@@ -34,12 +33,12 @@ FamilyPointer f o = (kind_of f.kind ≡ TaggedFamPtr) × (o ≡ f.typ)
 pub record NamesStruct (t : Types) (o : Option Str) : Type 0 where
   pub struct : Struct
   pub declared : Memᴰ struct t.structs
-  pub named : o ≡ some struct.name
+  pub named : o ≡ Some struct.name
 
 pub record NamesFamily (t : Types) (o : Option Str) : Type 0 where
   pub family : Family
   pub declared : Memᴰ family t.families
-  pub named : o ≡ some family.name
+  pub named : o ≡ Some family.name
 
 -- a field that does not break the rule. 02: "simple_fam_ptr and the rest are not judged"
 abbrev pub Points : Types → Field → Type 0

@@ -1,17 +1,17 @@
 // The check of a current record's pointers: its refusals first, then its fields in the order of the stream (02, W-212).
-ghost use Rattle.std.specs.Prelude.{◌≤◌, length};
+ghost use Rattle.std.specs.Prelude.{◌≤◌, length, ◌+◌, ◌/◌, ◌<◌};
 ghost use Rattle.record.specs.Scalars.{built_in};
 ghost use Rattle.record.specs.Reading.{rec};
 ghost use Rattle.record.specs.Index.{Indexed, IndexRoom};
 ghost use Rattle.pointers.specs.Pointers.{pointers, fault_from, Answers};
 
-use crate::rule::{Fault, field_fault};
+use crate::rule::field_fault;
 use layout::answer::{Answer, refused};
 use record::index::fill_index;
-use record::read::{Outcome, read_record};
+use record::read::read_record;
 use record::refusal::Side;
 use record::scalars::built_in;
-use record::seek::{Between, Sought, seek};
+use record::seek::{Between, seek};
 
 // The first field that breaks the rule, by the index of the record's names.
 fn first_fault(stream: &[u8], pool: &[u8], index: &[u16]) -> Answer
@@ -20,7 +20,7 @@ fn first_fault(stream: &[u8], pool: &[u8], index: &[u16]) -> Answer
 {
     let mut at = 0;
     loop {
-        let Sought::At(place, after) = seek(stream, at, 11, Between::Anything) else {
+        let Some((place, after)) = seek(stream, at, 11, Between::Anything) else {
             return Answer {
                 number: 0,
                 side: 0,
@@ -28,7 +28,7 @@ fn first_fault(stream: &[u8], pool: &[u8], index: &[u16]) -> Answer
                 len: 0,
             };
         };
-        if let Fault::Faulty(number) = field_fault(stream, pool, index, place) {
+        if let Some(number) = field_fault(stream, pool, index, place) {
             return Answer {
                 number,
                 side: 0,
@@ -49,21 +49,12 @@ fn check_lent(stream: &[u8], pool: &[u8], index: &mut [u16]) -> Answer
     first_fault(stream, pool, index)
 }
 
-// With an index for the longest stream.
-fn check_long(stream: &[u8], pool: &[u8]) -> Answer
-    requires { length stream.now ≤ 32768 }
+// With an index for a stream of its length, since clearing one for the longest takes longer than the answer of a short one.
+fn check_sized<const INDEX: usize>(stream: &[u8], pool: &[u8]) -> Answer
+    requires { (length stream.now ≤ 32768) × (256 + length stream.now / 7 < INDEX) × (INDEX ≤ 4938) }
     ensures { Answers (fault_from stream.now pool.now 0) result }
 {
-    let mut index = [0u16; 4938];
-    check_lent(stream, pool, &mut index)
-}
-
-// With an index for a short stream, since clearing one for the longest takes longer than the answer.
-fn check_short(stream: &[u8], pool: &[u8]) -> Answer
-    requires { length stream.now ≤ 2048 }
-    ensures { Answers (fault_from stream.now pool.now 0) result }
-{
-    let mut index = [0u16; 549];
+    let mut index = [0u16; INDEX];
     check_lent(stream, pool, &mut index)
 }
 
@@ -73,11 +64,11 @@ pub fn check_pointers(stream: &[u8], pool: &[u8]) -> Answer
     ensures { Answers (pointers (rec stream.now pool.now built_in)) result }
 {
     let rows = built_in();
-    if let Outcome::Refused(refusal, place) = read_record(Side::Current, &rows, stream, pool) {
+    if let Err((refusal, place)) = read_record(Side::Current, &rows, stream, pool) {
         return refused(Side::Current, refusal, place);
     }
     if stream.len() <= 2048 {
-        return check_short(stream, pool);
+        return check_sized::<549>(stream, pool);
     }
-    check_long(stream, pool)
+    check_sized::<4938>(stream, pool)
 }

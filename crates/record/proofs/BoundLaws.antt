@@ -1,7 +1,8 @@
 -- A bound of all sizes: each size is within its part of it, so a bound within the limit leaves no type vast. Assumes nothing.
+use Rattle.std.specs.Prelude.{Option, Some, None}
+use mathlib.Core.Logic.{◌⊎◌, inl, inr}
 use mathlib.Core.Path.{◌≡◌, refl, sym, ap, ap₂, ◌∙◌}
 use mathlib.Core.List.{List, [], ◌∷◌, ◌++◌}
-use mathlib.Core.Option.{Option, none, some}
 use mathlib.Core.Bool.{Bool, true, false, ◌||◌, cond}
 use Prim.Native.Nat.{ℕ, ◌+◌, ◌-◌, ◌*◌, ◌≤◌, ◌<◌}
 use native.Mathlib.Nat.{zero-add, sub-zero, zero-mul, mul-zero, mul-add, mul-le-mul, mul-le-mul_left, le-mul_of_pos_right}
@@ -11,12 +12,12 @@ use lib.Dec.{eqb, leb}
 use borrow.Author.Tests.{eqb-true, lt-leb, le-ltb, ne_eqb, leb-true, leb-false}
 use Rattle.record.specs.Base.{Str, bytes, eqs, any, find, first, or_else, map_option}
 use Rattle.record.specs.Le.{u32_at}
-use Rattle.record.specs.Scalars.{Scalar, scalar_at, scalars_at, scalars_of, scalar_in, size_found, prim_size}
+use Rattle.record.specs.Scalars.{Scalar, scalars_of, scalar_in, size_found, prim_size}
 use Rattle.record.specs.Schema.{Schema, Field, Family, Enum, Alias, BitField, Key}
 use Rattle.record.specs.Operands.{opt_number_at}
 use Rattle.record.specs.Commands.{operands, wide, widths, width_with, width_of, enum_at, bitfield_at, family_at, field_at, step_at, commands_from, commands_at}
 use Rattle.record.specs.Seek.{after_at}
-use Rattle.record.specs.Lists.{opt_of, number_of, enum_of, bitfield_of, field_of, family_of, listed, values, enums, members, bitfields, keys, fields}
+use Rattle.record.specs.Lists.{opt_of, enum_of, bitfield_of, field_of, family_of, listed, values, enums, members, bitfields, keys, fields}
 use Rattle.record.specs.Steps.{enum_in, alias_in, bitfield_in}
 use Rattle.record.specs.Kind.{kind_of}
 use Rattle.record.specs.Shapes.{enum_size, alias_size, bitfield_size, sized, scalar_size, size_as, shape_size, place_of, places, fam_prefix, limit, capped}
@@ -27,11 +28,9 @@ use Rattle.record.specs.declared.kind.Kind.TheVariants as K
 use Rattle.record.specs.declared.command as D
 use Rattle.record.specs.declared.command.Cursor.{Cursor}
 use Rattle.record.specs.declared.command.Command.{Command}
-use Rattle.record.specs.declared.command.Step.TheVariants.{Next}
-use Rattle.record.specs.declared.vast.Vast.TheVariants.{NoneVast}
 use Rattle.record.proofs.Stream.{step-found, commands-stop, commands-next, along}
 use Rattle.record.proofs.ListLaws.{find-miss}
-use Rattle.record.proofs.ScalarLaws.{scalars-next, scalars-end}
+use Rattle.record.proofs.ScalarLaws.{scalars_split, scalars-end}
 use Rattle.record.proofs.SeekLaws.{stepped, ended-there}
 use Rattle.record.proofs.SizeLaws.{cap-low, cap-high, product-capped}
 use Rattle.record.proofs.VastLaws.{front-places}
@@ -45,13 +44,6 @@ module _ (n y : ℕ) (e : y ≡ capped n) where
       go : (b : Bool) → leb n limit ≡ b → y ≡ n
       go true q = e ∙ sym (cap-low n (leb-true n limit q))
       go false q = let w : y ≡ limit + 1 = e ∙ sym (cap-high n (leb-false n limit q)) in absurd (omega arith)
-
-  cap-past : limit < y → limit < n
-  cap-past h = go (leb n limit) refl
-    where
-      go : (b : Bool) → leb n limit ≡ b → limit < n
-      go true q = let w : y ≡ n = e ∙ sym (cap-low n (leb-true n limit q)) in omega arith
-      go false q = leb-false n limit q
 
 plus-right : (a b : ℕ) → capped (a + capped b) ≡ capped (a + b)
 plus-right a b = go (leb b limit) refl
@@ -71,7 +63,7 @@ plus-left a b = go (leb a limit) refl
         let h = leb-false a limit q in
         ap (λ (x : ℕ). capped (x + b)) (sym (cap-high a h)) ∙ sym (cap-high (limit + 1 + b) (omega arith)) ∙ cap-high (a + b) (omega arith)
 
-cap-twice : (n : ℕ) → capped (capped n) ≡ capped n
+pub cap-twice : (n : ℕ) → capped (capped n) ≡ capped n
 cap-twice n = go (leb n limit) refl
   where
     go : (t : Bool) → leb n limit ≡ t → capped (capped n) ≡ capped n
@@ -96,45 +88,21 @@ within-capped n = go (leb n limit) refl
     go true q = ap (λ (k : ℕ). leb k limit) (sym (cap-low n (leb-true n limit q)))
     go false q = ap (λ (k : ℕ). leb k limit) (sym (cap-high n (leb-false n limit q))) ∙ lt-leb (limit + 1) limit (omega arith) ∙ sym q
 
--- the words of the table
-module _ (s : Str) where
-  pub record Summing (total at : ℕ) : Type 0 where
-    pub so_far : total + sum_sizes (scalars_at s at) ≡ sum_sizes (scalars_of s)
-    pub low : total ≤ limit
-    pub inside : at ≤ length s
+-- the words of the table, one more row at a time
+pub words-begin : (s r : Str) → r ≡ s → capped (0 + sum_sizes (scalars_of r)) ≡ capped (sum_sizes (scalars_of s))
+words-begin s r e = ap capped (zero-add (sum_sizes (scalars_of r))) ∙ ap (λ (x : Str). capped (sum_sizes (scalars_of x))) e
 
-  pub summing : Summing 0 0
-  unfolding scalars_of
-  summing = record { so_far = omega arith; low = omega arith; inside = omega arith }
+pub words-next : (s r t : Str) (a x y : ℕ) → s ≡ r ++ t → length r ≡ 9 → x ≡ get_or r 8 0 → y ≡ capped (a + x)
+    → capped (y + sum_sizes (scalars_of t)) ≡ capped (a + sum_sizes (scalars_of s))
+unfolding sum_sizes
+words-next s r t a x y e n q v =
+    let m = sum_sizes (scalars_of t) in
+    let f : sum_sizes (scalars_of s) ≡ x + m = rw (e, scalars_split r t n, q) in
+    ap (λ (k : ℕ). capped (k + m)) v ∙ plus-left (a + x) m ∙ ap capped (let z : a + x + m ≡ a + sum_sizes (scalars_of s) = omega arith in z)
 
-  module _ (a at : ℕ) (i : Summing a at) where
-    pub words-done : length s - at < 9 → a ≡ capped (sum_sizes (scalars_of s))
-    unfolding sum_sizes
-    words-done h =
-        let z : sum_sizes (scalars_at s at) ≡ 0 = rw (scalars-end s at h) in
-        let f = i.so_far in
-        let l = i.low in
-        let y : a ≡ sum_sizes (scalars_of s) = omega arith in
-        y ∙ cap-low (sum_sizes (scalars_of s)) (omega arith)
-
-    module _ (h : 9 ≤ length s - at) (x y : ℕ) (q : x ≡ get_or s (at + 8) 0) (v : y ≡ capped (a + x)) where
-      word-here : sum_sizes (scalars_at s at) ≡ x + sum_sizes (scalars_at s (at + 9))
-      unfolding sum_sizes scalar_at
-      word-here = rw (scalars-next s at h, q)
-
-      pub words_more : y ≤ limit → Summing y (at + 9)
-      words_more l =
-          let e = cap-exact (a + x) y v l in
-          let f = i.so_far in
-          let k = word-here in
-          record { so_far = omega arith; low = l; inside = omega arith }
-
-      pub words-over : limit < y → (limit + 1) ≡ capped (sum_sizes (scalars_of s))
-      words-over l =
-          let e = cap-past (a + x) y v l in
-          let f = i.so_far in
-          let k = word-here in
-          cap-high (sum_sizes (scalars_of s)) (omega arith)
+pub words-end : (s : Str) (a : ℕ) → length s < 9 → a ≡ capped a → a ≡ capped (a + sum_sizes (scalars_of s))
+unfolding sum_sizes scalars_of
+words-end s a h e = e ∙ ap capped (let z : sum_sizes (scalars_of s) ≡ 0 = rw (scalars-end s 0 (omega arith)) in let y : a ≡ a + sum_sizes (scalars_of s) = omega arith in y)
 
 -- the commands, one more at a time
 module _ (g : ℕ → ℕ) (s : Str) where
@@ -184,17 +152,14 @@ nothing-added : (a x : ℕ) → x ≡ 0 → capped a ≡ capped (a + x)
 nothing-added a x e = ap capped (let f : a ≡ a + x = omega arith in f)
 
 module _ (a : ℕ) (s : Str) (at b : ℕ) (e : b ≡ get_or s at 0) where
-  pub unit-enum : (y : Str) (x w r : ℕ) → b ≡ 4 → y ≡ drop at s → x ≡ u32_at y 4 → w ≡ x → r ≡ capped (a + w) → capped r ≡ capped (a + unit_at s at)
+  pub unit-some : (y : Str) (x w r : ℕ) → (b ≡ 4) ⊎ (b ≡ 6) → y ≡ drop at s → x ≡ u32_at y 4 → w ≡ x → r ≡ capped (a + w) → capped r ≡ capped (a + unit_at s at)
   unfolding unit_at
-  unit-enum y x w r h d f g q = added a r w (unit_at s at) q (g ∙ f ∙ rw (d, sym e ∙ h))
+  unit-some y x w r (inl h) d f g q = added a r w (unit_at s at) q (g ∙ f ∙ rw (d, sym e ∙ h))
+  unit-some y x w r (inr h) d f g q = added a r w (unit_at s at) q (g ∙ f ∙ rw (d, sym e ∙ h))
 
-  pub unit-bits : (y : Str) (x w r : ℕ) → b ≡ 6 → y ≡ drop at s → x ≡ u32_at y 4 → w ≡ x → r ≡ capped (a + w) → capped r ≡ capped (a + unit_at s at)
+  pub unit-none : ((b ≡ 4) ⊎ (b ≡ 6) → ⊥) → capped a ≡ capped (a + unit_at s at)
   unfolding unit_at
-  unit-bits y x w r h d f g q = added a r w (unit_at s at) q (g ∙ f ∙ rw (d, sym e ∙ h))
-
-  pub unit-none : (b ≡ 4 → ⊥) → (b ≡ 6 → ⊥) → capped a ≡ capped (a + unit_at s at)
-  unfolding unit_at
-  unit-none h k = nothing-added a (unit_at s at) (rw (← e, ne_eqb b 4 h, ne_eqb b 6 k))
+  unit-none h = nothing-added a (unit_at s at) (rw (← e, ne_eqb b 4 (λ k. h (inl k)), ne_eqb b 6 (λ k. h (inr k))))
 
   module _ (v : ℕ) where
     pub extra-field : (y : Str) (r : ℕ) → b ≡ 11 → y ≡ drop at s → capped r ≡ capped (a + numbers_of v (field_at y)) → capped r ≡ capped (a + extra_at v s at)
@@ -204,8 +169,6 @@ module _ (a : ℕ) (s : Str) (at b : ℕ) (e : b ≡ get_or s at 0) where
     pub extra-none : (b ≡ 11 → ⊥) → capped a ≡ capped (a + extra_at v s at)
     unfolding extra_at
     extra-none h = nothing-added a (extra_at v s at) (rw (← e, ne_eqb b 11 h))
-
-pub ruleset unit-laws = (unit-enum, unit-bits, unit-none)
 
 pub ruleset extra-laws = (extra-field, extra-none)
 
@@ -221,8 +184,8 @@ field-there s y at b e h d l =
 numbers-joined : (a b z : ℕ) → capped (capped a + capped (capped b + z)) ≡ capped (a + (b + z))
 numbers-joined a b z = ap (λ (x : ℕ). capped (capped a + x)) (plus-left b z) ∙ plus-left a (capped (b + z)) ∙ plus-right a (b + z)
 
-pub numbers-are : (x : Str) (v c d k z line first square below r : ℕ) → c ≡ or_else (number_of (opt_number_at x 13)) 0 → line ≡ capped (v * c) → d ≡ or_else (number_of (opt_number_at x 18)) 0
-    → first ≡ capped (v * d) → k ≡ or_else (number_of (opt_number_at x 23)) 0 → square ≡ capped (first * k) → z ≡ or_else (number_of (opt_number_at x 28)) 0 → below ≡ capped (square + z)
+pub numbers-are : (x : Str) (v c d k z line first square below r : ℕ) → c ≡ or_else (opt_number_at x 13) 0 → line ≡ capped (v * c) → d ≡ or_else (opt_number_at x 18) 0
+    → first ≡ capped (v * d) → k ≡ or_else (opt_number_at x 23) 0 → square ≡ capped (first * k) → z ≡ or_else (opt_number_at x 28) 0 → below ≡ capped (square + z)
     → r ≡ capped (line + below) → r ≡ capped (numbers_of v (field_at x))
 unfolding numbers_of
 numbers-are x v c d k z line first square below r c1 l1 d1 f1 k1 s1 z1 b1 r1 =
@@ -233,7 +196,7 @@ numbers-are x v c d k z line first square below r c1 l1 d1 f1 k1 s1 z1 b1 r1 =
 pub numbers-some : (a v : ℕ) (x : Str) (m r : ℕ) → m ≡ capped (numbers_of v (field_at x)) → r ≡ capped (a + m) → capped r ≡ capped (a + numbers_of v (field_at x))
 numbers-some a v x m r e q = added a r m (capped (numbers_of v (field_at x))) q e ∙ plus-right a (numbers_of v (field_at x))
 
-absent : (x : Str) (at : ℕ) → get_or x at 0 ≡ 0 → or_else (number_of (opt_number_at x at)) 0 ≡ 0
+absent : (x : Str) (at : ℕ) → get_or x at 0 ≡ 0 → or_else (opt_number_at x at) 0 ≡ 0
 unfolding opt_number_at or_else
 absent x at e = rw e
 
@@ -243,10 +206,10 @@ none_of a b z e f g = omega arith
 pub numbers-none : (a v : ℕ) (x : Str) → get_or x 13 0 ≡ 0 → get_or x 18 0 ≡ 0 → get_or x 28 0 ≡ 0 → capped a ≡ capped (a + numbers_of v (field_at x))
 unfolding numbers_of
 numbers-none a v x e f g =
-    let k = or_else (number_of (opt_number_at x 23)) 0 in
+    let k = or_else (opt_number_at x 23) 0 in
     nothing-added a (numbers_of v (field_at x)) (none_of _ _ _ (no-times 13 e) (ap (λ (n : ℕ). n * k) (no-times 18 f) ∙ zero-mul k) (absent x 28 g))
   where
-    no-times : (at : ℕ) → get_or x at 0 ≡ 0 → v * or_else (number_of (opt_number_at x at)) 0 ≡ 0
+    no-times : (at : ℕ) → get_or x at 0 ≡ 0 → v * or_else (opt_number_at x at) 0 ≡ 0
     no-times at h = ap (λ (n : ℕ). v * n) (absent x at h) ∙ mul-zero v
 
 pub ruleset numbers-laws = (numbers-some, numbers-none)
@@ -264,7 +227,7 @@ module _ {A : Type 0} (size : A → ℕ) (q : A → Bool) (d : ℕ) where
   unfolding find map_option or_else
   one_more e l t h = go (q e)
     where
-      go : (b : Bool) → or_else (map_option size (cond b (some e) (find q l))) d ≤ d + (size e + t)
+      go : (b : Bool) → or_else (map_option size (cond b (Some e) (find q l))) d ≤ d + (size e + t)
       go true = omega arith
       go false = wider (or_else (map_option size (find q l)) d) d (size e) t h
 
@@ -273,53 +236,53 @@ unfolding prim_size scalar_in find sum_sizes
 prim-below [] x = omega arith
 prim-below (c ∷ cs) x = go (eqs c.word x) (prim-below cs x)
   where
-    go : (b : Bool) → prim_size cs x ≤ sum_sizes cs → size_found (cond b (some c) (find (λ (k : Scalar). eqs k.word x) cs)) ≤ c.size + sum_sizes cs
+    go : (b : Bool) → prim_size cs x ≤ sum_sizes cs → size_found (cond b (Some c) (find (λ (k : Scalar). eqs k.word x) cs)) ≤ c.size + sum_sizes cs
     go true h = omega arith
     go false h = later (prim_size cs x) c.size (sum_sizes cs) h
 
 module _ (s p n : Str) where
-  enum-below : (ps : List ℕ) → sized (some n) (enum_size (enums s p ps)) 1 ≤ 1 + total_of (unit_at s) ps
+  enum-below : (ps : List ℕ) → sized (Some n) (enum_size (enums s p ps)) 1 ≤ 1 + total_of (unit_at s) ps
   unfolding sized enum_size enums listed enum_in find map_option or_else total_of unit_at
   enum-below [] = omega arith
   enum-below (at ∷ ps) = go (eqb (get_or s at 0) 4) (enum-below ps)
     where
-      go : (t : Bool) → sized (some n) (enum_size (enums s p ps)) 1 ≤ 1 + total_of (unit_at s) ps
-          → sized (some n) (enum_size (cond t (enum_of p (enum_at (drop at s)) (values s p ps) ∷ enums s p ps) (enums s p ps))) 1 ≤ 1 + (cond t (u32_at (drop at s) 4) (cond (eqb (get_or s at 0) 6) (u32_at (drop at s) 4) 0) + total_of (unit_at s) ps)
+      go : (t : Bool) → sized (Some n) (enum_size (enums s p ps)) 1 ≤ 1 + total_of (unit_at s) ps
+          → sized (Some n) (enum_size (cond t (enum_of p (enum_at (drop at s)) (values s p ps) ∷ enums s p ps) (enums s p ps))) 1 ≤ 1 + (cond t (u32_at (drop at s) 4) (cond (eqb (get_or s at 0) 6) (u32_at (drop at s) 4) 0) + total_of (unit_at s) ps)
       go true h = one_more (λ (e : Enum). e.size) (λ (e : Enum). eqs e.name n) 1 (enum_of p (enum_at (drop at s)) (values s p ps)) (enums s p ps) (total_of (unit_at s) ps) h
-      go false h = wider (sized (some n) (enum_size (enums s p ps)) 1) 1 (cond (eqb (get_or s at 0) 6) (u32_at (drop at s) 4) 0) (total_of (unit_at s) ps) h
+      go false h = wider (sized (Some n) (enum_size (enums s p ps)) 1) 1 (cond (eqb (get_or s at 0) 6) (u32_at (drop at s) 4) 0) (total_of (unit_at s) ps) h
 
-  bits_below : (ps : List ℕ) → sized (some n) (bitfield_size (bitfields s p ps)) 0 ≤ 0 + total_of (unit_at s) ps
+  bits_below : (ps : List ℕ) → sized (Some n) (bitfield_size (bitfields s p ps)) 0 ≤ 0 + total_of (unit_at s) ps
   unfolding sized bitfield_size bitfields listed bitfield_in find map_option or_else total_of unit_at
   bits_below [] = omega arith
   bits_below (at ∷ ps) = go (eqb (get_or s at 0) 6) (eqb (get_or s at 0) 4) (bits_below ps)
     where
-      go : (t k : Bool) → sized (some n) (bitfield_size (bitfields s p ps)) 0 ≤ 0 + total_of (unit_at s) ps
-          → sized (some n) (bitfield_size (cond t (bitfield_of p (bitfield_at (drop at s)) (members s p ps) ∷ bitfields s p ps) (bitfields s p ps))) 0 ≤ 0 + (cond k (u32_at (drop at s) 4) (cond t (u32_at (drop at s) 4) 0) + total_of (unit_at s) ps)
+      go : (t k : Bool) → sized (Some n) (bitfield_size (bitfields s p ps)) 0 ≤ 0 + total_of (unit_at s) ps
+          → sized (Some n) (bitfield_size (cond t (bitfield_of p (bitfield_at (drop at s)) (members s p ps) ∷ bitfields s p ps) (bitfields s p ps))) 0 ≤ 0 + (cond k (u32_at (drop at s) 4) (cond t (u32_at (drop at s) 4) 0) + total_of (unit_at s) ps)
       go true true h = one_more (λ (e : BitField). e.size) (λ (e : BitField). eqs e.name n) 0 (bitfield_of p (bitfield_at (drop at s)) (members s p ps)) (bitfields s p ps) (total_of (unit_at s) ps) h
       go true false h = one_more (λ (e : BitField). e.size) (λ (e : BitField). eqs e.name n) 0 (bitfield_of p (bitfield_at (drop at s)) (members s p ps)) (bitfields s p ps) (total_of (unit_at s) ps) h
-      go false k h = wider (sized (some n) (bitfield_size (bitfields s p ps)) 0) 0 (cond k (u32_at (drop at s) 4) 0) (total_of (unit_at s) ps) h
+      go false k h = wider (sized (Some n) (bitfield_size (bitfields s p ps)) 0) 0 (cond k (u32_at (drop at s) 4) 0) (total_of (unit_at s) ps) h
 
 -- what bounds the sizes of a schema: v a scalar's, u all that a field names or points at
 record Units (t : Schema) (u v : ℕ) : Type 0 where
   pub four : 4 ≤ u
   pub narrow : v ≤ u
   pub scalar : (x : Str) → prim_size t.scalars x ≤ v
-  pub enum : (n : Str) → sized (some n) (enum_size t.enums) 1 ≤ u
-  pub bits : (n : Str) → sized (some n) (bitfield_size t.bitfields) 0 ≤ u
+  pub enum : (n : Str) → sized (Some n) (enum_size t.enums) 1 ≤ u
+  pub bits : (n : Str) → sized (Some n) (bitfield_size t.bitfields) 0 ≤ u
 
 module _ (u : ℕ) where
-  named-below : (o : Option Str) (g : Str → Option ℕ) (d : ℕ) → d ≤ u → ((n : Str) → sized (some n) g d ≤ u) → sized o g d ≤ u
+  named-below : (o : Option Str) (g : Str → Option ℕ) (d : ℕ) → d ≤ u → ((n : Str) → sized (Some n) g d ≤ u) → sized o g d ≤ u
   unfolding sized
-  named-below none g d h k = h
-  named-below (some n) g d h k = k n
+  named-below None g d h k = h
+  named-below (Some n) g d h k = k n
 
-  alias-below : (w : List Scalar) (l : List Alias) → 2 ≤ u → ((x : Str) → prim_size w x ≤ u) → (n : Str) → sized (some n) (alias_size w l) 2 ≤ u
+  alias-below : (w : List Scalar) (l : List Alias) → 2 ≤ u → ((x : Str) → prim_size w x ≤ u) → (n : Str) → sized (Some n) (alias_size w l) 2 ≤ u
   unfolding sized alias_size map_option or_else
   alias-below w l h k n = go (alias_in n l)
     where
       go : (o : Option Alias) → or_else (map_option (λ (a : Alias). prim_size w a.underlying) o) 2 ≤ u
-      go none = h
-      go (some a) = k a.underlying
+      go None = h
+      go (Some a) = k a.underlying
 
 part-one : (a u n m z : ℕ) → a ≤ u → a ≤ u + (n + (m + z))
 part-one a u n m z h = omega arith
@@ -342,23 +305,23 @@ at_most a b c h k = omega arith
 module _ (t : Schema) (u v : ℕ) (i : Units t u v) (p : Str) (f : D.Field.Field) (key : Option Key) where
   size_below : (k : Kind) → size_as k t (field_of p f key) ≤ u + numbers_of v f
   unfolding size_as scalar_size numbers_of
-  size_below K.Scalar = part-one (scalar_size t (opt_of p f.type_name)) u (v * or_else (number_of f.count) 0) (v * or_else (number_of f.rows) 0 * or_else (number_of f.cols) 0) (or_else (number_of f.size) 0) (at_most (scalar_size t (opt_of p f.type_name)) v u (i.scalar (or_else (opt_of p f.type_name) (bytes "u8"))) i.narrow)
-  size_below K.Enum = part-one (sized (opt_of p f.type_name) (enum_size t.enums) 1) u (v * or_else (number_of f.count) 0) (v * or_else (number_of f.rows) 0 * or_else (number_of f.cols) 0) (or_else (number_of f.size) 0) (named-below u (opt_of p f.type_name) (enum_size t.enums) 1 (at_most 1 4 u (omega arith) i.four) i.enum)
-  size_below K.TypeAlias = part-one (sized (opt_of p f.type_name) (alias_size t.scalars t.aliases) 2) u (v * or_else (number_of f.count) 0) (v * or_else (number_of f.rows) 0 * or_else (number_of f.cols) 0) (or_else (number_of f.size) 0) (named-below u (opt_of p f.type_name) (alias_size t.scalars t.aliases) 2 (at_most 2 4 u (omega arith) i.four) (alias-below u t.scalars t.aliases (at_most 2 4 u (omega arith) i.four) (λ x. at_most (prim_size t.scalars x) v u (i.scalar x) i.narrow)))
-  size_below K.Bitfield = part-one (sized (opt_of p f.type_name) (bitfield_size t.bitfields) 0) u (v * or_else (number_of f.count) 0) (v * or_else (number_of f.rows) 0 * or_else (number_of f.cols) 0) (or_else (number_of f.size) 0) (named-below u (opt_of p f.type_name) (bitfield_size t.bitfields) 0 (at_most 0 4 u (omega arith) i.four) i.bits)
-  size_below K.InlineArray = part-two (scalar_size t (opt_of p f.element) * or_else (number_of f.count) 0) u (v * or_else (number_of f.count) 0) (v * or_else (number_of f.rows) 0 * or_else (number_of f.cols) 0) (or_else (number_of f.size) 0) (mul-le-mul (i.scalar (or_else (opt_of p f.element) (bytes "u8"))) (same (or_else (number_of f.count) 0)))
-  size_below K.InlineArray2d = part-three (scalar_size t (opt_of p f.element) * or_else (number_of f.rows) 0 * or_else (number_of f.cols) 0) u (v * or_else (number_of f.count) 0) (v * or_else (number_of f.rows) 0 * or_else (number_of f.cols) 0) (or_else (number_of f.size) 0) (mul-le-mul (mul-le-mul (i.scalar (or_else (opt_of p f.element) (bytes "u8"))) (same (or_else (number_of f.rows) 0))) (same (or_else (number_of f.cols) 0)))
-  size_below K.CstrPtr = part-one 4 u (v * or_else (number_of f.count) 0) (v * or_else (number_of f.rows) 0 * or_else (number_of f.cols) 0) (or_else (number_of f.size) 0) i.four
-  size_below K.StructPtr = part-one 4 u (v * or_else (number_of f.count) 0) (v * or_else (number_of f.rows) 0 * or_else (number_of f.cols) 0) (or_else (number_of f.size) 0) i.four
-  size_below K.StructArrayPtr = part-one 4 u (v * or_else (number_of f.count) 0) (v * or_else (number_of f.rows) 0 * or_else (number_of f.cols) 0) (or_else (number_of f.size) 0) i.four
-  size_below K.StructPtrArrayPtr = part-one 4 u (v * or_else (number_of f.count) 0) (v * or_else (number_of f.rows) 0 * or_else (number_of f.cols) 0) (or_else (number_of f.size) 0) i.four
-  size_below K.TaggedFamPtr = part-one 4 u (v * or_else (number_of f.count) 0) (v * or_else (number_of f.rows) 0 * or_else (number_of f.cols) 0) (or_else (number_of f.size) 0) i.four
-  size_below K.SimpleFamPtr = part-one 4 u (v * or_else (number_of f.count) 0) (v * or_else (number_of f.rows) 0 * or_else (number_of f.cols) 0) (or_else (number_of f.size) 0) i.four
-  size_below K.OpaquePtr = part-one 4 u (v * or_else (number_of f.count) 0) (v * or_else (number_of f.rows) 0 * or_else (number_of f.cols) 0) (or_else (number_of f.size) 0) i.four
-  size_below K.FnPtr = part-one 4 u (v * or_else (number_of f.count) 0) (v * or_else (number_of f.rows) 0 * or_else (number_of f.cols) 0) (or_else (number_of f.size) 0) i.four
-  size_below K.Padding = part-four u (v * or_else (number_of f.count) 0) (v * or_else (number_of f.rows) 0 * or_else (number_of f.cols) 0) (or_else (number_of f.size) 0)
-  size_below K.Text = part-one 0 u (v * or_else (number_of f.count) 0) (v * or_else (number_of f.rows) 0 * or_else (number_of f.cols) 0) (or_else (number_of f.size) 0) (at_most 0 4 u (omega arith) i.four)
-  size_below K.Other = part-one 0 u (v * or_else (number_of f.count) 0) (v * or_else (number_of f.rows) 0 * or_else (number_of f.cols) 0) (or_else (number_of f.size) 0) (at_most 0 4 u (omega arith) i.four)
+  size_below K.Scalar = part-one (scalar_size t (opt_of p f.type_name)) u (v * or_else f.count 0) (v * or_else f.rows 0 * or_else f.cols 0) (or_else f.size 0) (at_most (scalar_size t (opt_of p f.type_name)) v u (i.scalar (or_else (opt_of p f.type_name) (bytes "u8"))) i.narrow)
+  size_below K.Enum = part-one (sized (opt_of p f.type_name) (enum_size t.enums) 1) u (v * or_else f.count 0) (v * or_else f.rows 0 * or_else f.cols 0) (or_else f.size 0) (named-below u (opt_of p f.type_name) (enum_size t.enums) 1 (at_most 1 4 u (omega arith) i.four) i.enum)
+  size_below K.TypeAlias = part-one (sized (opt_of p f.type_name) (alias_size t.scalars t.aliases) 2) u (v * or_else f.count 0) (v * or_else f.rows 0 * or_else f.cols 0) (or_else f.size 0) (named-below u (opt_of p f.type_name) (alias_size t.scalars t.aliases) 2 (at_most 2 4 u (omega arith) i.four) (alias-below u t.scalars t.aliases (at_most 2 4 u (omega arith) i.four) (λ x. at_most (prim_size t.scalars x) v u (i.scalar x) i.narrow)))
+  size_below K.Bitfield = part-one (sized (opt_of p f.type_name) (bitfield_size t.bitfields) 0) u (v * or_else f.count 0) (v * or_else f.rows 0 * or_else f.cols 0) (or_else f.size 0) (named-below u (opt_of p f.type_name) (bitfield_size t.bitfields) 0 (at_most 0 4 u (omega arith) i.four) i.bits)
+  size_below K.InlineArray = part-two (scalar_size t (opt_of p f.element) * or_else f.count 0) u (v * or_else f.count 0) (v * or_else f.rows 0 * or_else f.cols 0) (or_else f.size 0) (mul-le-mul (i.scalar (or_else (opt_of p f.element) (bytes "u8"))) (same (or_else f.count 0)))
+  size_below K.InlineArray2d = part-three (scalar_size t (opt_of p f.element) * or_else f.rows 0 * or_else f.cols 0) u (v * or_else f.count 0) (v * or_else f.rows 0 * or_else f.cols 0) (or_else f.size 0) (mul-le-mul (mul-le-mul (i.scalar (or_else (opt_of p f.element) (bytes "u8"))) (same (or_else f.rows 0))) (same (or_else f.cols 0)))
+  size_below K.CstrPtr = part-one 4 u (v * or_else f.count 0) (v * or_else f.rows 0 * or_else f.cols 0) (or_else f.size 0) i.four
+  size_below K.StructPtr = part-one 4 u (v * or_else f.count 0) (v * or_else f.rows 0 * or_else f.cols 0) (or_else f.size 0) i.four
+  size_below K.StructArrayPtr = part-one 4 u (v * or_else f.count 0) (v * or_else f.rows 0 * or_else f.cols 0) (or_else f.size 0) i.four
+  size_below K.StructPtrArrayPtr = part-one 4 u (v * or_else f.count 0) (v * or_else f.rows 0 * or_else f.cols 0) (or_else f.size 0) i.four
+  size_below K.TaggedFamPtr = part-one 4 u (v * or_else f.count 0) (v * or_else f.rows 0 * or_else f.cols 0) (or_else f.size 0) i.four
+  size_below K.SimpleFamPtr = part-one 4 u (v * or_else f.count 0) (v * or_else f.rows 0 * or_else f.cols 0) (or_else f.size 0) i.four
+  size_below K.OpaquePtr = part-one 4 u (v * or_else f.count 0) (v * or_else f.rows 0 * or_else f.cols 0) (or_else f.size 0) i.four
+  size_below K.FnPtr = part-one 4 u (v * or_else f.count 0) (v * or_else f.rows 0 * or_else f.cols 0) (or_else f.size 0) i.four
+  size_below K.Padding = part-four u (v * or_else f.count 0) (v * or_else f.rows 0 * or_else f.cols 0) (or_else f.size 0)
+  size_below K.Text = part-one 0 u (v * or_else f.count 0) (v * or_else f.rows 0 * or_else f.cols 0) (or_else f.size 0) (at_most 0 4 u (omega arith) i.four)
+  size_below K.Other = part-one 0 u (v * or_else f.count 0) (v * or_else f.rows 0 * or_else f.cols 0) (or_else f.size 0) (at_most 0 4 u (omega arith) i.four)
 
   shape-below : shape_size t (field_of p f key) ≤ u + numbers_of v f
   unfolding shape_size
@@ -433,13 +396,13 @@ module _ (t : Schema) (u v : ℕ) (i : Units t u v) (s p : Str) where
       let d = front_ends m in
       front-places t m (fields s p ps) ∙ rw (le-ltb limit (disc_size t m) (omega arith), le-ltb limit (front_end t m) (omega arith)) (fields-below ps (front_end t m) (omega arith))
 
-  none-vast : (ps : List ℕ) → total_of (bound_at u v s) ps ≤ limit → find (vast t) (opened s p ps) ≡ none
+  none-vast : (ps : List ℕ) → total_of (bound_at u v s) ps ≤ limit → find (vast t) (opened s p ps) ≡ None
   unfolding opened find total_of vast
   none-vast [] h = refl
   none-vast (x ∷ ps) h = go (none-vast ps) (eqb (get_or s x 0) 9) refl (eqb (get_or s x 0) 8 || eqb (get_or s x 0) 10) refl
     where
-      go : (total_of (bound_at u v s) ps ≤ limit → find (vast t) (opened s p ps) ≡ none) → (b : Bool) → eqb (get_or s x 0) 9 ≡ b → (c : Bool) → (eqb (get_or s x 0) 8 || eqb (get_or s x 0) 10) ≡ c
-          → find (vast t) (opened s p (x ∷ ps)) ≡ none
+      go : (total_of (bound_at u v s) ps ≤ limit → find (vast t) (opened s p ps) ≡ None) → (b : Bool) → eqb (get_or s x 0) 9 ≡ b → (c : Bool) → (eqb (get_or s x 0) 8 || eqb (get_or s x 0) 10) ≡ c
+          → find (vast t) (opened s p (x ∷ ps)) ≡ None
       go ih true q c w =
           let f = front-bound x ps (eqb-true (get_or s x 0) 9 q) in
           find-miss (vast t) (opened s p (x ∷ ps)) _ (opened s p ps) (opened-front x ps q) (front_below (family_of p (family_at (drop x s)) [] []) ps (omega (arith, h, f))) ∙ ih (omega (arith, h))
@@ -474,7 +437,7 @@ module _ (u v : ℕ) (s : Str) where
       (λ at e. rw (commands-stop s at e) (omega arith))
       (λ at c k e ih. rw (commands-next s at c k e) (added-below _ _ _ _ _ _ _ (command-below at) ih (parted at c k e)))
     where
-      parted : (at : ℕ) (c : Command) (k : Cursor) → step_at s at ≡ Next c k → u * (length s - at) ≡ u * width_of (get_or s at 0) + u * (length s - k.at)
+      parted : (at : ℕ) (c : Command) (k : Cursor) → step_at s at ≡ Some (c, k) → u * (length s - at) ≡ u * width_of (get_or s at 0) + u * (length s - k.at)
       parted at c k e =
           let g = step-found s at c k e in
           let w = g.wide in
@@ -491,11 +454,11 @@ module _ (rows s p : Str) (v : ℕ) (e : v ≡ capped (sum_sizes (scalars_of row
         four = omega arith;
         narrow = omega arith;
         scalar = λ x. at_most (prim_size (scalars_of rows) x) (sum_sizes (scalars_of rows)) v (prim-below (scalars_of rows) x) (omega arith);
-        enum = λ n. at_most (sized (some n) (enum_size (enums s p (commands_at s 0))) 1) (1 + total_of (unit_at s) (commands_at s 0)) (unit_of v s) (enum-below s p n (commands_at s 0)) (omega arith);
-        bits = λ n. at_most (sized (some n) (bitfield_size (bitfields s p (commands_at s 0))) 0) (0 + total_of (unit_at s) (commands_at s 0)) (unit_of v s) (bits_below s p n (commands_at s 0)) (omega arith);
+        enum = λ n. at_most (sized (Some n) (enum_size (enums s p (commands_at s 0))) 1) (1 + total_of (unit_at s) (commands_at s 0)) (unit_of v s) (enum-below s p n (commands_at s 0)) (omega arith);
+        bits = λ n. at_most (sized (Some n) (bitfield_size (bitfields s p (commands_at s 0))) 0) (0 + total_of (unit_at s) (commands_at s 0)) (unit_of v s) (bits_below s p n (commands_at s 0)) (omega arith);
       }
 
-  bounded-none : bound_of v s ≤ limit → NoneVast ≡ first_vast (rec s p (scalars_of rows)) 0
+  bounded-none : bound_of v s ≤ limit → None ≡ first_vast (rec s p (scalars_of rows)) 0
   unfolding first_vast opened_from bound_of
   bounded-none b =
       let total = all-within _ _ _ _ (commands-below (unit_of v s) v s 0) (ap (λ (n : ℕ). unit_of v s * n) (sub-zero (length s))) b in
@@ -509,7 +472,7 @@ scalar-within v s h b = low v (unit_of v s) (unit_of v s * length s) (total_of (
     low : (v u m x : ℕ) → v ≤ u → u ≤ m → m + x ≤ limit → v ≤ limit
     low v u m x h k l = omega arith
 
-pub small-none : (rows s p : Str) (v : ℕ) (r : Bool) → v ≡ capped (sum_sizes (scalars_of rows)) → r ≡ leb (bound_of v s) limit → r ≡ true → NoneVast ≡ first_vast (rec s p (scalars_of rows)) 0
+pub small-none : (rows s p : Str) (v : ℕ) (r : Bool) → v ≡ capped (sum_sizes (scalars_of rows)) → r ≡ leb (bound_of v s) limit → r ≡ true → None ≡ first_vast (rec s p (scalars_of rows)) 0
 unfolding first_vast opened_from opened find commands_at commands_from
 small-none rows [] p v r e q h = refl
 small-none rows (x ∷ xs) p v r e q h =

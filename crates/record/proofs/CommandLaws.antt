@@ -1,7 +1,7 @@
 -- The cases of each definition, as the code's branches need them.
+use Rattle.std.specs.Prelude.{Option, Some, None}
 use Prim.Native.Nat.{ℕ, ◌+◌, ◌*◌, ◌-◌, ◌≤◌, ◌<◌}
 use mathlib.Core.List.{List}
-use mathlib.Core.Option.{none}
 use mathlib.Core.Bool.{cond}
 use mathlib.Core.Path.{◌≡◌, sym, ap}
 use native.Mathlib.Omega.{arith}
@@ -11,13 +11,9 @@ use lib.Dec.{eqb}
 use borrow.Author.Tests.{ne_eqb, lt-ltb, le-ltb}
 use Rattle.record.specs.Le.{u16_at, u32_at, u64_at, u8-past, u16-past}
 use Rattle.record.specs.declared.text.Text.{Text}
-use Rattle.record.specs.declared.operands.OptText.{OptText}
-use Rattle.record.specs.declared.operands.OptText.TheVariants.{Absent, Given}
-use Rattle.record.specs.declared.operands.OptNumber.TheVariants.{Missing, Number}
 use Rattle.record.specs.declared.command.Command.{Command}
 use Rattle.record.specs.declared.command.Command.TheVariants as C
 use Rattle.record.specs.declared.command.Version.{Version}
-use Rattle.record.specs.declared.command.Step.TheVariants.{Next, Stop}
 use Rattle.record.specs.Operands.{text_at, opt_text, opt_text_at, opt_number_at, flag_at}
 use Rattle.record.specs.Commands.{operands, width_with, width_of, command_of, step_at, place, version_at}
 
@@ -33,38 +29,23 @@ module _ (s : List ℕ) (at : ℕ) where
   pub text-past : length s ≤ at → ◌≡◌ {A = Text} (record { start = 0; len = 0 }) (text_at s at)
   text-past h = text-here 0 0 (sym (u16-past s at h)) (sym (u8-past s (at + 2) (omega arith)))
 
-  pub opt-read : (t : Text) (r : OptText) → t ≡ text_at s at → r ≡ opt_text t → r ≡ opt_text_at s at
+  pub opt-read : (t : Text) (r : Option Text) → t ≡ text_at s at → r ≡ opt_text t → r ≡ opt_text_at s at
   unfolding opt_text_at
   opt-read t r e f = rw (f, e)
 
-  pub number-here : (b n : ℕ) → b ≡ get_or s at 0 → (b ≡ 0 → ⊥) → n ≡ u32_at s (at + 1) → Number n ≡ opt_number_at s at
+  pub number-here : (b n : ℕ) → b ≡ get_or s at 0 → (b ≡ 0 → ⊥) → n ≡ u32_at s (at + 1) → Some n ≡ opt_number_at s at
   unfolding opt_number_at
   number-here b n e p q = rw (← e, ne_eqb b 0 p, q)
 
-  pub number-none : (b : ℕ) → b ≡ get_or s at 0 → b ≡ 0 → Missing ≡ opt_number_at s at
+  pub number-none : (b : ℕ) → b ≡ get_or s at 0 → b ≡ 0 → None ≡ opt_number_at s at
   unfolding opt_number_at
   number-none b e p = rw (← e, p)
 
-  pub number_past : length s ≤ at → Missing ≡ opt_number_at s at
+  pub number_past : length s ≤ at → None ≡ opt_number_at s at
   unfolding opt_number_at
   number_past h = rw (u8-past s at h)
 
 pub ruleset operand-laws = (text-here, text-whole, text-past, opt-read, number-here, number-none, number_past)
-
-module _ (t : Text) where
-  pub opt-absent : t.start ≡ 65535 → t.len ≡ 0 → Absent ≡ opt_text t
-  unfolding opt_text
-  opt-absent p q = rw (p, q)
-
-  pub opt-long : t.start ≡ 65535 → (t.len ≡ 0 → ⊥) → Given t ≡ opt_text t
-  unfolding opt_text
-  opt-long p q = rw (p, ne_eqb t.len 0 q)
-
-  pub opt-given : (t.start ≡ 65535 → ⊥) → Given t ≡ opt_text t
-  unfolding opt_text
-  opt-given p = rw (ne_eqb t.start 65535 p)
-
-pub ruleset opt-text-laws = (opt-absent, opt-long, opt-given)
 
 -- an operand goes by its bytes
 module _ (a b : List ℕ) (at : ℕ) where
@@ -105,10 +86,10 @@ unfolding opt_number_at
 number_same a b at f =
     let g : get_or a at 0 ≡ get_or b at 0 = f at (omega arith) (omega arith) in
     let h : u32_at a (at + 1) ≡ u32_at b (at + 1) = u32-same a b (at + 1) (λ i k l. f i (omega arith) (omega arith)) in
-    λ x. cond (eqb (g x) 0) Missing (Number (h x))
+    λ x. cond (eqb (g x) 0) None (Some (h x))
 
 -- a number that is none of the commands'
-pub none-operands : (b : ℕ) → (b ≡ 1 → ⊥) → (b ≡ 2 → ⊥) → (b ≡ 3 → ⊥) → (b ≡ 4 → ⊥) → (b ≡ 5 → ⊥) → (b ≡ 6 → ⊥) → (b ≡ 7 → ⊥) → (b ≡ 8 → ⊥) → (b ≡ 9 → ⊥) → (b ≡ 10 → ⊥) → (b ≡ 11 → ⊥) → (b ≡ 12 → ⊥) → (b ≡ 13 → ⊥) → (b ≡ 14 → ⊥) → (b ≡ 15 → ⊥) → operands b ≡ none
+pub none-operands : (b : ℕ) → (b ≡ 1 → ⊥) → (b ≡ 2 → ⊥) → (b ≡ 3 → ⊥) → (b ≡ 4 → ⊥) → (b ≡ 5 → ⊥) → (b ≡ 6 → ⊥) → (b ≡ 7 → ⊥) → (b ≡ 8 → ⊥) → (b ≡ 9 → ⊥) → (b ≡ 10 → ⊥) → (b ≡ 11 → ⊥) → (b ≡ 12 → ⊥) → (b ≡ 13 → ⊥) → (b ≡ 14 → ⊥) → (b ≡ 15 → ⊥) → operands b ≡ None
 unfolding operands
 none-operands b h1 h2 h3 h4 h5 h6 h7 h8 h9 h10 h11 h12 h13 h14 h15 = rw (ne_eqb b 1 h1, ne_eqb b 2 h2, ne_eqb b 3 h3, ne_eqb b 4 h4, ne_eqb b 5 h5, ne_eqb b 6 h6, ne_eqb b 7 h7, ne_eqb b 8 h8, ne_eqb b 9 h9, ne_eqb b 10 h10, ne_eqb b 11 h11, ne_eqb b 12 h12, ne_eqb b 13 h13, ne_eqb b 14 h14, ne_eqb b 15 h15)
 
@@ -121,25 +102,25 @@ unfolding command_of
 else-command b x r h1 h2 h3 h4 h5 h6 h7 h8 h9 h10 h11 h12 h13 e = rw (ne_eqb b 1 h1, ne_eqb b 2 h2, ne_eqb b 3 h3, ne_eqb b 4 h4, ne_eqb b 5 h5, ne_eqb b 6 h6, ne_eqb b 7 h7, ne_eqb b 8 h8, ne_eqb b 9 h9, ne_eqb b 10 h10, ne_eqb b 11 h11, ne_eqb b 12 h12, ne_eqb b 13 h13, e)
 
 module _ (s : List ℕ) (at : ℕ) where
-  pub step_end : length s ≤ at → Stop ≡ step_at s at
+  pub step_end : length s ≤ at → None ≡ step_at s at
   unfolding step_at
   step_end h = rw (le-ltb at (length s) h)
 
   module _ (h : at < length s) where
-    pub step-last : get_or s at 0 ≡ 15 → Stop ≡ step_at s at
+    pub step-last : get_or s at 0 ≡ 15 → None ≡ step_at s at
     unfolding step_at
     step-last e = rw (lt-ltb at (length s) h, e)
 
     module _ (l : get_or s at 0 ≡ 15 → ⊥) (w : ℕ) (e : w ≡ width_of (get_or s at 0)) where
-      pub step-unknown : w ≡ 0 → Stop ≡ step_at s at
+      pub step-unknown : w ≡ 0 → None ≡ step_at s at
       unfolding step_at
       step-unknown z = rw (lt-ltb at (length s) h, ne_eqb (get_or s at 0) 15 l, ← e, z)
 
-      pub step_cut : (w ≡ 0 → ⊥) → length s - at < w → Stop ≡ step_at s at
+      pub step_cut : (w ≡ 0 → ⊥) → length s - at < w → None ≡ step_at s at
       unfolding step_at
       step_cut z k = rw (lt-ltb at (length s) h, ne_eqb (get_or s at 0) 15 l, ← e, ne_eqb w 0 z, lt-ltb (length s - at) w k)
 
-      pub step-next : (c : Command) → (w ≡ 0 → ⊥) → w ≤ length s - at → c ≡ command_of (get_or s at 0) (take (length s - at) (drop at s)) → Next c (place (at + w)) ≡ step_at s at
+      pub step-next : (c : Command) → (w ≡ 0 → ⊥) → w ≤ length s - at → c ≡ command_of (get_or s at 0) (take (length s - at) (drop at s)) → Some (c, place (at + w)) ≡ step_at s at
       unfolding step_at
       step-next c z k f = rw (lt-ltb at (length s) h, ne_eqb (get_or s at 0) 15 l, ← e, ne_eqb w 0 z, le-ltb (length s - at) w k, f, take_all (length s - at) (drop at s) (rw length-drop (omega arith)))
 

@@ -1,15 +1,17 @@
 -- Parts of a slice, and the search for a byte, one step at a time.
 use Prim.Native.Nat.{ℕ, zero, suc, ◌+◌, ◌-◌, ◌≤◌, ◌<◌}
-use mathlib.Core.Bool.{Bool, true, false, cond}
+use mathlib.Core.Bool.{Bool, true, false, not, cond}
 use mathlib.Core.List.{[], ◌∷◌}
 use mathlib.Core.Path.{◌≡◌, refl, sym, ap, ◌∙◌}
 use native.Mathlib.Numerals.{add-one}
-use native.Mathlib.Nat.{sub-zero, add-zero}
+use native.Mathlib.Nat.{sub-zero}
 use native.Mathlib.Omega.{arith}
 use lib.ListN.{length, take, drop, get_or, drop_of_length-le, length-drop}
-use lib.Seq.{drop-cons, take_all, take-nil}
-use lib.Dec.{eqb}
-use borrow.Author.Tests.{eq-eqb, ne_eqb, eqb-true}
+use lib.Seq.{take_all, take-nil}
+use lib.Dec.{eqb, ltb}
+use borrow.Author.Tests.{eq-eqb, eqb-true, ltb-false}
+use Rattle.std.specs.Prelude.{Option, Some, None, unwrap_or, position}
+use Rattle.std.specs.List.{position_or_len}
 use Rattle.record.specs.Base.{Str}
 use Rattle.record.specs.Cut.{place_of, before_byte, after_byte}
 
@@ -28,21 +30,6 @@ module _ (s : Str) (n : ℕ) where
 
 pub ruleset cut-laws = (upto_all, upto-cut, from_past, from-here)
 
-module _ (s : Str) (b i : ℕ) where
-  pub place_here : i < length s → get_or s i 0 ≡ b → i + place_of b (drop i s) ≡ i
-  unfolding place_of
-  place_here h e = rw (drop-cons s i 0, eq-eqb (get_or s i 0) b e, add-zero)
-
-  pub place-later : i < length s → (get_or s i 0 ≡ b → ⊥) → i + place_of b (drop i s) ≡ i + 1 + place_of b (drop (i + 1) s)
-  unfolding place_of
-  place-later h e = rw (add-one, drop-cons s i 0, ne_eqb (get_or s i 0) b e) (omega arith)
-
-  pub place_none : length s ≤ i → i + place_of b (drop i s) ≡ i
-  unfolding place_of
-  place_none h = rw (drop_of_length-le s, add-zero)
-
-pub ruleset place-laws = (place_here, place-later, place_none)
-
 -- the place of a byte in a text and in its front
 pub place-most : (b : ℕ) (l : Str) → place_of b l ≤ length l
 unfolding place_of
@@ -52,6 +39,26 @@ place-most b (a ∷ l) = go (eqb a b) (place-most b l)
     go : (t : Bool) → place_of b l ≤ length l → cond t 0 (suc (place_of b l)) ≤ suc (length l)
     go true h = omega arith
     go false h = omega arith
+
+-- the place that the code finds
+place-first : (b : ℕ) (s : Str) → position_or_len (λ x. eqb x b) s ≡ place_of b s
+unfolding place_of
+place-first b [] = refl
+place-first b (a ∷ s) = go (eqb a b) (place-first b s)
+  where
+    go : (t : Bool) → position_or_len (λ x. eqb x b) s ≡ place_of b s → cond (not t) (1 + position_or_len (λ x. eqb x b) s) 0 ≡ cond t 0 (suc (place_of b s))
+    go true e = refl
+    go false e = omega arith
+
+pub place_found : (b : ℕ) (s : Str) (o : Option ℕ) (r : ℕ) → o ≡ position (λ x. eqb x b) s → r ≡ unwrap_or o (length s) → r ≡ place_of b s
+place_found b s o r e f = f ∙ ap (λ x. unwrap_or x (length s)) e ∙ go (ltb p (length s)) refl
+  where
+    p : ℕ
+    p = position_or_len (λ x. eqb x b) s
+
+    go : (t : Bool) → ltb p (length s) ≡ t → unwrap_or (cond t (Some p) None) (length s) ≡ place_of b s
+    go true h = place-first b s
+    go false h = let m = place-most b s in let l = ltb-false p (length s) h in let q = place-first b s in omega arith
 
 pub place-there : (b : ℕ) (l : Str) → place_of b l < length l → get_or l (place_of b l) 0 ≡ b
 unfolding place_of

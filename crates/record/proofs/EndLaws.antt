@@ -1,11 +1,12 @@
 -- Where the lists of a record end, along the walk that finds it; and each list of a stream that is cut off there. Assumes nothing.
+use Rattle.std.specs.Prelude.{Some}
 use mathlib.Core.Path.{◌≡◌, refl, sym, ap, ap₂, subst, ◌∙◌}
 use mathlib.Core.List.Memᴰ
 use mathlib.Core.List.{List, [], ◌∷◌, Memᴰ}
 use mathlib.Core.Bool.{Bool, true, false, cond, false≢true}
 use Prim.Native.Nat.{ℕ, ◌+◌, ◌-◌, ◌/◌, ◌≤◌, ◌<◌}
 use native.Mathlib.Omega.{arith}
-use borrow.Author.Tests.{ne_eqb, eqb-true, eqb-false}
+use borrow.Author.Tests.{eqb-true, eqb-false}
 use lib.Dec.{eqb}
 use lib.ListN.{length, take, drop, get_or}
 use lib.Seq.{get_or-take, get_or-drop, length-take-le}
@@ -20,7 +21,6 @@ use Rattle.record.specs.Seek.{after_at, over_of, places_of}
 use Rattle.record.specs.Ends.{Reached, there, onward, in_constants, in_enums, in_bitfields, in_keys, Before, EndsOf, noted, no_ends, IndexedTo}
 use Rattle.record.specs.declared.command.Cursor.{Cursor}
 use Rattle.record.specs.declared.command.Command.{Command}
-use Rattle.record.specs.declared.command.Step.TheVariants.{Next}
 use Rattle.record.specs.declared.seek.Between.TheVariants.{Anything}
 use Rattle.record.specs.declared.ends.Ends.{Ends}
 use Rattle.record.proofs.CommandLaws.{step_end, step-next, text_same, opt_same, flag_same, u32-same, u64-same, number_same}
@@ -32,7 +32,7 @@ use Rattle.record.proofs.IndexLaws.{Filling, fill_start, fill_end, fill-place, f
 -- the walk ---------------------------------------------------------------------------------------------------------------
 
 -- a command further
-reached-next : (s : Str) (m : ℕ) (c : Command) (k : Cursor) → step_at s m ≡ Next c k → {at : ℕ} → Reached s m at → Reached s k.at at
+reached-next : (s : Str) (m : ℕ) (c : Command) (k : Cursor) → step_at s m ≡ Some (c, k) → {at : ℕ} → Reached s m at → Reached s k.at at
 reached-next s m c k e (there p) = onward (ap (step_at s) p ∙ e) (there refl)
 reached-next s m c k e (onward f r) = onward f (reached-next s m c k e r)
 
@@ -116,43 +116,6 @@ module _ (s p : Str) (before x : List ℕ) (r : Ends) where
 
 pub ruleset noting-laws = (noting-start, noting-end, noting-on)
 
--- noted ------------------------------------------------------------------------------------------------------------------
-
-module _ (r : Ends) (b k : ℕ) where
-  pub noted-constant : b ≡ 2 → ◌≡◌ {A = Ends} (record { constants = k; enums = r.enums; bitfields = r.bitfields; keys = r.keys }) (noted r b k)
-  unfolding noted
-  noted-constant e = rw e
-
-  pub noted-enum : b ≡ 4 → ◌≡◌ {A = Ends} (record { constants = r.constants; enums = k; bitfields = r.bitfields; keys = r.keys }) (noted r b k)
-  unfolding noted
-  noted-enum e = rw e
-
-  pub noted-value : b ≡ 5 → ◌≡◌ {A = Ends} (record { constants = r.constants; enums = k; bitfields = r.bitfields; keys = r.keys }) (noted r b k)
-  unfolding noted
-  noted-value e = rw e
-
-  pub noted-bits : b ≡ 6 → ◌≡◌ {A = Ends} (record { constants = r.constants; enums = r.enums; bitfields = k; keys = r.keys }) (noted r b k)
-  unfolding noted
-  noted-bits e = rw e
-
-  pub noted-member : b ≡ 7 → ◌≡◌ {A = Ends} (record { constants = r.constants; enums = r.enums; bitfields = k; keys = r.keys }) (noted r b k)
-  unfolding noted
-  noted-member e = rw e
-
-  pub noted-key : b ≡ 12 → ◌≡◌ {A = Ends} (record { constants = r.constants; enums = r.enums; bitfields = r.bitfields; keys = k }) (noted r b k)
-  unfolding noted
-  noted-key e = rw e
-
-  pub noted-unstored : b ≡ 13 → ◌≡◌ {A = Ends} (record { constants = r.constants; enums = r.enums; bitfields = r.bitfields; keys = k }) (noted r b k)
-  unfolding noted
-  noted-unstored e = rw e
-
-  pub noted_other : (b ≡ 2 → ⊥) → (b ≡ 4 → ⊥) → (b ≡ 5 → ⊥) → (b ≡ 6 → ⊥) → (b ≡ 7 → ⊥) → (b ≡ 12 → ⊥) → (b ≡ 13 → ⊥) → r ≡ noted r b k
-  unfolding noted
-  noted_other d e f g h i j = rw (ne_eqb b 2 d, ne_eqb b 4 e, ne_eqb b 5 f, ne_eqb b 6 g, ne_eqb b 7 h, ne_eqb b 12 i, ne_eqb b 13 j)
-
-pub ruleset noted-laws = (noted-constant, noted-enum, noted-value, noted-bits, noted-member, noted-key, noted-unstored, noted_other)
-
 -- a list of a stream that is cut off -------------------------------------------------------------------------------------
 
 reached-ahead : (s : Str) (to : ℕ) {at : ℕ} → Reached s to at → at ≤ to
@@ -160,7 +123,7 @@ reached-ahead s to (there p) = omega arith
 reached-ahead s to (onward {at} {c} {k} e r) = let f = step-found s at c k e in let a = f.on in let b = reached-ahead s to r in omega arith
 
 -- where no command of a number stands from a place on, the command there has another, and none stands after it
-module _ (s : Str) (n at : ℕ) (c : Command) (k : Cursor) (e : step_at s at ≡ Next c k) (h : places_of s Anything n at ≡ []) where
+module _ (s : Str) (n at : ℕ) (c : Command) (k : Cursor) (e : step_at s at ≡ Some (c, k)) (h : places_of s Anything n at ≡ []) where
   not-here : byte_of c ≡ n → ⊥
   unfolding places_of
   not-here q = Memᴰ.not-nil (subst (λ (l : List ℕ). Memᴰ at l) (sym (listed_here s (over_of Anything) n (λ at rest. at) at c k e q) ∙ h) (Memᴰ.head refl))
@@ -178,7 +141,7 @@ module _ {A X : Type 0} (F : List A → X) (h : A → X → X) (step : (x : A) (
       along s (λ (at : ℕ). places_of s Anything n at ≡ [] → F (listed s over b f (commands_at s at)) ≡ F []) (λ at e m. ap F (listed-stop s over b f at e))
       (λ at c k e ih m. go at c k e ih m (eqb (byte_of c) b) (over (byte_of c)) refl refl)
     where
-      go : (at : ℕ) (c : Command) (k : Cursor) → step_at s at ≡ Next c k → (places_of s Anything n k.at ≡ [] → F (listed s over b f (commands_at s k.at)) ≡ F []) → places_of s Anything n at ≡ []
+      go : (at : ℕ) (c : Command) (k : Cursor) → step_at s at ≡ Some (c, k) → (places_of s Anything n k.at ≡ [] → F (listed s over b f (commands_at s k.at)) ≡ F []) → places_of s Anything n at ≡ []
           → (t o : Bool) → eqb (byte_of c) b ≡ t → over (byte_of c) ≡ o → F (listed s over b f (commands_at s at)) ≡ F []
       go at c k e ih m true o p q =
           let w = eqb-true (byte_of c) b p in
@@ -198,10 +161,10 @@ module _ (s : Str) (to : ℕ) (l : to ≤ length s) where
   -- what a command before the cut is, once the stream is cut
   record Uncut (at : ℕ) (c : Command) (k : Cursor) : Type 0 where
     command : Command
-    step : step_at (take to s) at ≡ Next command (place k.at)
+    step : step_at (take to s) at ≡ Some (command, place k.at)
     number : byte_of command ≡ byte_of c
 
-  uncut : (at : ℕ) (c : Command) (k : Cursor) → step_at s at ≡ Next c k → k.at ≤ to → Uncut at c k
+  uncut : (at : ℕ) (c : Command) (k : Cursor) → step_at s at ≡ Some (c, k) → k.at ≤ to → Uncut at c k
   uncut at c k e h =
       let f = step-found s at c k e in
       let on = f.on in
@@ -209,14 +172,14 @@ module _ (s : Str) (to : ℕ) (l : to ≤ length s) where
       let same : get_or (take to s) at 0 ≡ get_or s at 0 = get_or-take to s at 0 (omega arith) in
       let w : k.at ≡ at + width_of (get_or s at 0) = f.wide in
       let d : Command = command_of (get_or (take to s) at 0) (take (length (take to s) - at) (drop at (take to s))) in
-      let step : step_at (take to s) at ≡ Next d (place k.at) =
+      let step : step_at (take to s) at ≡ Some (d, place k.at) =
       sym (step-next (take to s) at (omega arith) (λ x. f.going (sym same ∙ x)) (width_of (get_or s at 0)) (ap width_of (sym same)) d f.known (omega arith) refl)
-      ∙ ap (λ (j : ℕ). Next d (place j)) (sym w) in
+      ∙ ap (λ (j : ℕ). Some (d, place j)) (sym w) in
       record { command = d; step = step; number = sym (byte-is (take to s) at d (place k.at) step) ∙ same ∙ byte-is s at c k e }
 
   -- what is made of a list stays as it is if each element counts as before, and those from the cut on for nothing
   module _ {A X : Type 0} (F : List A → X) (h : A → X → X) (made : (x : A) (l : List A) → F (x ∷ l) ≡ h x (F l)) (over : ℕ → Bool) (b : ℕ) (f g : ℕ → List ℕ → A) (none : F (listed s over b f (commands_at s to)) ≡ F [])
-      (same : (at : ℕ) (c : Command) (k : Cursor) → step_at s at ≡ Next c k → get_or s at 0 ≡ b → Reached s to k.at → (x : X) → h (f at (commands_at s k.at)) x ≡ h (g at (commands_at (take to s) k.at)) x) where
+      (same : (at : ℕ) (c : Command) (k : Cursor) → step_at s at ≡ Some (c, k) → get_or s at 0 ≡ b → Reached s to k.at → (x : X) → h (f at (commands_at s k.at)) x ≡ h (g at (commands_at (take to s) k.at)) x) where
     made-front : {at : ℕ} → Reached s to at → F (listed s over b f (commands_at s at)) ≡ F (listed (take to s) over b g (commands_at (take to s) at))
     made-front (there {at} p) =
         ap (λ (x : ℕ). F (listed s over b f (commands_at s x))) p ∙ none
@@ -240,7 +203,7 @@ module _ (s : Str) (to : ℕ) (l : to ≤ length s) where
 
   -- a list of which all commands stand before the cut is the same if each of its elements is
   listed-front : {A : Type 0} (over : ℕ → Bool) (b : ℕ) (f g : ℕ → List ℕ → A) → places_of s Anything b to ≡ []
-      → ((at : ℕ) (c : Command) (k : Cursor) → step_at s at ≡ Next c k → get_or s at 0 ≡ b → Reached s to k.at → f at (commands_at s k.at) ≡ g at (commands_at (take to s) k.at))
+      → ((at : ℕ) (c : Command) (k : Cursor) → step_at s at ≡ Some (c, k) → get_or s at 0 ≡ b → Reached s to k.at → f at (commands_at s k.at) ≡ g at (commands_at (take to s) k.at))
       → {at : ℕ} → Reached s to at → listed s over b f (commands_at s at) ≡ listed (take to s) over b g (commands_at (take to s) at)
   listed-front {A} over b f g none same =
       made-front (λ (l : List A). l) (λ (x : A) (l : List A). x ∷ l) (λ x l. refl) over b f g
@@ -251,7 +214,7 @@ module _ (s : Str) (to : ℕ) (l : to ≤ length s) where
 byte-front : (s : Str) (to at c : ℕ) → at + c ≤ to → (i : ℕ) → i < c → get_or (drop at s) i 0 ≡ get_or (drop at (take to s)) i 0
 byte-front s to at c h i l = get_or-drop at s i 0 ∙ sym (get_or-take to s (at + i) 0 (omega arith)) ∙ sym (get_or-drop at (take to s) i 0)
 
-module _ (s : Str) (to at : ℕ) (c : Command) (k : Cursor) (e : step_at s at ≡ Next c k) (r : Reached s to k.at) where
+module _ (s : Str) (to at : ℕ) (c : Command) (k : Cursor) (e : step_at s at ≡ Some (c, k)) (r : Reached s to k.at) where
   bytes-front : (b : ℕ) → get_or s at 0 ≡ b → (i : ℕ) → i < width_of b → get_or (drop at s) i 0 ≡ get_or (drop at (take to s)) i 0
   bytes-front b h =
       byte-front s to at (width_of b) (let a = reached-ahead s to r in let w : k.at ≡ at + width_of b = (step-found s at c k e).wide ∙ ap (λ (x : ℕ). at + width_of x) h in omega arith)

@@ -1,19 +1,20 @@
 -- The index of a record while it is filled, and the way along the places of one number. Assumes nothing.
+use Rattle.std.specs.Prelude.{Option, Some, None}
 use Prim.Native.Nat.{ℕ, suc, ◌+◌, ◌-◌, ◌*◌, ◌/◌, ◌%◌, ◌≤◌, ◌<◌}
 use mathlib.Core.Path.{◌≡◌, refl, sym, ap, subst, ◌∙◌}
-use mathlib.Core.List.{List, [], ◌∷◌}
-use mathlib.Core.Option.{Option, none, some}
+use mathlib.Core.List.{◌++◌, List, [], ◌∷◌}
 use mathlib.Core.Logic.{inr, ⊎_elim}
 use mathlib.Core.Bool.{Bool, true, false, ◌&&◌, ◌||◌, cond, false≢true}
 use native.Mathlib.Omega.{arith}
 use borrow.Author.Tests.{eq-eqb, ne_eqb, eqb-true, eqb-false, lt-ltb, le-ltb, ltb-false}
 use lib.Dec.{eqb, ltb}
-use lib.ListN.{length, get_or, set, drop, length-set, get_or-eq_default}
+use lib.ListN.{replicate, length-replicate, length-append, get_or-append, length, get_or, set, drop, length-set}
 use lib.Seq.{get_or-set_same, get_or-set_other}
+use Rattle.std.proofs.lemmas.List.{get_or-replicate, length-drop}
 use Rattle.record.specs.Le.{u32_at}
 use Rattle.record.specs.Base.{Str, bytes, eqs, find, last_or, find_last, any, is_some}
 use Rattle.record.specs.Stretch.{text_of}
-use Rattle.record.specs.Operands.{text_at, flag_at}
+use Rattle.record.specs.Operands.{text_at}
 use Rattle.record.specs.Schema.{Family}
 use Rattle.record.specs.Commands.{operands, wide, widths, width_with, width_of, step_at, commands_at}
 use Rattle.record.specs.Lists.{anything, listed, constants, unstored, aliases, enums, bitfields, structs, families}
@@ -23,10 +24,7 @@ use Rattle.record.specs.Index.{mixed, hash_of, declared_name, declares, is_named
 use Rattle.record.specs.declared.text.Text.{Text}
 use Rattle.record.specs.declared.command.Cursor.{Cursor}
 use Rattle.record.specs.declared.command.Command.{Command}
-use Rattle.record.specs.declared.command.Step.TheVariants.{Next, Stop}
 use Rattle.record.specs.declared.seek.Between.TheVariants.{Anything}
-use Rattle.record.specs.declared.seek.Sought.{Sought}
-use Rattle.record.specs.declared.seek.Sought.TheVariants.{Nowhere, At}
 use Rattle.record.proofs.Basics.{eqs→eq}
 use Rattle.record.proofs.Stream.{step-found, along, commands-stop, commands-next}
 use Rattle.record.proofs.ListLaws.{byte_of, byte-is, listed-stop, listed_here, listed-over, find_none, find-hit, find-miss}
@@ -62,34 +60,6 @@ unfolding declared_name
 named-there s p at y n t d e f = f ∙ ap (text_of p) (e ∙ ap (λ (z : Str). text_at z 1) d)
 
 module _ (b : ℕ) where
-  pub declares-struct : b ≡ 8 → true ≡ declares b
-  unfolding declares
-  declares-struct e = rw e
-
-  pub declares-family : b ≡ 9 → true ≡ declares b
-  unfolding declares
-  declares-family e = rw e
-
-  pub declares-alias : b ≡ 3 → true ≡ declares b
-  unfolding declares
-  declares-alias e = rw e
-
-  pub declares-enum : b ≡ 4 → true ≡ declares b
-  unfolding declares
-  declares-enum e = rw e
-
-  pub declares-constant : b ≡ 2 → true ≡ declares b
-  unfolding declares
-  declares-constant e = rw e
-
-  pub declares-unstored : b ≡ 13 → true ≡ declares b
-  unfolding declares
-  declares-unstored e = rw e
-
-  pub declares-bits : (b ≡ 8 → ⊥) → (b ≡ 9 → ⊥) → (b ≡ 3 → ⊥) → (b ≡ 4 → ⊥) → (b ≡ 2 → ⊥) → (b ≡ 13 → ⊥) → eqb b 6 ≡ declares b
-  unfolding declares
-  declares-bits h i j k l m = rw (ne_eqb b 8 h, ne_eqb b 9 i, ne_eqb b 3 j, ne_eqb b 4 k, ne_eqb b 2 l, ne_eqb b 13 m)
-
   -- such a command takes seven bytes at least
   declares-wide : declares b ≡ true → 7 ≤ width_of b
   unfolding declares width_of width_with operands widths wide bytes
@@ -108,47 +78,9 @@ module _ (b : ℕ) where
       go false false false false false false true h i j k l m n q = of 6 n (omega arith)
       go false false false false false false false h i j k l m n q = absurd (false≢true q)
 
-pub ruleset declares-laws = (declares-struct, declares-family, declares-alias, declares-enum, declares-constant, declares-unstored, declares-bits)
-
-module _ (s p : Str) (b at : ℕ) (n : Str) (y : ℕ) (e : y ≡ get_or s at 0) where
-  pub named_other : (y ≡ b → ⊥) → false ≡ is_named s p b n at
-  unfolding is_named
-  named_other h = rw (← e, ne_eqb y b h)
-
-  pub named-same : y ≡ b → (w : Str) (v : Bool) → w ≡ declared_name s p at → v ≡ eqs w n → v ≡ is_named s p b n at
-  unfolding is_named
-  named-same h w v f g = rw (← e, eq-eqb y b h) (g ∙ ap (λ (z : Str). eqs z n) f)
-
-pub ruleset is-named-laws = (named_other, named-same)
-
-pub flagged-any : (s : Str) (f at : ℕ) → f ≡ 0 → true ≡ is_flagged s f at
-unfolding is_flagged
-flagged-any s f at e = rw e
-
-pub flagged-set : (s : Str) (f at : ℕ) → (f ≡ 0 → ⊥) → (y : Str) (v : Bool) → y ≡ drop at s → v ≡ flag_at y f → v ≡ is_flagged s f at
-unfolding is_flagged
-flagged-set s f at h y v d e = rw (ne_eqb f 0 h) (e ∙ ap (λ (z : Str). flag_at z f) d)
-
-pub ruleset flagged-laws = (flagged-any, flagged-set)
-
 and-false : (v : Bool) → v && false ≡ false
 and-false true = refl
 and-false false = refl
-
-and-true : (v : Bool) → v && true ≡ v
-and-true true = refl
-and-true false = refl
-
-module _ (s p : Str) (b f : ℕ) (n : Str) (at : ℕ) (v : Bool) (e : v ≡ is_named s p b n at) where
-  pub counts-flag : v ≡ true → (w : Bool) → w ≡ is_flagged s f at → w ≡ counts s p b f n at
-  unfolding counts
-  counts-flag h w g = rw (← e, h) (g ∙ sym (and-true (is_flagged s f at)))
-
-  pub counts-other : v ≡ false → false ≡ counts s p b f n at
-  unfolding counts
-  counts-other h = rw (← e, h) (sym (and-false (is_flagged s f at)))
-
-pub ruleset counts-laws = (counts-flag, counts-other)
 
 -- a command of the name has the name's number
 other-number : (s p : Str) (b : ℕ) (n : Str) (at : ℕ) → eqb (hash_at s p at) (hash_of n) ≡ false → is_named s p b n at ≡ false
@@ -263,31 +195,16 @@ pub record Filling (s p : Str) (before x : List ℕ) (at : ℕ) : Type 0 where
   pub left : onto (declaring s) (commands_at s at) places ≡ declared_places s
   pub chained : Chained x (hash_at s p) at places
 
--- no number leads anywhere below i
-pub record HeadlessTo (before x : List ℕ) (i : ℕ) : Type 0 where
-  pub same_length : length x ≡ length before
-  pub below : (h : ℕ) → h < i → get_or x h 0 ≡ 0
-
-pub headless-start : (x : List ℕ) → HeadlessTo x x 0
-headless-start x = record { same_length = refl; below = λ h l. absurd (omega arith) }
-
-module _ (before x : List ℕ) (i : ℕ) (c : HeadlessTo before x i) where
-  pub headless-length : 256 ≤ length before → 256 ≤ length x
-  headless-length h = let e = c.same_length in omega arith
-
-  pub headless-on : i < 256 → 256 ≤ length before → HeadlessTo before (set x i 0) (i + 1)
-  headless-on h r = record { same_length = length-set x i 0 ∙ c.same_length; below = λ q l. go q l (eqb q i) refl }
-    where
-      go : (q : ℕ) → q < i + 1 → (b : Bool) → eqb q i ≡ b → get_or (set x i 0) q 0 ≡ 0
-      go q l true e = subst (λ (z : ℕ). get_or (set x i 0) z 0 ≡ 0) (sym (eqb-true q i e)) (get_or-set_same x i 0 0 (let k = c.same_length in omega arith))
-      go q l false e =
-          let ne = eqb-false q i e in
-          get_or-set_other x i q 0 0 ne ∙ c.below q (let z : (q ≡ i → ⊥) = ne in omega arith)
-
-  pub headless-end : 256 ≤ i → Headless before x
-  headless-end h = record { same_length = c.same_length; none = λ q l. c.below q (omega arith) }
-
-pub ruleset headless-laws = (headless-start, headless-on, headless-end)
+-- no number leads anywhere once zeros stand in the place of all of them
+pub headless_filled : (x zeros : List ℕ) (n : ℕ) → n ≡ 256 → 256 ≤ length x → zeros ≡ replicate n 0 → Headless x (zeros ++ drop 256 x)
+headless_filled x zeros n m h e =
+    let z : length zeros ≡ n = ap length e ∙ length-replicate n 0 in
+    let d = length-drop 256 x in
+    let l = length-append zeros (drop 256 x) in
+    record {
+      same_length = omega arith;
+      none = λ q l. get_or-append zeros (drop 256 x) 0 q (omega arith) ∙ ap (λ (y : List ℕ). get_or y q 0) e ∙ get_or-replicate n q 0 0 (omega arith);
+    }
 
 module _ (s p : Str) (before x : List ℕ) where
   pub fill_start : Headless before x → IndexRoom s before → Filling s p x x 0
@@ -364,9 +281,6 @@ pub hash-small : (u : Str) (h : ℕ) → h ≡ hash_of u → h < 256
 hash-small u h e = subst (λ (z : ℕ). z < 256) (sym e) (hash-below u)
 
 -- along the places of one number -------------------------------------------------------------------------------------------
-
-pub link-past : (x : List ℕ) (i : ℕ) → length x ≤ i → 0 ≡ get_or x i 0
-link-past x i h = sym (get_or-eq_default x 0 {n = i} h)
 
 module _ (x : List ℕ) (at : ℕ) (e : ℕ) (i : e ≡ get_or x (256 + at / 7) 0) where
   pub link-none : at < e → 0 ≡ link_before x at
@@ -563,7 +477,7 @@ pub ruleset looking-laws = (looking-start, looking-end, looking-hit, looking-mis
 
 -- what is found in the index is the first of its list ------------------------------------------------------------------------
 
-after_is : (s : Str) (at : ℕ) (c : Command) (k : Cursor) → step_at s at ≡ Next c k → after_at s at ≡ k.at
+after_is : (s : Str) (at : ℕ) (c : Command) (k : Cursor) → step_at s at ≡ Some (c, k) → after_at s at ≡ k.at
 unfolding after_at
 after_is s at c k e = rw (after_at, e)
 
@@ -577,11 +491,11 @@ onto-split t d (q ∷ l) r f = go (λ m. onto-split t d l m f) (d q)
     go ih false = ih r
 
 module _ {A : Type 0} (s p n : Str) (b : ℕ) (d : declares b ≡ true) (f : ℕ → List ℕ → A) (own : A → Bool) (named : (at : ℕ) (rest : List ℕ) → own (f at rest) ≡ eqs (declared_name s p at) n)
-    (placed : Sought → Option A) (nowhere : placed Nowhere ≡ none) (there : (a k : ℕ) → placed (At a k) ≡ some (f a (commands_at s k))) where
+    (placed : Option (ℕ × ℕ) → Option A) (nowhere : placed None ≡ None) (there : (a k : ℕ) → placed (Some (a, k)) ≡ Some (f a (commands_at s k))) where
   hit : ℕ → ℕ
   hit at = hit_in (is_named s p b n) (onto (declaring s) (commands_at s at) []) 0
 
-  module _ (at : ℕ) (c : Command) (k : Cursor) (e : step_at s at ≡ Next c k) where
+  module _ (at : ℕ) (c : Command) (k : Cursor) (e : step_at s at ≡ Some (c, k)) where
     hit-next : hit at ≡ cond (declaring s at) (cond (is_named s p b n at) (suc at) (hit k.at)) (hit k.at)
     unfolding hit onto hit_in
     hit-next =
@@ -614,11 +528,11 @@ module _ {A : Type 0} (s p n : Str) (b : ℕ) (d : declares b ≡ true) (f : ℕ
   Finds : ℕ → Type 0
   Finds at = find own (listed s anything b f (commands_at s at)) ≡ placed (sought_at s (hit at))
 
-  finds-stop : (at : ℕ) → step_at s at ≡ Stop → Finds at
+  finds-stop : (at : ℕ) → step_at s at ≡ None → Finds at
   unfolding Finds hit onto hit_in sought_at
   finds-stop at e = find_none own _ (listed-stop s anything b f at e) ∙ rw (commands-stop s at e) (sym nowhere)
 
-  finds-next : (at : ℕ) (c : Command) (k : Cursor) → step_at s at ≡ Next c k → Finds k.at → Finds at
+  finds-next : (at : ℕ) (c : Command) (k : Cursor) → step_at s at ≡ Some (c, k) → Finds k.at → Finds at
   unfolding Finds sought_at
   finds-next at c k e ih = go (eqb (byte_of c) b) refl
     where
@@ -670,19 +584,19 @@ first-number s p n b q e = go (eqb (get_or s q 0) b) refl (hit-passes (is_named 
     go false h z = absurd (false≢true z)
 
 module _ (s p : Str) (x : List ℕ) (b : ℕ) (n : Str) (found : ℕ) (g : FirstNamed s p x b n found) where
-  placed_at : (r : Sought) → r ≡ sought_at s found → Declared s p x b n r
+  placed_at : (r : Option (ℕ × ℕ)) → r ≡ sought_at s found → Declared s p x b n r
   placed_at r e = record { named = λ i. subst (PlaceNamed s p n b) (sym (there i)) (first-placed s p n b); first = there }
     where
       there : Indexed s p x → r ≡ sought_at s (first_place s p b n)
       there i = e ∙ ap (sought_at s) (g.first i)
 
-  pub declared-none : found ≡ 0 → Declared s p x b n Nowhere
+  pub declared-none : found ≡ 0 → Declared s p x b n None
   unfolding sought_at
-  declared-none z = placed_at Nowhere (rw z)
+  declared-none z = placed_at None (rw z)
 
-  pub declared-at : (found ≡ 0 → ⊥) → (at to : ℕ) → at ≡ found - 1 → to ≡ after_at s at → Declared s p x b n (At at to)
+  pub declared-at : (found ≡ 0 → ⊥) → (at to : ℕ) → at ≡ found - 1 → to ≡ after_at s at → Declared s p x b n (Some (at, to))
   unfolding sought_at
-  declared-at z at to e f = placed_at (At at to) (rw (let k : found ≡ suc at = omega arith in k, f))
+  declared-at z at to e f = placed_at (Some (at, to)) (rw (let k : found ≡ suc at = omega arith in k, f))
 
 pub ruleset declared-laws = (declared-none, declared-at)
 
@@ -694,7 +608,7 @@ counts-not s p b f n at h = rw (ne_eqb (get_or s at 0) b h) (and-false (is_flagg
 
 module _ {A : Type 0} (s p n : Str) (b fl : ℕ) (d : declares b ≡ true) (f : ℕ → List ℕ → A) (own : A → Bool)
     (counted : (at : ℕ) (rest : List ℕ) → get_or s at 0 ≡ b → own (f at rest) ≡ counts s p b fl n at)
-    (placed : Sought → Option A) (nowhere : placed Nowhere ≡ none) (there : (a k : ℕ) → placed (At a k) ≡ some (f a (commands_at s k))) where
+    (placed : Option (ℕ × ℕ) → Option A) (nowhere : placed None ≡ None) (there : (a k : ℕ) → placed (Some (a, k)) ≡ Some (f a (commands_at s k))) where
   -- the first of some places that counts
   seen : List ℕ → Option A
   seen l = placed (sought_at s (first_in (counts s p b fl n) l))
@@ -703,11 +617,11 @@ module _ {A : Type 0} (s p n : Str) (b fl : ℕ) (d : declares b ≡ true) (f : 
   Lasts : ℕ → Type 0
   Lasts at = (l : List ℕ) → last_or (seen l) own (listed s anything b f (commands_at s at)) ≡ seen (onto (declaring s) (commands_at s at) l)
 
-  lasts-stop : (at : ℕ) → step_at s at ≡ Stop → Lasts at
+  lasts-stop : (at : ℕ) → step_at s at ≡ None → Lasts at
   unfolding Lasts last_or onto
   lasts-stop at e l = rw (listed-stop s anything b f at e, commands-stop s at e)
 
-  module _ (at : ℕ) (c : Command) (k : Cursor) (e : step_at s at ≡ Next c k) (ih : Lasts k.at) (l : List ℕ) where
+  module _ (at : ℕ) (c : Command) (k : Cursor) (e : step_at s at ≡ Some (c, k)) (ih : Lasts k.at) (l : List ℕ) where
     seen-on : List ℕ
     seen-on = cond (declaring s at) (at ∷ l) l
 
@@ -737,12 +651,12 @@ module _ {A : Type 0} (s p n : Str) (b fl : ℕ) (d : declares b ≡ true) (f : 
       number : get_or s at 0 ≡ b
       number = byte-is s at c k e ∙ is
 
-      seen_here : cond (own (f at (commands_at s k.at))) (some (f at (commands_at s k.at))) (seen l) ≡ seen seen-on
+      seen_here : cond (own (f at (commands_at s k.at))) (Some (f at (commands_at s k.at))) (seen l) ≡ seen seen-on
       unfolding seen seen-on first_in sought_at declaring
       seen_here = rw (counted at (commands_at s k.at) number, number, d) (go (counts s p b fl n at))
         where
-          go : (v : Bool) → cond v (some (f at (commands_at s k.at))) (placed (sought_at s (first_in (counts s p b fl n) l))) ≡ placed (sought_at s (cond v (suc at) (first_in (counts s p b fl n) l)))
-          go true = sym (there at k.at) ∙ ap (λ (j : ℕ). placed (At at j)) (sym (after_is s at c k e))
+          go : (v : Bool) → cond v (Some (f at (commands_at s k.at))) (placed (sought_at s (first_in (counts s p b fl n) l))) ≡ placed (sought_at s (cond v (suc at) (first_in (counts s p b fl n) l)))
+          go true = sym (there at k.at) ∙ ap (λ (j : ℕ). placed (Some (at, j))) (sym (after_is s at c k e))
           go false = refl
 
       lasts-here : last_or (seen l) own (listed s anything b f (commands_at s at)) ≡ seen (onto (declaring s) (commands_at s at) l)
@@ -752,7 +666,7 @@ module _ {A : Type 0} (s p n : Str) (b fl : ℕ) (d : declares b ≡ true) (f : 
           ∙ ap (λ (o : Option A). last_or o own (listed s anything b f (commands_at s k.at))) seen_here
           ∙ ih seen-on ∙ ap seen (sym onto-next)
 
-  lasts-next : (at : ℕ) (c : Command) (k : Cursor) → step_at s at ≡ Next c k → Lasts k.at → Lasts at
+  lasts-next : (at : ℕ) (c : Command) (k : Cursor) → step_at s at ≡ Some (c, k) → Lasts k.at → Lasts at
   unfolding Lasts
   lasts-next at c k e ih l = go (eqb (byte_of c) b) refl
     where
@@ -765,7 +679,7 @@ module _ {A : Type 0} (s p n : Str) (b fl : ℕ) (d : declares b ≡ true) (f : 
   last-in = ap (λ (o : Option A). last_or o own (listed s anything b f (commands_at s 0))) (sym nowhere) ∙ along s Lasts lasts-stop lasts-next 0 []
 
 module _ (s p : Str) (x : List ℕ) (b fl : ℕ) (n : Str) (found : ℕ) (g : LastNamed s p x b fl n found) where
-  last-placed : (r : Sought) → r ≡ sought_at s found → LastDeclared s p x b fl n r
+  last-placed : (r : Option (ℕ × ℕ)) → r ≡ sought_at s found → LastDeclared s p x b fl n r
   unfolding declared_places declared_name declares is_named is_flagged counts constants_at enums_at families_at unstored_at constants enums families unstored values_at fields_at variants_at
   last-placed r e = record {
     named = λ i. let h : r ≡ sought_at s (first_in (counts s p b fl n) (declared_places s)) = e ∙ ap (sought_at s) (g.last i) in record {
@@ -777,13 +691,13 @@ module _ (s p : Str) (x : List ℕ) (b fl : ℕ) (n : Str) (found : ℕ) (g : La
     };
   }
 
-  pub last_none : found ≡ 0 → LastDeclared s p x b fl n Nowhere
+  pub last_none : found ≡ 0 → LastDeclared s p x b fl n None
   unfolding sought_at
-  last_none z = last-placed Nowhere (rw z)
+  last_none z = last-placed None (rw z)
 
-  pub last-at : (found ≡ 0 → ⊥) → (at to : ℕ) → at ≡ found - 1 → to ≡ after_at s at → LastDeclared s p x b fl n (At at to)
+  pub last-at : (found ≡ 0 → ⊥) → (at to : ℕ) → at ≡ found - 1 → to ≡ after_at s at → LastDeclared s p x b fl n (Some (at, to))
   unfolding sought_at
-  last-at z at to e f = last-placed (At at to) (rw (let k : found ≡ suc at = omega arith in k, f))
+  last-at z at to e f = last-placed (Some (at, to)) (rw (let k : found ≡ suc at = omega arith in k, f))
 
 pub ruleset last-laws = (last_none, last-at)
 
@@ -791,39 +705,39 @@ pub ruleset last-laws = (last_none, last-at)
 
 some-last : {A : Type 0} (q : A → Bool) (o : Option A) (l : List A) → is_some (last_or o q l) ≡ is_some o || any q l
 unfolding last_or any is_some
-some-last q none [] = refl
-some-last q (some x) [] = refl
+some-last q None [] = refl
+some-last q (Some x) [] = refl
 some-last {A = A} q o (x ∷ l) = go (λ (y : Option A). some-last q y l) (q x) o
   where
-    go : ((y : Option A) → is_some (last_or y q l) ≡ is_some y || any q l) → (v : Bool) (o : Option A) → is_some (last_or (cond v (some x) o) q l) ≡ is_some o || (v || any q l)
-    go ih true none = ih (some x)
-    go ih true (some y) = ih (some x)
-    go ih false none = ih none
-    go ih false (some y) = ih (some y)
+    go : ((y : Option A) → is_some (last_or y q l) ≡ is_some y || any q l) → (v : Bool) (o : Option A) → is_some (last_or (cond v (Some x) o) q l) ≡ is_some o || (v || any q l)
+    go ih true None = ih (Some x)
+    go ih true (Some y) = ih (Some x)
+    go ih false None = ih None
+    go ih false (Some y) = ih (Some y)
 
-module _ (s p : Str) (x : List ℕ) (n : Str) (r : Sought) (g : LastDeclared s p x 9 16 n r) where
+module _ (s p : Str) (x : List ℕ) (n : Str) (r : Option (ℕ × ℕ)) (g : LastDeclared s p x 9 16 n r) where
   alone-as : Indexed s p x → any (λ (m : Family). m.standalone && eqs m.name n) (families_at s p 0) ≡ is_some (family_placed s p r)
   unfolding find_last is_some
-  alone-as i = sym (some-last (λ (m : Family). m.standalone && eqs m.name n) none (families_at s p 0)) ∙ ap is_some ((g.named i).standalone refl refl)
+  alone-as i = sym (some-last (λ (m : Family). m.standalone && eqs m.name n) None (families_at s p 0)) ∙ ap is_some ((g.named i).standalone refl refl)
 
-  pub alone-none : r ≡ Nowhere → Alone s p x n false
+  pub alone-none : r ≡ None → Alone s p x n false
   unfolding is_some
-  alone-none e = record { is = λ i. sym (alone-as i ∙ ap (λ (y : Sought). is_some (family_placed s p y)) e) }
+  alone-none e = record { is = λ i. sym (alone-as i ∙ ap (λ (y : Option (ℕ × ℕ)). is_some (family_placed s p y)) e) }
 
-  pub alone-there : (at to : ℕ) → r ≡ At at to → Alone s p x n true
+  pub alone-there : (at to : ℕ) → r ≡ Some (at, to) → Alone s p x n true
   unfolding is_some
-  alone-there at to e = record { is = λ i. sym (alone-as i ∙ ap (λ (y : Sought). is_some (family_placed s p y)) e) }
+  alone-there at to e = record { is = λ i. sym (alone-as i ∙ ap (λ (y : Option (ℕ × ℕ)). is_some (family_placed s p y)) e) }
 
 pub ruleset alone-laws = (alone-none, alone-there)
 
 -- without an index -------------------------------------------------------------------------------------------------------
 
-module _ {A : Type 0} (s p n : Str) (b : ℕ) (f : ℕ → List ℕ → A) (own : A → Bool) (named : (at : ℕ) (rest : List ℕ) → own (f at rest) ≡ eqs (declared_name s p at) n) (at : ℕ) (r : Sought) (i : SoughtFrom s Anything b at r) where
-  scan-none : r ≡ Nowhere → find own (listed s anything b f (commands_at s at)) ≡ none
+module _ {A : Type 0} (s p n : Str) (b : ℕ) (f : ℕ → List ℕ → A) (own : A → Bool) (named : (at : ℕ) (rest : List ℕ) → own (f at rest) ≡ eqs (declared_name s p at) n) (at : ℕ) (r : Option (ℕ × ℕ)) (i : SoughtFrom s Anything b at r) where
+  scan-none : r ≡ None → find own (listed s anything b f (commands_at s at)) ≡ None
   scan-none m = find_none own _ (listed-none s Anything b f at r i m)
 
-  module _ (a k : ℕ) (m : r ≡ At a k) where
-    scan-some : eqs (declared_name s p a) n ≡ true → find own (listed s anything b f (commands_at s at)) ≡ some (f a (commands_at s k))
+  module _ (a k : ℕ) (m : r ≡ Some (a, k)) where
+    scan-some : eqs (declared_name s p a) n ≡ true → find own (listed s anything b f (commands_at s at)) ≡ Some (f a (commands_at s k))
     scan-some h = find-hit own _ (f a (commands_at s k)) _ (listed-some s Anything b f at r i a k m) (named a _ ∙ h)
 
     scan-over : eqs (declared_name s p a) n ≡ false → find own (listed s anything b f (commands_at s at)) ≡ find own (listed s anything b f (commands_at s k))
@@ -841,11 +755,11 @@ pub record Scanned (s p n : Str) (b at : ℕ) : Type 0 where
 pub scanned-start : (s p n : Str) (b : ℕ) → Scanned s p n b 0
 scanned-start s p n b = record { constant = λ q. refl; alias = λ q. refl; enum = λ q. refl; bitfield = λ q. refl; struct = λ q. refl; family = λ q. refl }
 
-module _ (s p n : Str) (b at : ℕ) (g : Scanned s p n b at) (r : Sought) (i : SoughtFrom s Anything b at r) where
+module _ (s p n : Str) (b at : ℕ) (g : Scanned s p n b at) (r : Option (ℕ × ℕ)) (i : SoughtFrom s Anything b at r) where
   numbered : (k : ℕ) → b ≡ k → SoughtFrom s Anything k at r
   numbered k q = subst (λ (x : ℕ). SoughtFrom s Anything x at r) q i
 
-  pub scanned-none : r ≡ Nowhere → PlaceNamed s p n b Nowhere
+  pub scanned-none : r ≡ None → PlaceNamed s p n b None
   unfolding declared_name constant_in alias_in enum_in bitfield_in struct_in family_in constants_at aliases_at enums_at bitfields_at structs_at families_at constants aliases enums bitfields structs families values_at members_at fields_at variants_at
   scanned-none m = record {
     constant = λ q. g.constant q ∙ scan-none s p n 2 _ _ (λ at rest. refl) at r (numbered 2 q) m;
@@ -856,11 +770,11 @@ module _ (s p n : Str) (b at : ℕ) (g : Scanned s p n b at) (r : Sought) (i : S
     family = λ q. g.family q ∙ scan-none s p n 9 _ _ (λ at rest. refl) at r (numbered 9 q) m;
   }
 
-  module _ (a k : ℕ) (m : r ≡ At a k) (y : Str) (v : Bool) (d : y ≡ declared_name s p a) (e : v ≡ eqs y n) where
+  module _ (a k : ℕ) (m : r ≡ Some (a, k)) (y : Str) (v : Bool) (d : y ≡ declared_name s p a) (e : v ≡ eqs y n) where
     is : eqs (declared_name s p a) n ≡ v
     is = sym (e ∙ ap (λ (z : Str). eqs z n) d)
 
-    pub scanned-hit : v ≡ true → PlaceNamed s p n b (At a k)
+    pub scanned-hit : v ≡ true → PlaceNamed s p n b (Some (a, k))
     unfolding declared_name constant_in alias_in enum_in bitfield_in struct_in family_in constants_at aliases_at enums_at bitfields_at structs_at families_at constants aliases enums bitfields structs families values_at members_at fields_at variants_at
     scanned-hit h = record {
       constant = λ q. g.constant q ∙ scan-some s p n 2 _ _ (λ at rest. refl) at r (numbered 2 q) a k m (is ∙ h);
@@ -884,7 +798,7 @@ module _ (s p n : Str) (b at : ℕ) (g : Scanned s p n b at) (r : Sought) (i : S
 
 pub ruleset scanned-laws = (scanned-none, scanned-hit, scanned-on)
 
-module _ (s p : Str) (x : List ℕ) (b : ℕ) (n : Str) (r : Sought) where
+module _ (s p : Str) (x : List ℕ) (b : ℕ) (n : Str) (r : Option (ℕ × ℕ)) where
   pub looked-all : length x ≡ 0 → PlaceNamed s p n b r → Looked s p x b n r
   looked-all z g = record { named = λ f. g }
 

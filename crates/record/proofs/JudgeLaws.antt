@@ -1,22 +1,19 @@
 -- The cases of the judgement of one command, as the code's branches need them. Assumes nothing.
+use Rattle.std.specs.Prelude.{Option, Some, None, Result, Ok, Err}
 use Prim.Native.Nat.{ℕ, ◌+◌, ◌-◌, ◌≤◌, ◌<◌}
 use mathlib.Core.List.{[], ◌∷◌}
-use mathlib.Core.Option.{Option, none, some}
 use mathlib.Core.Bool.{Bool, true, false, not, cond}
 use mathlib.Core.Path.{◌≡◌, refl, sym, ap, ◌∙◌}
 use native.Mathlib.Omega.{arith}
 use lib.ListN.{length, take, drop, get_or, length-drop}
 use lib.Seq.{take_all}
 use lib.Dec.{eqb, ltb}
-use borrow.Author.Tests.{eq-eqb, ne_eqb, lt-ltb, le-ltb, le-leb, lt-leb, not-true, not-false}
-use Rattle.texts.specs.Utf8.{no_tail}
+use borrow.Author.Tests.{eq-eqb, ne_eqb, lt-ltb, le-ltb}
 use Rattle.record.specs.Base.{Str}
 use Rattle.record.specs.Operands.{text_at, flag_at, opt_text}
 use Rattle.record.specs.Commands.{operands, wide, width_with, width_of, command_of}
-use Rattle.record.specs.Judge.{worse_of, if_absent, text_fault, flag_fault, operand_fault, faults_from, faults_of, follows, may_stand, row_of, row_at, parent_after, ready, faulted, judged_with, judged_as, judged_at}
+use Rattle.record.specs.Judge.{worse_of, if_absent, text_fault, flag_fault, operand_fault, faults_from, faults_of, may_stand, row_of, row_at, parent_after, ready, faulted, judged_with, judged_as, judged_at}
 use Rattle.record.specs.declared.text.Text.{Text}
-use Rattle.record.specs.declared.operands.OptText.{OptText}
-use Rattle.record.specs.declared.operands.OptText.TheVariants.{Absent, Given}
 use Rattle.record.specs.declared.command.Parent.{Parent}
 use Rattle.record.specs.declared.command.Parent.TheVariants.{NoParent, InStruct, InFamily}
 use Rattle.record.specs.declared.command.Cursor.{Cursor}
@@ -27,9 +24,8 @@ use Rattle.record.specs.declared.refusal.Refusal.TheVariants as R
 use Rattle.record.specs.declared.judge.Fault.{Fault}
 use Rattle.record.specs.declared.judge.Fault.TheVariants.{Fine, Outside, Missing, Flag}
 use Rattle.record.specs.declared.judge.Row.{Row}
-use Rattle.record.specs.declared.judge.Judged.{Judged}
-use Rattle.record.specs.declared.judge.Judged.TheVariants.{Next, Done, Refused}
 use Rattle.record.proofs.CommandLaws.{opt-read, none-operands, none-width}
+use Rattle.record.specs.Judge.{Judged}
 
 -- an absent text, by the operand's letter
 module _ (side : Side) (x : Str) (o : ℕ) where
@@ -58,24 +54,6 @@ module _ (side : Side) (x : Str) (o : ℕ) where
   absent-plain a b c = rw (ne_eqb o 79 a, ne_eqb o 33 b, ne_eqb o 63 c)
 
 pub ruleset absent-laws = (absent-optional, absent-current, absent-released, absent-words, absent-unused, absent-plain)
-
-module _ (pool : Str) (a : Fault) (x : OptText) where
-  pub text-absent : x ≡ Absent → a ≡ text_fault pool a x
-  text-absent e = rw e
-
-  pub text-outside : (t : Text) → x ≡ Given t → length pool < t.start + t.len → Outside ≡ text_fault pool a x
-  text-outside t e h = rw (e, lt-leb (t.start + t.len) (length pool) h)
-
-  pub text-begins : (t : Text) (b : Bool) → x ≡ Given t → t.start + t.len ≤ length pool → b ≡ no_tail pool t.start → not b ≡ true → Outside ≡ text_fault pool a x
-  text-begins t b e h f g = rw (e, le-leb (t.start + t.len) (length pool) h, ← f, not-true b g)
-
-  pub text-ends : (t : Text) (b c : Bool) → x ≡ Given t → t.start + t.len ≤ length pool → b ≡ no_tail pool t.start → not b ≡ false → c ≡ no_tail pool (t.start + t.len) → not c ≡ true → Outside ≡ text_fault pool a x
-  text-ends t b c e h f g k l = rw (e, le-leb (t.start + t.len) (length pool) h, ← f, not-false b g, ← k, not-true c l)
-
-  pub text-inside : (t : Text) (b c : Bool) → x ≡ Given t → t.start + t.len ≤ length pool → b ≡ no_tail pool t.start → not b ≡ false → c ≡ no_tail pool (t.start + t.len) → not c ≡ false → Fine ≡ text_fault pool a x
-  text-inside t b c e h f g k l = rw (e, le-leb (t.start + t.len) (length pool) h, ← f, not-false b g, ← k, not-false c l)
-
-pub ruleset text-fault-laws = (text-absent, text-outside, text-begins, text-ends, text-inside)
 
 pub flag-low : (b : ℕ) → b < 2 → Fine ≡ flag_fault b
 unfolding flag_fault
@@ -119,7 +97,7 @@ module _ (side : Side) (pool : Str) (x : Str) (i o : ℕ) where
   unfolding operand_fault
   operand-eight e = rw e
 
-  pub operand-text : (a : Fault) (w : Text) (t : OptText) (r : Fault) → (o ≡ 70 → ⊥) → (o ≡ 78 → ⊥) → (o ≡ 87 → ⊥) → (o ≡ 86 → ⊥) → a ≡ if_absent side x o → w ≡ text_at x i → t ≡ opt_text w → r ≡ text_fault pool a t → r ≡ operand_fault side pool x i o
+  pub operand-text : (a : Fault) (w : Text) (t : Option Text) (r : Fault) → (o ≡ 70 → ⊥) → (o ≡ 78 → ⊥) → (o ≡ 87 → ⊥) → (o ≡ 86 → ⊥) → a ≡ if_absent side x o → w ≡ text_at x i → t ≡ opt_text w → r ≡ text_fault pool a t → r ≡ operand_fault side pool x i o
   unfolding operand_fault
   operand-text a w t r f m w4 v e k h g = rw (ne_eqb o 70 f, ne_eqb o 78 m, ne_eqb o 87 w4, ne_eqb o 86 v, ← e, ← opt-read x i w t k h) g
 
@@ -161,18 +139,6 @@ command-there k w b n e h l = let q : width_of b ≡ w = ap width_of h ∙ e in 
 pub faults-unknown : (side : Side) (pool : Str) (x : Str) (b : ℕ) → (b ≡ 1 → ⊥) → (b ≡ 2 → ⊥) → (b ≡ 3 → ⊥) → (b ≡ 4 → ⊥) → (b ≡ 5 → ⊥) → (b ≡ 6 → ⊥) → (b ≡ 7 → ⊥) → (b ≡ 8 → ⊥) → (b ≡ 9 → ⊥) → (b ≡ 10 → ⊥) → (b ≡ 11 → ⊥) → (b ≡ 12 → ⊥) → (b ≡ 13 → ⊥) → (b ≡ 14 → ⊥) → (b ≡ 15 → ⊥) → Fine ≡ faults_of side pool x (operands b)
 unfolding faults_of
 faults-unknown side pool x b h1 h2 h3 h4 h5 h6 h7 h8 h9 h10 h11 h12 h13 h14 h15 = rw (none-operands b h1 h2 h3 h4 h5 h6 h7 h8 h9 h10 h11 h12 h13 h14 h15)
-
--- the rules of place
-module _ (c : Cursor) (a b : ℕ) where
-  pub follows-first : c.last ≡ a → true ≡ follows c a b
-  unfolding follows
-  follows-first e = rw (eq-eqb c.last a e)
-
-  pub follows-second : (c.last ≡ a → ⊥) → eqb c.last b ≡ follows c a b
-  unfolding follows
-  follows-second e = rw (ne_eqb c.last a e)
-
-pub ruleset follows-laws = (follows-first, follows-second)
 
 -- the row of a number
 module _ (c : Cursor) (b : ℕ) where
@@ -217,15 +183,15 @@ pub ruleset parent-laws = (after-struct, after-family, after-variant, after-fiel
 
 -- a command without fault
 module _ (s : Str) (c : Cursor) (b w : ℕ) where
-  pub ready-done : b ≡ 15 → c.at + w ≡ length s → Done ≡ ready s c b w
+  pub ready-done : b ≡ 15 → c.at + w ≡ length s → Ok None ≡ ready s c b w
   unfolding ready
   ready-done e h = rw (e, eq-eqb (c.at + w) (length s) h)
 
-  pub ready-more : b ≡ 15 → (c.at + w ≡ length s → ⊥) → Refused R.Misplaced (c.at + w) ≡ ready s c b w
+  pub ready-more : b ≡ 15 → (c.at + w ≡ length s → ⊥) → Err (R.Misplaced, c.at + w) ≡ ready s c b w
   unfolding ready
   ready-more e h = rw (e, ne_eqb (c.at + w) (length s) h)
 
-  pub ready-next : (d : Command) (p : Parent) → (b ≡ 15 → ⊥) → d ≡ command_of b (take (length s - c.at) (drop c.at s)) → p ≡ parent_after c.parent b → Next d (record { at = c.at + w; last = b; parent = p }) ≡ ready s c b w
+  pub ready-next : (d : Command) (p : Parent) → (b ≡ 15 → ⊥) → d ≡ command_of b (take (length s - c.at) (drop c.at s)) → p ≡ parent_after c.parent b → Ok (Some (d, record { at = c.at + w; last = b; parent = p })) ≡ ready s c b w
   unfolding ready
   ready-next d p e h g = rw (ne_eqb b 15 e, h, g, take_all (length s - c.at) (drop c.at s) (rw length-drop (omega arith)))
 
@@ -236,13 +202,13 @@ module _ (side : Side) (s : Str) (pool : Str) (c : Cursor) (b w : ℕ) (f : Faul
   fault-is : faults_of side pool (drop c.at s) (operands b) ≡ f
   fault-is = ap (λ (y : Str). faults_of side pool y (operands b)) (sym (take_all (length s - c.at) (drop c.at s) (rw length-drop (omega arith)))) ∙ sym e
 
-  pub fault-outside : f ≡ Outside → Refused R.Outside c.at ≡ faulted c.at (ready s c b w) (faults_of side pool (drop c.at s) (operands b))
+  pub fault-outside : f ≡ Outside → Err (R.Outside, c.at) ≡ faulted c.at (ready s c b w) (faults_of side pool (drop c.at s) (operands b))
   fault-outside g = rw (fault-is, g)
 
-  pub fault-missing : f ≡ Missing → Refused R.Missing c.at ≡ faulted c.at (ready s c b w) (faults_of side pool (drop c.at s) (operands b))
+  pub fault-missing : f ≡ Missing → Err (R.Missing, c.at) ≡ faulted c.at (ready s c b w) (faults_of side pool (drop c.at s) (operands b))
   fault-missing g = rw (fault-is, g)
 
-  pub fault-flag : f ≡ Flag → Refused R.Flag c.at ≡ faulted c.at (ready s c b w) (faults_of side pool (drop c.at s) (operands b))
+  pub fault-flag : f ≡ Flag → Err (R.Flag, c.at) ≡ faulted c.at (ready s c b w) (faults_of side pool (drop c.at s) (operands b))
   fault-flag g = rw (fault-is, g)
 
   pub fault-none : (r : Judged) → f ≡ Fine → r ≡ ready s c b w → r ≡ faulted c.at (ready s c b w) (faults_of side pool (drop c.at s) (operands b))
@@ -252,38 +218,38 @@ pub ruleset fault-laws = (fault-outside, fault-missing, fault-flag, fault-none)
 
 -- the judgement by the command's row
 module _ (side : Side) (s : Str) (pool : Str) (c : Cursor) where
-  pub judged-past : length s ≤ c.at → Refused R.Cut c.at ≡ judged_at side s pool c
+  pub judged-past : length s ≤ c.at → Err (R.Cut, c.at) ≡ judged_at side s pool c
   unfolding judged_at
   judged-past h = rw (le-ltb c.at (length s) h)
 
-  by-operands : (o : Option Str) → (width_with o ≡ 0 → ⊥) → judged_as side s pool c (get_or s c.at 0) o ≡ cond (ltb (length s - c.at) (width_with o)) (Refused R.Cut c.at) (cond (may_stand c (get_or s c.at 0)) (faulted c.at (ready s c (get_or s c.at 0) (width_with o)) (faults_of side pool (drop c.at s) o)) (Refused R.Misplaced c.at))
+  by-operands : (o : Option Str) → (width_with o ≡ 0 → ⊥) → judged_as side s pool c (get_or s c.at 0) o ≡ cond (ltb (length s - c.at) (width_with o)) (Err (R.Cut, c.at)) (cond (may_stand c (get_or s c.at 0)) (faulted c.at (ready s c (get_or s c.at 0) (width_with o)) (faults_of side pool (drop c.at s) o)) (Err (R.Misplaced, c.at)))
   unfolding judged_with width_with faults_of
-  by-operands none z = absurd (z refl)
-  by-operands (some os) z = refl
+  by-operands None z = absurd (z refl)
+  by-operands (Some os) z = refl
 
-  no-operands : (o : Option Str) → width_with o ≡ 0 → judged_as side s pool c (get_or s c.at 0) o ≡ Refused R.Unknown c.at
+  no-operands : (o : Option Str) → width_with o ≡ 0 → judged_as side s pool c (get_or s c.at 0) o ≡ Err (R.Unknown, c.at)
   unfolding width_with
-  no-operands none z = refl
-  no-operands (some os) z = absurd (omega (arith, z))
+  no-operands None z = refl
+  no-operands (Some os) z = absurd (omega (arith, z))
 
   module _ (h : c.at < length s) (q : Row) (e : q ≡ row_at c (get_or s c.at 0)) where
     width_is : q.width ≡ width_with (operands (get_or s c.at 0))
     unfolding width_of
     width_is = row-width c (get_or s c.at 0) q e
 
-    pub judged-unknown : q.width ≡ 0 → Refused R.Unknown c.at ≡ judged_at side s pool c
+    pub judged-unknown : q.width ≡ 0 → Err (R.Unknown, c.at) ≡ judged_at side s pool c
     unfolding judged_at
     judged-unknown z = rw (lt-ltb c.at (length s) h) (sym (no-operands (operands (get_or s c.at 0)) (sym width_is ∙ z)))
 
     module _ (z : q.width ≡ 0 → ⊥) where
-      by_row : judged_at side s pool c ≡ cond (ltb (length s - c.at) q.width) (Refused R.Cut c.at) (cond q.stands (faulted c.at (ready s c (get_or s c.at 0) q.width) (faults_of side pool (drop c.at s) (operands (get_or s c.at 0)))) (Refused R.Misplaced c.at))
+      by_row : judged_at side s pool c ≡ cond (ltb (length s - c.at) q.width) (Err (R.Cut, c.at)) (cond q.stands (faulted c.at (ready s c (get_or s c.at 0) q.width) (faults_of side pool (drop c.at s) (operands (get_or s c.at 0)))) (Err (R.Misplaced, c.at)))
       unfolding row_at judged_at
       by_row = rw (lt-ltb c.at (length s) h, ap (λ (r : Row). r.stands) e, width_is) (by-operands (operands (get_or s c.at 0)) (λ y. z (width_is ∙ y)))
 
-      pub judged-cut : length s - c.at < q.width → Refused R.Cut c.at ≡ judged_at side s pool c
+      pub judged-cut : length s - c.at < q.width → Err (R.Cut, c.at) ≡ judged_at side s pool c
       judged-cut l = rw (by_row, lt-ltb (length s - c.at) q.width l)
 
-      pub judged-misplaced : q.width ≤ length s - c.at → q.stands ≡ false → Refused R.Misplaced c.at ≡ judged_at side s pool c
+      pub judged-misplaced : q.width ≤ length s - c.at → q.stands ≡ false → Err (R.Misplaced, c.at) ≡ judged_at side s pool c
       judged-misplaced l t = rw (by_row, le-ltb (length s - c.at) q.width l, t)
 
       pub judged-standing : (r : Judged) → q.width ≤ length s - c.at → q.stands ≡ true

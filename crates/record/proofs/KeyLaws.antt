@@ -1,4 +1,5 @@
 -- The steps of the walk over the plugin keys, as the code's branches need them. Assumes nothing.
+use Rattle.std.specs.Prelude.{Option, Some, None}
 use mathlib.Core.Path.{◌≡◌, refl, sym, ap, subst, ◌∙◌}
 use mathlib.Core.List.{List, ◌∷◌}
 use mathlib.Core.Bool.{Bool, true, false}
@@ -16,17 +17,7 @@ use Rattle.record.specs.Steps.{keys_at, KeysFrom, structs_at, StructsFrom, unsto
 use Rattle.record.specs.declared.command as D
 use Rattle.record.specs.declared.command.Cursor.{Cursor}
 use Rattle.record.specs.declared.command.Command.{Command}
-use Rattle.record.specs.declared.command.Step.TheVariants.{Next, Stop}
-use Rattle.record.specs.declared.lists.KeyStep.{KeyStep}
-use Rattle.record.specs.declared.lists.KeyStep.TheVariants.{NoKey, AKey}
 use Rattle.record.specs.declared.seek.Between.TheVariants as Between
-use Rattle.record.specs.declared.seek.Sought.{Sought}
-use Rattle.record.specs.declared.seek.Sought.TheVariants.{Nowhere, At}
-use Rattle.record.specs.declared.lists.FieldStep.TheVariants.{NoField, AField}
-use Rattle.record.specs.declared.lists.StructStep.{StructStep}
-use Rattle.record.specs.declared.lists.StructStep.TheVariants.{NoStruct, AStruct}
-use Rattle.record.specs.declared.lists.UnstoredStep.{UnstoredStep}
-use Rattle.record.specs.declared.lists.UnstoredStep.TheVariants.{NoUnstored, AnUnstored}
 use Rattle.record.proofs.Stream.{step-found, along}
 use Rattle.record.proofs.ListLaws.{byte_of, byte-is, listed-stop, listed_here, listed-over, listed-end}
 use Rattle.record.proofs.SeekLaws.{sought-stands}
@@ -35,13 +26,10 @@ use Rattle.record.specs.declared.keys.KeysAt.{KeysAt}
 use Rattle.record.specs.declared.keys.KeysAt.TheVariants.{Stored, Unstored}
 use Rattle.record.specs.declared.keys.StoredAt.{StoredAt}
 use Rattle.record.specs.declared.keys.StoredAt.TheVariants.{Structs, Fields}
-use Rattle.record.specs.declared.keys.StoredStep.{StoredStep}
-use Rattle.record.specs.declared.keys.StoredStep.TheVariants.{NoStored, AStored}
 use Rattle.record.specs.declared.keys.FieldKey.{FieldKey}
 use Rattle.record.specs.declared.keys.FieldKey.TheVariants.{Ended, Keyed}
-use Rattle.record.specs.declared.keys.PluginKeyStep.{PluginKeyStep}
-use Rattle.record.specs.declared.keys.PluginKeyStep.TheVariants.{NoPluginKey, APluginKey}
 use Rattle.record.specs.Keys.{field_keys, plugin_keys, stored_from, stored_of, keys_from, AllStored, AllKeys, StoredFrom, PluginKeysFrom, field_keys_of, EndsAhead, InFields}
+use Rattle.record.specs.Commands.{Step}
 
 -- fields ------------------------------------------------------------------------------------------------------------------
 
@@ -50,11 +38,11 @@ module _ {A : Type 0} (s : Str) (f : ℕ → List ℕ → A) where
   Past : ℕ → Type 0
   Past at = (a : ℕ) (l : List ℕ) → places_of s Between.Keys 11 at ≡ a ∷ l → listed s anything 8 f (commands_at s at) ≡ listed s anything 8 f (commands_at s (a + width_of 11))
 
-  past_stop : (at : ℕ) → step_at s at ≡ Stop → Past at
+  past_stop : (at : ℕ) → step_at s at ≡ None → Past at
   unfolding Past places_of
   past_stop at e a l q = let z : 0 ≡ suc (length l) = ap length (sym (listed-stop s a_key 11 (λ at rest. at) at e) ∙ q) in absurd (omega arith)
 
-  past_next : (at : ℕ) (c : Command) (k : Cursor) → step_at s at ≡ Next c k → Past k.at → Past at
+  past_next : (at : ℕ) (c : Command) (k : Cursor) → step_at s at ≡ Some (c, k) → Past k.at → Past at
   unfolding Past places_of
   past_next at c k e ih a l q = go (eqb (byte_of c) 11) (eqb (byte_of c) 12) refl refl
     where
@@ -73,7 +61,7 @@ module _ {A : Type 0} (s : Str) (f : ℕ → List ℕ → A) where
   past : (at : ℕ) → Past at
   past = along s Past past_stop past_next
 
-structs-past : (s p : Str) (at : ℕ) (r : Sought) → SoughtFrom s Between.Keys 11 at r → (a k : ℕ) → r ≡ At a k → structs_at s p at ≡ structs_at s p k
+structs-past : (s p : Str) (at : ℕ) (r : Option (ℕ × ℕ)) → SoughtFrom s Between.Keys 11 at r → (a k : ℕ) → r ≡ Some (a, k) → structs_at s p at ≡ structs_at s p k
 unfolding structs_at structs Past
 structs-past s p at r i a k m =
     past s _ at a (places_of s Between.Keys 11 k) (i.list ∙ ap (places_left s Between.Keys 11) m)
@@ -87,15 +75,15 @@ pub record Keyless (s : Str) (a b : ℕ) : Type 0 where
 pub keyless-here : (s : Str) (a : ℕ) → Keyless s a a
 keyless-here s a = record { same = λ p l. refl; ahead = omega arith }
 
-module _ (s : Str) (a at : ℕ) (o : Keyless s a at) (r : Sought) (f : SoughtFrom s Between.Keys 11 at r) where
-  pub fields-ended : (c : Cursor) → r ≡ Nowhere → c ≡ place at → InFields s a (Ended c)
+module _ (s : Str) (a at : ℕ) (o : Keyless s a at) (r : Option (ℕ × ℕ)) (f : SoughtFrom s Between.Keys 11 at r) where
+  pub fields-ended : (c : Cursor) → r ≡ None → c ≡ place at → InFields s a (Ended c)
   unfolding stored_from field_keys
   fields-ended c m h = record {
-    list = λ p l. o.same p l ∙ rw (fields-over-now s at NoField (fields-none s at r f m) p refl, h);
+    list = λ p l. o.same p l ∙ rw (fields-over-now s at None (fields-none s at r f m) p refl, h);
     ahead = let i = o.ahead in let j : c.at ≡ at = ap (λ (x : Cursor). x.at) h in omega arith;
   }
 
-  module _ (b k : ℕ) (m : r ≡ At b k) (c : Cursor) (h : c ≡ place k) (q : KeyStep) (g : KeysFrom s c.at q) where
+  module _ (b k : ℕ) (m : r ≡ Some (b, k)) (c : Cursor) (h : c ≡ place k) (q : Step D.PluginKey.PluginKey) (g : KeysFrom s c.at q) where
     at-is : c.at ≡ k
     at-is = ap (λ (x : Cursor). x.at) h
 
@@ -105,13 +93,13 @@ module _ (s : Str) (a at : ℕ) (o : Keyless s a at) (r : Sought) (f : SoughtFro
     field-gives p l =
         let y = drop b s in
         o.same p l
-        ∙ rw (fields-now s at (AField (field_at y) c) (fields-found s at r f b k m y (field_at y) c refl refl h) p (field_at y) c refl, structs-past s p at r f b k m ∙ ap (structs_at s p) (sym at-is))
+        ∙ rw (fields-now s at (Some (field_at y, c)) (fields-found s at r f b k m y (field_at y) c refl refl h) p (field_at y) c refl, structs-past s p at r f b k m ∙ ap (structs_at s p) (sym at-is))
 
-    pub field-keyed : (x : D.PluginKey.PluginKey) (z : Cursor) → q ≡ AKey x z → InFields s a (Keyed x c)
+    pub field-keyed : (x : D.PluginKey.PluginKey) (z : Cursor) → q ≡ Some (x, z) → InFields s a (Keyed x c)
     unfolding with_some first
     field-keyed x z e = record { list = λ p l. field-gives p l ∙ rw (keys-now s c.at q g p x z e); ahead = tt }
 
-    pub field-keyless : q ≡ NoKey → Keyless s a k
+    pub field-keyless : q ≡ None → Keyless s a k
     unfolding with_some first
     field-keyless e = record {
       same = λ p l. field-gives p l ∙ rw (keys-over-now s c.at q g p e) (ap (λ (x : Cursor). stored_from s p (Fields x) l) h);
@@ -130,15 +118,15 @@ module _ (s : Str) (a b : StoredAt) where
   pub idle-at : a ≡ b → Idle s a b
   idle-at e = record { same = λ p l. ap (λ (x : StoredAt). stored_from s p x l) e }
 
-  pub idle-on : (r : StoredStep) → Idle s a b → StoredFrom s b r → StoredFrom s a r
+  pub idle-on : (r : Option (D.PluginKey.PluginKey × StoredAt)) → Idle s a b → StoredFrom s b r → StoredFrom s a r
   idle-on r o h = record { list = λ p l. o.same p l ∙ h.list p l }
 
-module _ (s : Str) (a : StoredAt) (c : Cursor) (o : Idle s a (Structs c)) (r : StructStep) (f : StructsFrom s c.at r) where
-  pub structs-ended : r ≡ NoStruct → StoredFrom s a NoStored
+module _ (s : Str) (a : StoredAt) (c : Cursor) (o : Idle s a (Structs c)) (r : Step D.Struct.Struct) (f : StructsFrom s c.at r) where
+  pub structs-ended : r ≡ None → StoredFrom s a None
   unfolding stored_from plugin_keys
   structs-ended m = record { list = λ p l. o.same p l ∙ rw (structs-over-now s c.at r f p m) }
 
-  pub struct-opened : (e : D.Struct.Struct) (k : Cursor) → r ≡ AStruct e k → Idle s a (Fields k)
+  pub struct-opened : (e : D.Struct.Struct) (k : Cursor) → r ≡ Some (e, k) → Idle s a (Fields k)
   unfolding stored_from plugin_keys
   struct-opened e k m = record { same = λ p l. o.same p l ∙ rw (structs-now s c.at r f p e k m) }
 
@@ -147,7 +135,7 @@ module _ (s : Str) (a : StoredAt) (i : Cursor) (o : Idle s a (Fields i)) (r : Fi
   unfolding stored_from
   inside p l = o.same p l ∙ f.list p l
 
-  pub inside-keyed : (e : D.PluginKey.PluginKey) (z : Cursor) → r ≡ Keyed e z → StoredFrom s a (AStored e (Fields z))
+  pub inside-keyed : (e : D.PluginKey.PluginKey) (z : Cursor) → r ≡ Keyed e z → StoredFrom s a (Some (e, Fields z))
   inside-keyed e z m = record { list = λ p l. inside p l ∙ ap (λ (x : FieldKey). field_keys_of s p x l) m }
 
   pub inside-over : (k : Cursor) → r ≡ Ended k → Idle s a (Structs k)
@@ -156,7 +144,7 @@ module _ (s : Str) (a : StoredAt) (i : Cursor) (o : Idle s a (Fields i)) (r : Fi
 pub ruleset walk-laws = (idle-at, idle-on, structs-ended, struct-opened, inside-keyed, inside-over)
 
 -- past a structure and its fields the end of the stream is nearer
-pub struct-nearer : (s : Str) (c : Cursor) (r : StructStep) → StructsFrom s c.at r → (e : D.Struct.Struct) (k : Cursor) → r ≡ AStruct e k → (q : FieldKey) → InFields s k.at q → (z : Cursor) → q ≡ Ended z
+pub struct-nearer : (s : Str) (c : Cursor) (r : Step D.Struct.Struct) → StructsFrom s c.at r → (e : D.Struct.Struct) (k : Cursor) → r ≡ Some (e, k) → (q : FieldKey) → InFields s k.at q → (z : Cursor) → q ≡ Ended z
     → length s - z.at < length s - c.at
 struct-nearer s c r f e k m q g z n =
     let h = structs-nearer s c.at r f e k m in
@@ -165,31 +153,31 @@ struct-nearer s c r f e k m q g z n =
 
 -- the whole walk -----------------------------------------------------------------------------------------------------------
 
-module _ (s : Str) (from : Cursor) (r : UnstoredStep) (f : UnstoredFrom s from.at r) where
-  pub unstored-ended : r ≡ NoUnstored → PluginKeysFrom s (Unstored from) NoPluginKey
+module _ (s : Str) (from : Cursor) (r : Step D.PluginKey.PluginKey) (f : UnstoredFrom s from.at r) where
+  pub unstored-ended : r ≡ None → PluginKeysFrom s (Unstored from) None
   unfolding keys_from
   unstored-ended m = record { list = λ p. unstored-over-now s from.at r f p m }
 
-  pub unstored-keyed : (e : D.PluginKey.PluginKey) (k : Cursor) → r ≡ AnUnstored e k → PluginKeysFrom s (Unstored from) (APluginKey e (Unstored k))
+  pub unstored-keyed : (e : D.PluginKey.PluginKey) (k : Cursor) → r ≡ Some (e, k) → PluginKeysFrom s (Unstored from) (Some (e, Unstored k))
   unfolding keys_from
   unstored-keyed e k m = record { list = λ p. unstored-now s from.at r f p e k m }
 
 pub ruleset unstored-key-laws = (unstored-ended, unstored-keyed)
 
 module _ (s : Str) (a : KeysAt) where
-  pub keys-unstored : (c : Cursor) (r : PluginKeyStep) → a ≡ Unstored c → PluginKeysFrom s (Unstored c) r → PluginKeysFrom s a r
+  pub keys-unstored : (c : Cursor) (r : Option (D.PluginKey.PluginKey × KeysAt)) → a ≡ Unstored c → PluginKeysFrom s (Unstored c) r → PluginKeysFrom s a r
   keys-unstored c r e h = record { list = λ p. ap (keys_from s p) e ∙ h.list p }
 
-  module _ (b : StoredAt) (e : a ≡ Stored b) (q : StoredStep) (f : StoredFrom s b q) where
-    pub keys-stored : (x : D.PluginKey.PluginKey) (z : StoredAt) → q ≡ AStored x z → PluginKeysFrom s a (APluginKey x (Stored z))
+  module _ (b : StoredAt) (e : a ≡ Stored b) (q : Option (D.PluginKey.PluginKey × StoredAt)) (f : StoredFrom s b q) where
+    pub keys-stored : (x : D.PluginKey.PluginKey) (z : StoredAt) → q ≡ Some (x, z) → PluginKeysFrom s a (Some (x, Stored z))
     unfolding keys_from
-    keys-stored x z m = record { list = λ p. ap (keys_from s p) e ∙ f.list p (unstored_at s p 0) ∙ ap (λ (y : StoredStep). stored_of s p y (unstored_at s p 0)) m }
+    keys-stored x z m = record { list = λ p. ap (keys_from s p) e ∙ f.list p (unstored_at s p 0) ∙ ap (λ (y : Option (D.PluginKey.PluginKey × StoredAt)). stored_of s p y (unstored_at s p 0)) m }
 
-    pub keys-over : (c : Cursor) (r : PluginKeyStep) → q ≡ NoStored → c ≡ start → PluginKeysFrom s (Unstored c) r → PluginKeysFrom s a r
+    pub keys-over : (c : Cursor) (r : Option (D.PluginKey.PluginKey × KeysAt)) → q ≡ None → c ≡ start → PluginKeysFrom s (Unstored c) r → PluginKeysFrom s a r
     unfolding keys_from
     keys-over c r m i h = record {
       list = λ p.
-          ap (keys_from s p) e ∙ f.list p (unstored_at s p 0) ∙ ap (λ (y : StoredStep). stored_of s p y (unstored_at s p 0)) m
+          ap (keys_from s p) e ∙ f.list p (unstored_at s p 0) ∙ ap (λ (y : Option (D.PluginKey.PluginKey × StoredAt)). stored_of s p y (unstored_at s p 0)) m
           ∙ ap (λ (y : Cursor). unstored_at s p y.at) (sym i) ∙ h.list p;
     }
 

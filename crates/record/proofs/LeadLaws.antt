@@ -1,14 +1,14 @@
 -- The table of leads while it is filled, and what it says of a name. Assumes nothing.
+use Rattle.std.specs.Prelude.{Option, Some, None}
 use mathlib.Core.Path.{◌≡◌, refl, sym, ap, subst, ◌∙◌}
 use mathlib.Core.List.{List}
-use mathlib.Core.Option.{some}
-use mathlib.Core.Bool.{Bool, true, false, false≢true}
+use mathlib.Core.Bool.{Bool, true, false}
 use Prim.Native.Nat.{ℕ, ◌+◌, ◌-◌, ◌/◌, ◌≤◌, ◌<◌}
 use native.Mathlib.Omega.{arith}
-use lib.Dec.{eqb, leb, ltb}
+use lib.Dec.{eqb, ltb}
 use lib.ListN.{length, get_or, set, length-set, get_or-eq_default}
 use lib.Seq.{get_or-set_same, get_or-set_other}
-use borrow.Author.Tests.{eq-eqb, ne_eqb, eqb-true, eqb-false, leb-true, leb-false, ltb-true, ltb-false}
+use borrow.Author.Tests.{eq-eqb, ne_eqb, eqb-true, eqb-false, ltb-true, ltb-false}
 use Rattle.record.specs.Base.{Str}
 use Rattle.record.specs.Stretch.{text_of}
 use Rattle.record.specs.Lists.{opt_of}
@@ -17,8 +17,6 @@ use Rattle.record.specs.Marks.{reference_at}
 use Rattle.record.specs.Leads.{entry_of, EntryNamed, Least, IsLeast, PutLeast, LedTo, PutLead, LeadTable, LeadsFilled, LeadsTo, LeadGiven}
 use Rattle.record.specs.Ownership.{EightClear}
 use Rattle.record.specs.declared.text.Text.{Text}
-use Rattle.record.specs.declared.operands.OptText.{OptText}
-use Rattle.record.specs.declared.operands.OptText.TheVariants.{Absent, Given}
 use Rattle.record.specs.declared.leads.Lead.TheVariants.{Unknown, NoField, AField}
 use Rattle.record.proofs.Basics.{none≢some}
 
@@ -36,24 +34,6 @@ module _ (s p : Str) (x : List ℕ) (n : Str) (a : ℕ) (first : FirstNamed s p 
 pub ruleset entry-laws = (entry-struct, entry-family)
 
 -- the lowest mark --------------------------------------------------------------------------------------------------------
-
-module _ (m : List ℕ) (e q : ℕ) where
-  pub least-none : e ≡ 0 → IsLeast m e q false
-  least-none z = record { yes = λ h. absurd (false≢true h); lower = λ h k l. absurd (l.there z) }
-
-  pub least_by : (z : e ≡ 0 → ⊥) (k a b : ℕ) → k ≡ e - 1 → a ≡ get_or m k 0 → b ≡ get_or m q 0 → IsLeast m e q (leb a b)
-  least_by z k a b f g h = record { yes = λ y. record { there = z; least = low y }; lower = λ y j l. high y j l.least }
-    where
-      is : a ≡ get_or m (e - 1) 0
-      is = g ∙ ap (λ (i : ℕ). get_or m i 0) f
-
-      low : leb a b ≡ true → get_or m (e - 1) 0 ≤ get_or m q 0
-      low y = let c = leb-true a b y in let d = is in omega arith
-
-      high : leb a b ≡ false → (j : ℕ) → get_or m (e - 1) 0 ≤ get_or m j 0 → get_or m q 0 ≤ get_or m j 0
-      high y j l = let c = leb-false a b y in let d = is in omega arith
-
-pub ruleset least_laws = (least-none, least_by)
 
 module _ (m t : List ℕ) (e q : ℕ) where
   pub put-past : length t ≤ e → PutLeast m t e q t
@@ -87,12 +67,12 @@ pub ruleset put-least-laws = (put-past, put-kept, put-over)
 module _ (s p : Str) (m t : List ℕ) (i : ℕ) (g : LedTo s p m t i) where
   -- the next one: those before stay, and it is put where it has a mark and refers to a name
   led-next : (after : List ℕ) → length after ≡ length t → ((j k : ℕ) → Least m (get_or t j 0) k → Least m (get_or after j 0) k)
-      → ((n : Str) → (get_or m i 0 ≡ 0 → ⊥) → reference_at s p i ≡ some n → entry_of s p n < length t → Least m (get_or after (entry_of s p n) 0) i) → LedTo s p m after (i + 1)
+      → ((n : Str) → (get_or m i 0 ≡ 0 → ⊥) → reference_at s p i ≡ Some n → entry_of s p n < length t → Least m (get_or after (entry_of s p n) 0) i) → LedTo s p m after (i + 1)
   led-next after long kept here = record { each = λ q n l a b c. go q n l a b c (eqb q i) refl }
     where
-      go : (q : ℕ) (n : Str) → q < i + 1 → (get_or m q 0 ≡ 0 → ⊥) → reference_at s p q ≡ some n → entry_of s p n < length after → (v : Bool) → eqb q i ≡ v → Least m (get_or after (entry_of s p n) 0) q
+      go : (q : ℕ) (n : Str) → q < i + 1 → (get_or m q 0 ≡ 0 → ⊥) → reference_at s p q ≡ Some n → entry_of s p n < length after → (v : Bool) → eqb q i ≡ v → Least m (get_or after (entry_of s p n) 0) q
       go q n l a b c true e =
-          subst (λ (k : ℕ). (get_or m k 0 ≡ 0 → ⊥) → reference_at s p k ≡ some n → Least m (get_or after (entry_of s p n) 0) k) (sym (eqb-true q i e))
+          subst (λ (k : ℕ). (get_or m k 0 ≡ 0 → ⊥) → reference_at s p k ≡ Some n → Least m (get_or after (entry_of s p n) 0) k) (sym (eqb-true q i e))
           (λ x y. here n x y (subst (λ (k : ℕ). entry_of s p n < k) long c)) a b
       go q n l a b c false e =
           let d : q ≡ i → ⊥ = eqb-false q i e in
@@ -102,23 +82,23 @@ module _ (s p : Str) (m x t : List ℕ) (i : ℕ) where
   pub lead-unmarked : (b : ℕ) → b ≡ get_or m i 0 → b ≡ 0 → PutLead s p m x t i t
   lead-unmarked b e z = record { same_length = refl; next = λ j g. led-next s p m t i g t refl (λ k q l. l) (λ n a. absurd (a (sym e ∙ z))) }
 
-  module _ (r : OptText) (h : opt_of p r ≡ reference_at s p i) where
-    pub lead-nowhere : r ≡ Absent → PutLead s p m x t i t
+  module _ (r : Option Text) (h : opt_of p r ≡ reference_at s p i) where
+    pub lead-nowhere : r ≡ None → PutLead s p m x t i t
     lead-nowhere f = record {
       same_length = refl;
       next = λ j g. led-next s p m t i g t refl (λ k q l. l) (λ n a c. absurd (none≢some (sym (ap (opt_of p) f) ∙ h ∙ c)));
     }
 
-    pub lead-put : (y : Text) (w : Str) (e : ℕ) (after : List ℕ) → r ≡ Given y → w ≡ text_of p y → EntryNamed s p x w e → PutLeast m t e i after → PutLead s p m x t i after
+    pub lead-put : (y : Text) (w : Str) (e : ℕ) (after : List ℕ) → r ≡ Some y → w ≡ text_of p y → EntryNamed s p x w e → PutLeast m t e i after → PutLead s p m x t i after
     lead-put y w e after f u a c = record {
       same_length = c.same_length;
       next = λ j g. led-next s p m t i g after c.same_length c.kept (λ n b k l. here n (a.is j) k l);
     }
       where
-        named : (n : Str) → reference_at s p i ≡ some n → w ≡ n
-        named n k = let z : some (text_of p y) ≡ some n = ap (opt_of p) (sym f) ∙ h ∙ k in u ∙ (let o : text_of p y ≡ n = cc in o)
+        named : (n : Str) → reference_at s p i ≡ Some n → w ≡ n
+        named n k = let z : Some (text_of p y) ≡ Some n = ap (opt_of p) (sym f) ∙ h ∙ k in u ∙ (let o : text_of p y ≡ n = cc in o)
 
-        here : (n : Str) → e ≡ entry_of s p w → reference_at s p i ≡ some n → entry_of s p n < length t → Least m (get_or after (entry_of s p n) 0) i
+        here : (n : Str) → e ≡ entry_of s p w → reference_at s p i ≡ Some n → entry_of s p n < length t → Least m (get_or after (entry_of s p n) 0) i
         here n is k l =
             let z : e ≡ entry_of s p n = is ∙ ap (entry_of s p) (named n k) in
             subst (λ (b : ℕ). Least m (get_or after b 0) i) z (c.here (subst (λ (b : ℕ). b < length t) (sym z) l))
@@ -142,7 +122,7 @@ module _ (s p : Str) (m x : List ℕ) where
     pub leading-eight : (v : Bool) → EightClear m i v → v ≡ true → Leading s p m x before t (i + 8)
     leading-eight v c y = record { same_length = g.same_length; led = λ j. record { each = λ q n l a. go q n j l a (ltb q i) refl } }
       where
-        go : (q : ℕ) (n : Str) → Indexed s p x → q < i + 8 → (get_or m q 0 ≡ 0 → ⊥) → (b : Bool) → ltb q i ≡ b → reference_at s p q ≡ some n → entry_of s p n < length t → Least m (get_or t (entry_of s p n) 0) q
+        go : (q : ℕ) (n : Str) → Indexed s p x → q < i + 8 → (get_or m q 0 ≡ 0 → ⊥) → (b : Bool) → ltb q i ≡ b → reference_at s p q ≡ Some n → entry_of s p n < length t → Least m (get_or t (entry_of s p n) 0) q
         go q n j l a true e = (g.led j).each q n (ltb-true q i e) a
         go q n j l a false e = absurd (a (c.clear y q (ltb-false q i e) l))
 
@@ -152,7 +132,7 @@ module _ (s p : Str) (m x : List ℕ) where
     pub leading_end : length m ≤ i → LeadsFilled s p m x t
     leading_end h = record { led = λ j l. record { each = λ q n a. go q n j a (ltb q i) refl } }
       where
-        go : (q : ℕ) (n : Str) → Indexed s p x → (get_or m q 0 ≡ 0 → ⊥) → (b : Bool) → ltb q i ≡ b → reference_at s p q ≡ some n → entry_of s p n < length t → Least m (get_or t (entry_of s p n) 0) q
+        go : (q : ℕ) (n : Str) → Indexed s p x → (get_or m q 0 ≡ 0 → ⊥) → (b : Bool) → ltb q i ≡ b → reference_at s p q ≡ Some n → entry_of s p n < length t → Least m (get_or t (entry_of s p n) 0) q
         go q n j a true e = (g.led j).each q n (ltb-true q i e) a
         go q n j a false e = absurd (a (get_or-eq_default m 0 {n = q} (let z = ltb-false q i e in omega arith)))
 
@@ -182,7 +162,7 @@ module _ (s p : Str) (x t : List ℕ) (n : Str) where
   given-unknown = record { by = λ i m l. leads-unknown s p m n }
 
   module _ (e : ℕ) (named : EntryNamed s p x n e) (inside : e < length t) (link : ℕ) (is : link ≡ get_or t e 0) where
-    there : Indexed s p x → (m : List ℕ) → LeadTable s p m t → (q : ℕ) → (get_or m q 0 ≡ 0 → ⊥) → reference_at s p q ≡ some n → Least m link q
+    there : Indexed s p x → (m : List ℕ) → LeadTable s p m t → (q : ℕ) → (get_or m q 0 ≡ 0 → ⊥) → reference_at s p q ≡ Some n → Least m link q
     there i m l q a b =
         let z : e ≡ entry_of s p n = named.is i in
         subst (λ (k : ℕ). Least m k q) (ap (λ (k : ℕ). get_or t k 0) (sym z) ∙ sym is) (l.each q n a b (subst (λ (k : ℕ). k < length t) z inside))

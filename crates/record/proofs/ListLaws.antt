@@ -1,7 +1,7 @@
 -- The laws that every list of a record shares: what one step along the stream says of the list from there on. Assumes nothing.
+use Rattle.std.specs.Prelude.{Some, None}
 use mathlib.Core.Path.{◌≡◌, refl, sym, ap, ap₂, ◌∙◌}
 use mathlib.Core.List.{List, [], ◌∷◌, map}
-use mathlib.Core.Option.{none, some}
 use mathlib.Core.Bool.{Bool, true, false, cond}
 use Prim.Native.Nat.{ℕ, suc}
 use native.Mathlib.Omega.{arith}
@@ -16,7 +16,6 @@ use Rattle.record.specs.Lists.{listed}
 use Rattle.record.specs.declared.command.Cursor.{Cursor}
 use Rattle.record.specs.declared.command.Command.{Command}
 use Rattle.record.specs.declared.command.Command.TheVariants as C
-use Rattle.record.specs.declared.command.Step.TheVariants.{Next, Stop}
 use Rattle.record.specs.contracts.command.Command.{the_type}
 use Rattle.record.proofs.CommandLaws.{none-width}
 use Rattle.record.proofs.Tags.{absent, not-one-of}
@@ -81,7 +80,7 @@ module _ (b : ℕ) where
       last h1 h2 h3 h4 h5 h6 h7 h8 h9 h10 h11 h12 h13 true q = sym (eqb-true b 14 q)
       last h1 h2 h3 h4 h5 h6 h7 h8 h9 h10 h11 h12 h13 false q = absurd (w (sym (none-width b h1 h2 h3 h4 h5 h6 h7 h8 h9 h10 h11 h12 h13 (eqb-false b 14 q) l)))
 
-module _ (s : List ℕ) (at : ℕ) (c : Command) (k : Cursor) (e : step_at s at ≡ Next c k) where
+module _ (s : List ℕ) (at : ℕ) (c : Command) (k : Cursor) (e : step_at s at ≡ Some (c, k)) where
   -- the byte at a command's place is its number
   pub byte-is : get_or s at 0 ≡ byte_of c
   byte-is =
@@ -93,11 +92,11 @@ module _ (s : List ℕ) (at : ℕ) (c : Command) (k : Cursor) (e : step_at s at 
   operands-are b h = let f = step-found s at c k e in ap (λ n. command_of n (drop at s)) (sym h ∙ sym byte-is) ∙ f.is-command
 
 module _ {A : Type 0} (s : List ℕ) (over : ℕ → Bool) (b : ℕ) (f : ℕ → List ℕ → A) (at : ℕ) where
-  pub listed-stop : step_at s at ≡ Stop → listed s over b f (commands_at s at) ≡ []
+  pub listed-stop : step_at s at ≡ None → listed s over b f (commands_at s at) ≡ []
   unfolding listed
   listed-stop e = rw (commands-stop s at e)
 
-  module _ (c : Command) (k : Cursor) (e : step_at s at ≡ Next c k) where
+  module _ (c : Command) (k : Cursor) (e : step_at s at ≡ Some (c, k)) where
     pub listed_here : byte_of c ≡ b → listed s over b f (commands_at s at) ≡ f at (commands_at s k.at) ∷ listed s over b f (commands_at s k.at)
     unfolding listed
     listed_here h = rw (commands-next s at c k e, eq-eqb (get_or s at 0) b (byte-is s at c k e ∙ h))
@@ -112,13 +111,13 @@ module _ {A : Type 0} (s : List ℕ) (over : ℕ → Bool) (b : ℕ) (f : ℕ �
 
 -- two lists of one number whose elements give the same
 module _ {A B C : Type 0} (s : List ℕ) (over : ℕ → Bool) (b : ℕ) (f : ℕ → List ℕ → A) (g : ℕ → List ℕ → B) (x : A → C) (y : B → C)
-    (same : (at : ℕ) (c : Command) (k : Cursor) → step_at s at ≡ Next c k → get_or s at 0 ≡ b → x (f at (commands_at s k.at)) ≡ y (g at (commands_at s k.at))) where
+    (same : (at : ℕ) (c : Command) (k : Cursor) → step_at s at ≡ Some (c, k) → get_or s at 0 ≡ b → x (f at (commands_at s k.at)) ≡ y (g at (commands_at s k.at))) where
   pub listed_same : (at : ℕ) → map x (listed s over b f (commands_at s at)) ≡ map y (listed s over b g (commands_at s at))
   listed_same =
       along s (λ (at : ℕ). map x (listed s over b f (commands_at s at)) ≡ map y (listed s over b g (commands_at s at)))
       (λ at e. rw (listed-stop s over b f at e, listed-stop s over b g at e)) (λ at c k e ih. go at c k e ih (eqb (byte_of c) b) (over (byte_of c)) refl refl)
     where
-      go : (at : ℕ) (c : Command) (k : Cursor) → step_at s at ≡ Next c k → map x (listed s over b f (commands_at s k.at)) ≡ map y (listed s over b g (commands_at s k.at))
+      go : (at : ℕ) (c : Command) (k : Cursor) → step_at s at ≡ Some (c, k) → map x (listed s over b f (commands_at s k.at)) ≡ map y (listed s over b g (commands_at s k.at))
           → (t o : Bool) → eqb (byte_of c) b ≡ t → over (byte_of c) ≡ o → map x (listed s over b f (commands_at s at)) ≡ map y (listed s over b g (commands_at s at))
       go at c k e ih true o p q =
           let h = eqb-true (byte_of c) b p in
@@ -128,11 +127,11 @@ module _ {A B C : Type 0} (s : List ℕ) (over : ℕ → Bool) (b : ℕ) (f : �
 
 -- a list's first element that passes a test
 module _ {A : Type 0} (q : A → Bool) (l : List A) where
-  pub find_none : l ≡ [] → find q l ≡ none
+  pub find_none : l ≡ [] → find q l ≡ None
   unfolding find
   find_none e = rw e
 
-  pub find-hit : (x : A) (m : List A) → l ≡ x ∷ m → q x ≡ true → find q l ≡ some x
+  pub find-hit : (x : A) (m : List A) → l ≡ x ∷ m → q x ≡ true → find q l ≡ Some x
   unfolding find
   find-hit x m e h = rw (e, h)
 

@@ -1,16 +1,16 @@
 -- What each step of a walk does to the marks. Assumes nothing.
+use Rattle.std.specs.Prelude.{Option, Some, None}
 use mathlib.Core.Path.{◌≡◌, refl, sym, ap, subst, ◌∙◌}
 use mathlib.Core.List.Memᴰ
 use mathlib.Core.List.{List, [], ◌∷◌, Memᴰ}
-use mathlib.Core.Option.{Option, none, some}
-use mathlib.Core.Bool.{Bool, true, false, not, false≢true}
+use mathlib.Core.Bool.{Bool, true, false}
 use mathlib.Core.Logic.{◌⊎◌, inl, inr}
 use Prim.Native.Nat.{ℕ, zero, suc, ◌+◌, ◌*◌, ◌≤◌, ◌<◌}
 use native.Mathlib.Omega.{arith}
-use lib.ListN.{length, get_or, set, drop, replicate, length-set, get_or-eq_default}
+use lib.ListN.{length, get_or, set, drop, replicate, length-set}
 use lib.Seq.{get_or-set_same, get_or-set_other}
-use lib.Dec.{eqb, ltb}
-use borrow.Author.Tests.{eq-eqb, ne_eqb, eqb-true, eqb-false, ltb-true, ltb-false}
+use lib.Dec.{eqb}
+use borrow.Author.Tests.{eq-eqb, ne_eqb, eqb-true, eqb-false}
 use Rattle.record.specs.Base.{Str}
 use Rattle.record.specs.Schema.{Field, Key}
 use Rattle.record.specs.Commands.{field_at}
@@ -22,41 +22,11 @@ use Rattle.record.specs.References.{types_at}
 use Rattle.record.specs.Marks.{body_at, body_of, PlacesFrom, reference_at, entered, target_at, IsBody, Into, LeadsToTarget, place_past, type_place, place_number, Clear, unseen, Ready, IsVisited, Visited, Named, Full, Change, as_it_was, a-field, a-type, Led, Walked, TypeWalked, BodyWalked, Beyond, FieldWalked}
 use Rattle.record.specs.declared.command.Cursor.{Cursor}
 use Rattle.record.specs.declared.marks.Body.{Body}
-use Rattle.record.specs.declared.marks.Target.{Target}
-use Rattle.record.specs.declared.marks.Target.TheVariants.{Nothing, Fields}
-use Rattle.record.specs.declared.marks.PlaceStep.{PlaceStep}
-use Rattle.record.specs.declared.marks.PlaceStep.TheVariants.{NoPlace, APlace}
 use Rattle.record.proofs.ReferenceLaws.{referenced-key}
 use Rattle.record.proofs.PlaceLaws.{entered-is, is-entered, type-other, same-type}
+use Rattle.record.specs.Commands.{Step}
 
 -- clear ------------------------------------------------------------------------------------------------------------------
-
--- the marks below i are clear
-pub record ClearTo (before m : List ℕ) (i : ℕ) : Type 0 where
-  pub same_length : length m ≡ length before
-  pub below : (q : ℕ) → q < i → get_or m q 0 ≡ 0
-
-pub clear-start : (m : List ℕ) → ClearTo m m 0
-clear-start m = record { same_length = refl; below = λ q h. absurd (omega arith) }
-
-module _ (before m : List ℕ) (i : ℕ) (c : ClearTo before m i) where
-  pub clear-on : i < length m → ClearTo before (set m i 0) (i + 1)
-  clear-on h = record { same_length = length-set m i 0 ∙ c.same_length; below = λ q l. go q l (eqb q i) refl }
-    where
-      go : (q : ℕ) → q < i + 1 → (b : Bool) → eqb q i ≡ b → get_or (set m i 0) q 0 ≡ 0
-      go q l true e = subst (λ (x : ℕ). get_or (set m i 0) x 0 ≡ 0) (sym (eqb-true q i e)) (get_or-set_same m i 0 0 h)
-      go q l false e =
-          let ne = eqb-false q i e in
-          get_or-set_other m i q 0 0 ne ∙ c.below q (let z : (q ≡ i → ⊥) = ne in omega arith)
-
-  pub clear-end : length m ≤ i → Clear m
-  clear-end h = record { none = λ q. go q (ltb q i) refl }
-    where
-      go : (q : ℕ) (b : Bool) → ltb q i ≡ b → get_or m q 0 ≡ 0
-      go q true e = c.below q (ltb-true q i e)
-      go q false e = let l = ltb-false q i e in get_or-eq_default m 0 {n = q} (omega arith)
-
-pub ruleset clear-laws = (clear-start, clear-on, clear-end)
 
 -- an array as it is made has no mark
 zeros : (n q : ℕ) → ◌≡◌ {A = ℕ} (get_or (replicate n 0) q 0) 0
@@ -87,7 +57,7 @@ unseen-less (x ∷ xs) (suc i) v r = let q = unseen-less xs i v r in omega arith
 module _ (s p : Str) where
   target_is : (q : ℕ) (k : Option Key) → entered (types_at s p) (referenced (field_of p (field_at (drop q s)) k)) ≡ target_at s p q
   unfolding target_at reference_at
-  target_is q k = ap (entered (types_at s p)) (referenced-key p (field_at (drop q s)) k none)
+  target_is q k = ap (entered (types_at s p)) (referenced-key p (field_at (drop q s)) k None)
 
   -- one reference, and then where it leads
   leads-after : {a b c : Str} → Edge (types_at s p) a b → Leads (types_at s p) b c → Leads (types_at s p) a c
@@ -141,11 +111,11 @@ module _ (s p : Str) where
       go q (a-type f) (a-field g) = a-field (record { was = f.was; is = g.is; into = g.into })
       go q (a-type f) (a-type g) = a-type (record { was = f.was; is = g.is; other = g.other })
 
-      soon : (q : ℕ) → (get_or a q 0 ≡ 0 → ⊥) ⊎ ((n : Str) → target_at s p q ≡ some n → Visited s p b n) → (get_or a q 0 ≡ 0 → ⊥) ⊎ ((n : Str) → target_at s p q ≡ some n → Visited s p c n)
+      soon : (q : ℕ) → (get_or a q 0 ≡ 0 → ⊥) ⊎ ((n : Str) → target_at s p q ≡ Some n → Visited s p b n) → (get_or a q 0 ≡ 0 → ⊥) ⊎ ((n : Str) → target_at s p q ≡ Some n → Visited s p c n)
       soon q (inl h) = inl h
       soon q (inr f) = inr (λ n e. visited-stays w n (f n e))
 
-      late : (q : ℕ) → get_or s q 0 ≡ 11 → (get_or b q 0 ≡ 0 → ⊥) ⊎ ((n : Str) → target_at s p q ≡ some n → Visited s p c n) → (get_or a q 0 ≡ 0 → ⊥) ⊎ ((n : Str) → target_at s p q ≡ some n → Visited s p c n)
+      late : (q : ℕ) → get_or s q 0 ≡ 11 → (get_or b q 0 ≡ 0 → ⊥) ⊎ ((n : Str) → target_at s p q ≡ Some n → Visited s p c n) → (get_or a q 0 ≡ 0 → ⊥) ⊎ ((n : Str) → target_at s p q ≡ Some n → Visited s p c n)
       late q f (inl h) = soon q (v.closed q f h)
       late q f (inr g) = inr g
 
@@ -186,7 +156,7 @@ module _ (s p : Str) (mark q : ℕ) (m : List ℕ) where
     }
 
     -- the field is marked, and then what it leads to is walked
-    marking : (after : List ℕ) → Walked s p mark (Beyond s p q) (set m q mark) after → ((n : Str) → target_at s p q ≡ some n → Visited s p after n) → FieldWalked s p mark q m after
+    marking : (after : List ℕ) → Walked s p mark (Beyond s p q) (set m q mark) after → ((n : Str) → target_at s p q ≡ Some n → Visited s p after n) → FieldWalked s p mark q m after
     marking after w visited = record {
       walked = record {
         each = λ x. each x (eqb x q) refl (w.each x);
@@ -196,7 +166,7 @@ module _ (s p : Str) (mark q : ℕ) (m : List ℕ) where
       marked = marked-stays s p w q (λ z. let y = get_or-set_same m q mark 0 inside in omega arith);
     }
       where
-        itself : (x : ℕ) → x ≡ q → (n : Str) → target_at s p x ≡ some n → Beyond s p q n
+        itself : (x : ℕ) → x ≡ q → (n : Str) → target_at s p x ≡ Some n → Beyond s p q n
         itself x e n t = record { through = n; target = ap (target_at s p) (sym e) ∙ t; leads = here refl }
 
         each : (x : ℕ) (b : Bool) → eqb x q ≡ b → Change s p mark (Beyond s p q) (set m q mark) after x → Change s p mark (Beyond s p q) m after x
@@ -211,8 +181,8 @@ module _ (s p : Str) (mark q : ℕ) (m : List ℕ) where
         each x false e (a-field f) = a-field (record { was = sym (get_or-set_other m q x mark 0 (eqb-false x q e)) ∙ f.was; is = f.is; into = f.into })
         each x false e (a-type f) = a-type (record { was = sym (get_or-set_other m q x mark 0 (eqb-false x q e)) ∙ f.was; is = f.is; other = f.other })
 
-        closed : (x : ℕ) (b : Bool) → eqb x q ≡ b → (get_or (set m q mark) x 0 ≡ 0 → ⊥) ⊎ ((n : Str) → target_at s p x ≡ some n → Visited s p after n)
-            → (get_or m x 0 ≡ 0 → ⊥) ⊎ ((n : Str) → target_at s p x ≡ some n → Visited s p after n)
+        closed : (x : ℕ) (b : Bool) → eqb x q ≡ b → (get_or (set m q mark) x 0 ≡ 0 → ⊥) ⊎ ((n : Str) → target_at s p x ≡ Some n → Visited s p after n)
+            → (get_or m x 0 ≡ 0 → ⊥) ⊎ ((n : Str) → target_at s p x ≡ Some n → Visited s p after n)
         closed x true e h = inr (λ n t. visited n (ap (target_at s p) (sym (eqb-true x q e)) ∙ t))
         closed x false e (inl h) = inl (λ z. h (get_or-set_other m q x mark 0 (eqb-false x q e) ∙ z))
         closed x false e (inr f) = inr f
@@ -221,17 +191,17 @@ module _ (s p : Str) (mark q : ℕ) (m : List ℕ) where
         filled n (inl h) = inl (visited-before n h)
         filled n (inr f) = inr f
 
-    module _ (x : List ℕ) (r : Target) (found : Indexed s p x → LeadsToTarget s p q r) where
-      pub field-ends : r ≡ Nothing → Led s p x m (set m q mark) (FieldWalked s p mark q m (set m q mark))
+    module _ (x : List ℕ) (r : Option Body) (found : Indexed s p x → LeadsToTarget s p q r) where
+      pub field-ends : r ≡ None → Led s p x m (set m q mark) (FieldWalked s p mark q m (set m q mark))
       field-ends e = record {
         same_length = length-set m q mark;
         fewer = let u = unseen-set m q mark inside free real in omega arith;
         so = λ i.
-            let nothing : target_at s p q ≡ none = subst (LeadsToTarget s p q) e (found i) in
+            let nothing : target_at s p q ≡ None = subst (LeadsToTarget s p q) e (found i) in
             marking (set m q mark) (walked_none s p) (λ n t. absurd (let z : ◌≡◌ {A = ℕ} 0 1 = cc in omega arith));
       }
 
-      pub field-leads : (b : Body) (after : List ℕ) → r ≡ Fields b → Led s p x (set m q mark) after (BodyWalked s p mark b (set m q mark) after) → Led s p x m after (FieldWalked s p mark q m after)
+      pub field-leads : (b : Body) (after : List ℕ) → r ≡ Some b → Led s p x (set m q mark) after (BodyWalked s p mark b (set m q mark) after) → Led s p x m after (FieldWalked s p mark q m after)
       field-leads b after e g = record {
         same_length = g.same_length ∙ length-set m q mark;
         fewer = let f = g.fewer in let u = unseen-set m q mark inside free real in omega arith;
@@ -243,7 +213,7 @@ module _ (s p : Str) (mark q : ℕ) (m : List ℕ) where
               let v = w.of t.name t.body in
               marking after
               (walked-into s p (λ n l. record { through = t.name; target = t.target; leads = l }) v.walked)
-              (λ n k. let e : some t.name ≡ some n = sym t.target ∙ k in subst (Visited s p after) (let y : t.name ≡ n = cc in y) v.visited)
+              (λ n k. let e : Some t.name ≡ Some n = sym t.target ∙ k in subst (Visited s p after) (let y : t.name ≡ n = cc in y) v.visited)
 
 pub ruleset field_laws = (field-seen, field-ends, field-leads)
 
@@ -251,23 +221,6 @@ pub field-length : (s p : Str) (x : List ℕ) (mark q : ℕ) (b : Body) (m after
 field-length s p x mark q b m after w = w.same_length ∙ length-set m q mark
 
 -- whether a type was visited ---------------------------------------------------------------------------------------------
-
-module _ (s : Str) (m : List ℕ) (q : ℕ) where
-  pub visited-past : length s ≤ q → IsVisited s m q true
-  visited-past l = record { yes = λ h i. absurd (omega arith); inside = λ h. absurd (false≢true (sym h)); free = λ h. absurd (false≢true (sym h)) }
-
-  pub visited-by : q < length s → (x : ℕ) → x ≡ get_or m q 0 → IsVisited s m q (not (eqb x 0))
-  visited-by l x e = record { yes = λ h i. held (eqb x 0) refl h; inside = λ h. l; free = λ h. none-held (eqb x 0) refl h }
-    where
-      held : (v : Bool) → eqb x 0 ≡ v → not v ≡ true → get_or m q 0 ≡ 0 → ⊥
-      held true f h z = false≢true h
-      held false f h z = eqb-false x 0 f (e ∙ z)
-
-      none-held : (v : Bool) → eqb x 0 ≡ v → not v ≡ false → get_or m q 0 ≡ 0
-      none-held true f h = sym e ∙ eqb-true x 0 f
-      none-held false f h = absurd (false≢true (sym h))
-
-pub ruleset visited-laws = (visited-past, visited-by)
 
 pub visit-inside : (s : Str) (m : List ℕ) (mark q : ℕ) (v : Bool) → Ready s m mark → IsVisited s m q v → v ≡ false → q < length m
 visit-inside s m mark q v r i e = let l = i.inside e in let h = r.room in omega arith
@@ -278,7 +231,7 @@ visit-inside s m mark q v r i e = let l = i.inside e in let h = r.room in omega 
 pub record Going (s p : Str) (mark : ℕ) (n : Str) (before m : List ℕ) (fields : List Field) : Type 0 where
   pub walked : Walked s p mark (Leads (types_at s p) n) before m
   pub own : (f : Field) → Memᴰ f fields → Memᴰ f (type_fields (types_at s p) n)
-  pub done : (f : Field) → Memᴰ f (type_fields (types_at s p) n) → Memᴰ f fields ⊎ ((x : Str) → entered (types_at s p) (referenced f) ≡ some x → Named s p m x)
+  pub done : (f : Field) → Memᴰ f (type_fields (types_at s p) n) → Memᴰ f fields ⊎ ((x : Str) → entered (types_at s p) (referenced f) ≡ Some x → Named s p m x)
 
 -- the same for every type whose fields begin here
 pub record BodyGoing (s p : Str) (mark : ℕ) (family : Bool) (from : ℕ) (before m : List ℕ) (at : ℕ) : Type 0 where
@@ -296,7 +249,7 @@ module _ (s p : Str) (x : List ℕ) (mark : ℕ) (family : Bool) (from q : ℕ) 
   pub going-ready : Ready s before mark → Ready s m mark
   going-ready r = record { room = let h = r.room in let l = going-length in omega arith; real = r.real }
 
-module _ (f : Bool) (s : Str) (at : ℕ) (r : PlaceStep) (h : PlacesFrom f s at r) (q : ℕ) (k : Cursor) (m : r ≡ APlace q k) where
+module _ (f : Bool) (s : Str) (at : ℕ) (r : Step ℕ) (h : PlacesFrom f s at r) (q : ℕ) (k : Cursor) (m : r ≡ Some (q, k)) where
   pub place_inside : q < length s
   place_inside = let g : suc q ≤ length s = subst (λ x. place_past x ≤ length s) m h.within in omega arith
 
@@ -307,18 +260,18 @@ module _ (s p : Str) (mark : ℕ) (n : Str) where
   going_start : (m : List ℕ) (fields : List Field) → type_fields (types_at s p) n ≡ fields → Going s p mark n m m fields
   going_start m fields e = rw (← e) (record { walked = walked_none s p; own = λ f i. i; done = λ f i. inl i })
 
-  module _ (family : Bool) (before m : List ℕ) (at : ℕ) (g : Going s p mark n before m (body_at family s p at)) (r : PlaceStep) (step : PlacesFrom family s at r) where
-    going_end : r ≡ NoPlace → Full s p m n
+  module _ (family : Bool) (before m : List ℕ) (at : ℕ) (g : Going s p mark n before m (body_at family s p at)) (r : Step ℕ) (step : PlacesFrom family s at r) where
+    going_end : r ≡ None → Full s p m n
     going_end e = record { all = λ x h. go x h (g.done h.field h.is_field) }
       where
         nil : body_at family s p at ≡ []
         nil = step.list p ∙ ap (body_of family s p) e
 
-        go : (x : Str) (h : Edge (types_at s p) n x) → Memᴰ h.field (body_at family s p at) ⊎ ((y : Str) → entered (types_at s p) (referenced h.field) ≡ some y → Named s p m y) → Named s p m x
+        go : (x : Str) (h : Edge (types_at s p) n x) → Memᴰ h.field (body_at family s p at) ⊎ ((y : Str) → entered (types_at s p) (referenced h.field) ≡ Some y → Named s p m y) → Named s p m x
         go x h (inl i) = absurd (Memᴰ.not-nil (subst (λ (l : List Field). Memᴰ h.field l) nil i))
         go x h (inr f) = f x (is-entered (types_at s p) (referenced h.field) x h.names h.free)
 
-    going_on : (q : ℕ) (k : Cursor) (after : List ℕ) → r ≡ APlace q k → FieldWalked s p mark q m after → Going s p mark n before after (body_at family s p k.at)
+    going_on : (q : ℕ) (k : Cursor) (after : List ℕ) → r ≡ Some (q, k) → FieldWalked s p mark q m after → Going s p mark n before after (body_at family s p k.at)
     going_on q k after e w = record {
       walked = walked_on s p g.walked (walked-into s p through w.walked);
       own = λ f i. g.own f (subst (λ (l : List Field). Memᴰ f l) (sym list) (Memᴰ.tail i));
@@ -341,7 +294,7 @@ module _ (s p : Str) (mark : ℕ) (n : Str) where
             (record { field = one; is_field = g.own one (subst (λ (l : List Field). Memᴰ one l) (sym list) (Memᴰ.head refl)); names = i.0; free = i.1 })
             b.leads
 
-        named : (f : Field) → f ≡ one → (x : Str) → entered (types_at s p) (referenced f) ≡ some x → Named s p after x
+        named : (f : Field) → f ≡ one → (x : Str) → entered (types_at s p) (referenced f) ≡ Some x → Named s p after x
         named f i x h = record {
           place = q;
           field = place-number family s at r step q k e;
@@ -349,15 +302,15 @@ module _ (s p : Str) (mark : ℕ) (n : Str) where
           leads = sym leads ∙ ap (λ (y : Field). entered (types_at s p) (referenced y)) (sym i) ∙ h;
         }
 
-        rest : (f : Field) → (f ≡ one) ⊎ Memᴰ f (body_at family s p k.at) → Memᴰ f (body_at family s p k.at) ⊎ ((x : Str) → entered (types_at s p) (referenced f) ≡ some x → Named s p after x)
+        rest : (f : Field) → (f ≡ one) ⊎ Memᴰ f (body_at family s p k.at) → Memᴰ f (body_at family s p k.at) ⊎ ((x : Str) → entered (types_at s p) (referenced f) ≡ Some x → Named s p after x)
         rest f (inl i) = inr (named f i)
         rest f (inr i) = inl i
 
         stay : (x : Str) → Named s p m x → Named s p after x
         stay x y = record { place = y.place; field = y.field; marked = marked-stays s p w.walked y.place y.marked; leads = y.leads }
 
-        done : (f : Field) → Memᴰ f (body_at family s p at) ⊎ ((x : Str) → entered (types_at s p) (referenced f) ≡ some x → Named s p m x)
-            → Memᴰ f (body_at family s p k.at) ⊎ ((x : Str) → entered (types_at s p) (referenced f) ≡ some x → Named s p after x)
+        done : (f : Field) → Memᴰ f (body_at family s p at) ⊎ ((x : Str) → entered (types_at s p) (referenced f) ≡ Some x → Named s p m x)
+            → Memᴰ f (body_at family s p k.at) ⊎ ((x : Str) → entered (types_at s p) (referenced f) ≡ Some x → Named s p after x)
         done f (inl i) = rest f (Memᴰ.cases_cons (subst (λ (l : List Field). Memᴰ f l) list i))
         done f (inr h) = inr (λ x e. stay x (h x e))
 
@@ -382,8 +335,8 @@ module _ (s p : Str) (mark : ℕ) (n : Str) (q : ℕ) (stands : type_place s p n
   type-each x false e (a-field f) = a-field (record { was = sym (get_or-set_other before q x 4 0 (eqb-false x q e)) ∙ f.was; is = f.is; into = f.into })
   type-each x false e (a-type f) = a-type (record { was = sym (get_or-set_other before q x 4 0 (eqb-false x q e)) ∙ f.was; is = f.is; other = f.other })
 
-  type-closed : (x : ℕ) → get_or s x 0 ≡ 11 → (get_or (set before q 4) x 0 ≡ 0 → ⊥) ⊎ ((k : Str) → target_at s p x ≡ some k → Visited s p after k)
-      → (get_or before x 0 ≡ 0 → ⊥) ⊎ ((k : Str) → target_at s p x ≡ some k → Visited s p after k)
+  type-closed : (x : ℕ) → get_or s x 0 ≡ 11 → (get_or (set before q 4) x 0 ≡ 0 → ⊥) ⊎ ((k : Str) → target_at s p x ≡ Some k → Visited s p after k)
+      → (get_or before x 0 ≡ 0 → ⊥) ⊎ ((k : Str) → target_at s p x ≡ Some k → Visited s p after k)
   type-closed x f (inl h) = inl (λ z. h (get_or-set_other before q x 4 0 (λ e. number (ap (λ (i : ℕ). get_or s i 0) (sym e) ∙ f)) ∙ z))
   type-closed x f (inr g) = inr g
 
@@ -425,8 +378,8 @@ module _ (s p : Str) (mark : ℕ) (x : List ℕ) where
   pub type-starts : (family : Bool) (from : ℕ) (m : List ℕ) → Led s p x m m (BodyGoing s p mark family from m m from)
   type-starts family from m = record { same_length = refl; fewer = omega arith; so = λ i. record { of = λ n h. going_start s p mark n m _ h } }
 
-  pub type-ends : (b : Body) (before m : List ℕ) (at : ℕ) (r : PlaceStep) (v : Bool) → Ready s before mark → IsVisited s before b.place v → v ≡ false
-      → Led s p x (set before b.place 4) m (BodyGoing s p mark b.family b.from.at (set before b.place 4) m at) → PlacesFrom b.family s at r → r ≡ NoPlace
+  pub type-ends : (b : Body) (before m : List ℕ) (at : ℕ) (r : Step ℕ) (v : Bool) → Ready s before mark → IsVisited s before b.place v → v ≡ false
+      → Led s p x (set before b.place 4) m (BodyGoing s p mark b.family b.from.at (set before b.place 4) m at) → PlacesFrom b.family s at r → r ≡ None
       → Led s p x before m (BodyWalked s p mark b before m)
   type-ends b before m at r v ready i h g step e = record {
     same_length = g.same_length ∙ length-set before b.place 4;
@@ -439,8 +392,8 @@ module _ (s p : Str) (mark : ℕ) (x : List ℕ) where
     };
   }
 
-  module _ (family : Bool) (from : ℕ) (before m : List ℕ) (at : ℕ) (g : Led s p x before m (BodyGoing s p mark family from before m at)) (r : PlaceStep) (step : PlacesFrom family s at r) where
-    pub type-goes : (q : ℕ) (k : Cursor) (after : List ℕ) → r ≡ APlace q k → Led s p x m after (FieldWalked s p mark q m after) → Led s p x before after (BodyGoing s p mark family from before after k.at)
+  module _ (family : Bool) (from : ℕ) (before m : List ℕ) (at : ℕ) (g : Led s p x before m (BodyGoing s p mark family from before m at)) (r : Step ℕ) (step : PlacesFrom family s at r) where
+    pub type-goes : (q : ℕ) (k : Cursor) (after : List ℕ) → r ≡ Some (q, k) → Led s p x m after (FieldWalked s p mark q m after) → Led s p x before after (BodyGoing s p mark family from before after k.at)
     type-goes q k after e w = record {
       same_length = w.same_length ∙ g.same_length;
       fewer = let a = w.fewer in let c = g.fewer in omega arith;

@@ -1,7 +1,7 @@
 -- The places of a type's fields: where they begin, a step along them, and what the field at a place leads to. Assumes nothing.
+use Rattle.std.specs.Prelude.{Option, Some, None}
 use mathlib.Core.Path.{◌≡◌, refl, sym, ap, subst, ◌∙◌}
 use mathlib.Core.List.{List, [], ◌∷◌, ◌++◌}
-use mathlib.Core.Option.{Option, none, some}
 use mathlib.Core.Bool.{Bool, true, false, ◌||◌, cond, false≢true}
 use Prim.Native.Nat.{ℕ, zero, suc, ◌+◌, ◌-◌, ◌≤◌, ◌<◌}
 use native.Mathlib.Omega.{arith}
@@ -20,23 +20,16 @@ use Rattle.record.specs.Index.{first_place, sought_at, struct_placed, family_pla
 use Rattle.record.specs.References.{types_at, Refers}
 use Rattle.record.specs.Marks.{between, body_at, body_left, PlacesFrom, reference_at, entered, target_at, either_place, type_place, IsBody, Entering, LeadsToTarget}
 use Rattle.record.specs.declared.text.Text.{Text}
-use Rattle.record.specs.declared.operands.OptText.{OptText}
-use Rattle.record.specs.declared.operands.OptText.TheVariants.{Absent, Given}
 use Rattle.record.specs.declared.command.Cursor.{Cursor}
 use Rattle.record.specs.declared.seek.Between.{Between}
-use Rattle.record.specs.declared.seek.Sought.{Sought}
-use Rattle.record.specs.declared.seek.Sought.TheVariants.{Nowhere, At}
 use Rattle.record.specs.declared.marks.Body.{Body}
-use Rattle.record.specs.declared.marks.Target.{Target}
-use Rattle.record.specs.declared.marks.Target.TheVariants.{Nothing, Fields}
-use Rattle.record.specs.declared.marks.PlaceStep.{PlaceStep}
-use Rattle.record.specs.declared.marks.PlaceStep.TheVariants.{NoPlace, APlace}
 use Rattle.record.proofs.CommandLaws.{step_end}
 use Rattle.record.proofs.Stream.{commands-stop}
 use Rattle.record.specs.Operands.{opt_text_at}
 use Rattle.record.proofs.ReferenceLaws.{slot-none, slot-absent, slot-given}
 use Rattle.record.proofs.IndexLaws.{first-placed, first-number}
 use Rattle.record.proofs.SeekLaws.{sought-stands, sought-nearer, listed-none, listed-some}
+use Rattle.record.specs.Commands.{Step}
 
 -- where the fields begin -------------------------------------------------------------------------------------------------
 
@@ -69,35 +62,35 @@ module _ (s p : Str) where
       go false false false a c h = refl
 
 module _ (s p : Str) (x : List ℕ) (i : Indexed s p x) (n : Str) where
-  module _ (r : Sought) (found : Declared s p x 8 n r) where
-    pub body-struct : (a k : ℕ) (c : Cursor) → r ≡ At a k → c ≡ place k → IsBody s p n (record { place = a; from = c; family = false })
+  module _ (r : Option (ℕ × ℕ)) (found : Declared s p x 8 n r) where
+    pub body-struct : (a k : ℕ) (c : Cursor) → r ≡ Some (a, k) → c ≡ place k → IsBody s p n (record { place = a; from = c; family = false })
     unfolding type_fields fields_in body_at fields_at fields type_place either_place
     body-struct a k c m h = record {
-      stands = sym (ap (λ (y : Sought). either_place s y (sought_at s (first_place s p 9 n))) (sym (found.first i) ∙ m));
+      stands = sym (ap (λ (y : Option (ℕ × ℕ)). either_place s y (sought_at s (first_place s p 9 n))) (sym (found.first i) ∙ m));
       fields = rw (h, (found.named i).struct refl, m);
     }
 
-    pub body-else : (b : Body) → r ≡ Nowhere → (Indexed s p x → Declared s p x 8 n Nowhere → IsBody s p n b) → IsBody s p n b
+    pub body-else : (b : Body) → r ≡ None → (Indexed s p x → Declared s p x 8 n None → IsBody s p n b) → IsBody s p n b
     body-else b m h = h i (subst (Declared s p x 8 n) m found)
 
-  module _ (found : Declared s p x 8 n Nowhere) (q : Sought) (found' : Declared s p x 9 n q) where
+  module _ (found : Declared s p x 8 n None) (q : Option (ℕ × ℕ)) (found' : Declared s p x 9 n q) where
     -- no structure stands before
-    family-place : (r : Sought) → q ≡ r → either_place s Nowhere r ≡ type_place s p n
+    family-place : (r : Option (ℕ × ℕ)) → q ≡ r → either_place s None r ≡ type_place s p n
     unfolding type_place
     family-place r g =
-        sym (ap (λ (y : Sought). either_place s y (sought_at s (first_place s p 9 n))) (sym (found.first i)) ∙ ap (either_place s Nowhere) (sym (found'.first i) ∙ g))
+        sym (ap (λ (y : Option (ℕ × ℕ)). either_place s y (sought_at s (first_place s p 9 n))) (sym (found.first i)) ∙ ap (either_place s None) (sym (found'.first i) ∙ g))
 
-    pub body-family : (a k : ℕ) (c : Cursor) → q ≡ At a k → c ≡ place k → IsBody s p n (record { place = a; from = c; family = true })
+    pub body-family : (a k : ℕ) (c : Cursor) → q ≡ Some (a, k) → c ≡ place k → IsBody s p n (record { place = a; from = c; family = true })
     unfolding type_fields fields_in body_at fields_at variants_at one either_place
     body-family a k c g h = record {
-      stands = family-place (At a k) g;
+      stands = family-place (Some (a, k)) g;
       fields = rw (h, (found.named i).struct refl, (found'.named i).family refl, g) (family-fields s p (commands_at s k));
     }
 
-    pub body-none : (c : Cursor) → c ≡ place (length s) → q ≡ Nowhere → IsBody s p n (record { place = length s; from = c; family = false })
+    pub body-none : (c : Cursor) → c ≡ place (length s) → q ≡ None → IsBody s p n (record { place = length s; from = c; family = false })
     unfolding type_fields fields_in body_at listed either_place
     body-none c h g = record {
-      stands = family-place Nowhere g;
+      stands = family-place None g;
       fields = rw (h, (found.named i).struct refl, (found'.named i).family refl, g, commands-stop s (length s) (sym (step_end s (length s) (omega arith))));
     }
 
@@ -158,30 +151,30 @@ module _ (s p : Str) where
 
 -- what a reference leads to ----------------------------------------------------------------------------------------------
 
-module _ (s p : Str) (x : List ℕ) (i : Indexed s p x) (n : Str) (r : Sought) (found : Declared s p x 8 n r) where
-  pub enter-else : (b : Body) → r ≡ Nowhere → (Indexed s p x → Declared s p x 8 n Nowhere → IsBody s p n b) → Entering s p n (Fields b)
+module _ (s p : Str) (x : List ℕ) (i : Indexed s p x) (n : Str) (r : Option (ℕ × ℕ)) (found : Declared s p x 8 n r) where
+  pub enter-else : (b : Body) → r ≡ None → (Indexed s p x → Declared s p x 8 n None → IsBody s p n b) → Entering s p n (Some b)
   enter-else b m h = (sym ((slot-none s p x n r found m).is i), body-else s p x i n r found b m h)
 
-  module _ (a k : ℕ) (y : Str) (o : OptText) (m : r ≡ At a k) (d : y ≡ drop a s) (e : o ≡ opt_text_at y 4) where
-    pub enter-slotted : (t : Text) → o ≡ Given t → Entering s p n Nothing
+  module _ (a k : ℕ) (y : Str) (o : Option Text) (m : r ≡ Some (a, k)) (d : y ≡ drop a s) (e : o ≡ opt_text_at y 4) where
+    pub enter-slotted : (t : Text) → o ≡ Some t → Entering s p n None
     enter-slotted t h = sym ((slot-given s p x n r found a k y o m d e t h).is i)
 
-    pub enter-free : (c : Cursor) → o ≡ Absent → c ≡ place k → Entering s p n (Fields (record { place = a; from = c; family = false }))
+    pub enter-free : (c : Cursor) → o ≡ None → c ≡ place k → Entering s p n (Some (record { place = a; from = c; family = false }))
     enter-free c h g = (sym ((slot-absent s p x n r found a k y o m d e h).is i), body-struct s p x i n r found a k c m g)
 
 pub ruleset enter-laws = (enter-else, enter-slotted, enter-free)
 
 -- a step -----------------------------------------------------------------------------------------------------------------
 
-module _ (f : Bool) (s : Str) (at : ℕ) (o : Between) (u : o ≡ between f) (r : Sought) (i : SoughtFrom s o 11 at r) where
+module _ (f : Bool) (s : Str) (at : ℕ) (o : Between) (u : o ≡ between f) (r : Option (ℕ × ℕ)) (i : SoughtFrom s o 11 at r) where
   body-from : SoughtFrom s (between f) 11 at r
   body-from = subst (λ (x : Between). SoughtFrom s x 11 at r) u i
 
-  pub place_end : r ≡ Nowhere → PlacesFrom f s at NoPlace
+  pub place_end : r ≡ None → PlacesFrom f s at None
   unfolding body_at
   place_end m = record { list = λ p. listed-none s (between f) 11 _ at r body-from m; left = omega arith; within = omega arith; number = refl }
 
-  pub place_found : (a k : ℕ) (c : Cursor) → r ≡ At a k → c ≡ place k → PlacesFrom f s at (APlace a c)
+  pub place_found : (a k : ℕ) (c : Cursor) → r ≡ Some (a, k) → c ≡ place k → PlacesFrom f s at (Some (a, c))
   unfolding body_at keys_at width_of width_with operands widths wide bytes
   place_found a k c m g =
       let h = sought-stands s o 11 at r i a k m in
@@ -199,49 +192,49 @@ module _ (f : Bool) (s : Str) (at : ℕ) (o : Between) (u : o ≡ between f) (r 
 pub ruleset place-laws = (place_end, place_found)
 
 -- the cursor moves on
-pub places-nearer : (f : Bool) (s : Str) (at : ℕ) (r : PlaceStep) → PlacesFrom f s at r → (q : ℕ) (k : Cursor) → r ≡ APlace q k → length s - k.at < length s - at
+pub places-nearer : (f : Bool) (s : Str) (at : ℕ) (r : Step ℕ) → PlacesFrom f s at r → (q : ℕ) (k : Cursor) → r ≡ Some (q, k) → length s - k.at < length s - at
 places-nearer f s at r h q k m = let g : suc (length s - k.at) ≤ length s - at = subst (λ x. body_left s x ≤ length s - at) m h.left in omega arith
 
 -- a name that is entered is the one referred to, and has no slot
-pub entered-is : (t : Types) (o : Option Str) (n : Str) → entered t o ≡ some n → (o ≡ some n) × (has_slot t n ≡ false)
+pub entered-is : (t : Types) (o : Option Str) (n : Str) → entered t o ≡ Some n → (o ≡ Some n) × (has_slot t n ≡ false)
 unfolding entered
-entered-is t none n e = absurd (let z : ◌≡◌ {A = ℕ} 0 1 = cc in omega arith)
-entered-is t (some x) n e = go (has_slot t x) refl e
+entered-is t None n e = absurd (let z : ◌≡◌ {A = ℕ} 0 1 = cc in omega arith)
+entered-is t (Some x) n e = go (has_slot t x) refl e
   where
-    go : (b : Bool) → has_slot t x ≡ b → cond b none (some x) ≡ some n → (some x ≡ some n) × (has_slot t n ≡ false)
+    go : (b : Bool) → has_slot t x ≡ b → cond b None (Some x) ≡ Some n → (Some x ≡ Some n) × (has_slot t n ≡ false)
     go true h g = absurd (let z : ◌≡◌ {A = ℕ} 0 1 = cc in omega arith)
     go false h g = let y : x ≡ n = cc in (g, ap (has_slot t) (sym y) ∙ h)
 
-pub is-entered : (t : Types) (o : Option Str) (n : Str) → o ≡ some n → has_slot t n ≡ false → entered t o ≡ some n
+pub is-entered : (t : Types) (o : Option Str) (n : Str) → o ≡ Some n → has_slot t n ≡ false → entered t o ≡ Some n
 unfolding entered
 is-entered t o n e h = rw (e, h)
 
-not_entered : (t : Types) (n : Str) → has_slot t n ≡ true → entered t (some n) ≡ none
+not_entered : (t : Types) (n : Str) → has_slot t n ≡ true → entered t (Some n) ≡ None
 unfolding entered
 not_entered t n h = rw h
 
 -- what a field leads to --------------------------------------------------------------------------------------------------
 
 module _ (s p : Str) (q : ℕ) where
-  pub reference-is : (x : Str) (r : OptText) → x ≡ drop q s → Refers p (field_at x) r → opt_of p r ≡ reference_at s p q
+  pub reference-is : (x : Str) (r : Option Text) → x ≡ drop q s → Refers p (field_at x) r → opt_of p r ≡ reference_at s p q
   unfolding reference_at
-  reference-is x r h g = g.name none ∙ ap (λ (y : Str). referenced (field_of p (field_at y) none)) h
+  reference-is x r h g = g.name None ∙ ap (λ (y : Str). referenced (field_of p (field_at y) None)) h
 
-  module _ (r : OptText) (found : opt_of p r ≡ reference_at s p q) where
-    pub target_none : r ≡ Absent → LeadsToTarget s p q Nothing
+  module _ (r : Option Text) (found : opt_of p r ≡ reference_at s p q) where
+    pub target_none : r ≡ None → LeadsToTarget s p q None
     unfolding target_at entered
     target_none m = ap (entered (types_at s p)) (sym found ∙ ap (opt_of p) m)
 
-    module _ (x : List ℕ) (i : Indexed s p x) (t : Text) (w : Str) (m : r ≡ Given t) (e : w ≡ text_of p t) where
-      named : reference_at s p q ≡ some w
-      named = sym found ∙ ap (opt_of p) m ∙ ap some (sym e)
+    module _ (x : List ℕ) (i : Indexed s p x) (t : Text) (w : Str) (m : r ≡ Some t) (e : w ≡ text_of p t) where
+      named : reference_at s p q ≡ Some w
+      named = sym found ∙ ap (opt_of p) m ∙ ap Some (sym e)
 
-      entered-target : (o : Target) → Entering s p w o → LeadsToTarget s p q o
+      entered-target : (o : Option Body) → Entering s p w o → LeadsToTarget s p q o
       unfolding target_at
-      entered-target Nothing h = ap (entered (types_at s p)) named ∙ not_entered (types_at s p) w h
-      entered-target (Fields b) h = record { name = w; target = is-entered (types_at s p) (reference_at s p q) w named h.0; body = h.1 }
+      entered-target None h = ap (entered (types_at s p)) named ∙ not_entered (types_at s p) w h
+      entered-target (Some b) h = record { name = w; target = is-entered (types_at s p) (reference_at s p q) w named h.0; body = h.1 }
 
-      pub target-entered : (o : Target) → (Indexed s p x → Entering s p w o) → LeadsToTarget s p q o
+      pub target-entered : (o : Option Body) → (Indexed s p x → Entering s p w o) → LeadsToTarget s p q o
       target-entered o h = entered-target o (h i)
 
 pub ruleset target-laws = (target_none, target-entered)

@@ -1,8 +1,8 @@
 -- Over a pool of 20 to 7E hex alone a record is read as document 01 has it, before W-206 of 02: its rules for letters and texts stand here as they were,
 -- and nowhere else. Assumes nothing.
+use Rattle.std.specs.Prelude.{Option, Some, None, Result, Err}
 use Prim.Native.Nat.{ℕ, zero, suc, ◌+◌, ◌-◌}
 use mathlib.Core.List.{[], ◌∷◌}
-use mathlib.Core.Option.{Option, none, some}
 use mathlib.Core.Bool.{Bool, true, ◌&&◌, cond, and-true}
 use mathlib.Core.Path.{◌≡◌, refl, sym, ap, ap₂, ◌∙◌}
 use lib.Dec.{eqb, ltb, leb}
@@ -17,28 +17,24 @@ use Rattle.record.specs.Commands.{operands, wide, widths, start}
 use Rattle.record.specs.Letters.{odd_letter}
 use Rattle.record.specs.Judge.{worse_of, if_absent, text_fault, flag_fault, operand_fault, faults_from, may_stand, ready, faulted, judged_with, judged_as, judged_at}
 use Rattle.record.specs.Reading.{Rec, Parsed, bad, continued, parse, parsed, stream_limit, pool_limit, Reading, concluded, reading}
-use Rattle.record.specs.declared.operands.OptText.{OptText}
-use Rattle.record.specs.declared.operands.OptText.TheVariants.{Absent, Given}
 use Rattle.record.specs.declared.command.Cursor.{Cursor}
 use Rattle.record.specs.declared.refusal.Side.{Side}
 use Rattle.record.specs.declared.refusal.Refusal.TheVariants as R
-use Rattle.record.specs.declared.letters.Letters.{Letters}
-use Rattle.record.specs.declared.letters.Letters.TheVariants.{Good, Odd}
 use Rattle.record.specs.declared.judge.Fault.{Fault}
 use Rattle.record.specs.declared.judge.Fault.TheVariants.{Fine, Outside}
-use Rattle.record.specs.declared.judge.Judged.{Judged}
-use Rattle.record.specs.declared.judge.Judged.TheVariants.{Refused}
 use Rattle.record.proofs.Basics.{both}
+use Rattle.record.specs.declared.text.Text.{Text}
+use Rattle.record.specs.Judge.{Judged}
 
 -- 01: 7 at the first byte outside 20 to 7E hex
-odd_letter01 : ℕ → Str → Letters
-odd_letter01 i [] = Good
-odd_letter01 i (b ∷ bs) = cond (leb 32 b && leb b 126) (odd_letter01 (i + 1) bs) (Odd i)
+odd_letter01 : ℕ → Str → Option ℕ
+odd_letter01 i [] = None
+odd_letter01 i (b ∷ bs) = cond (leb 32 b && leb b 126) (odd_letter01 (i + 1) bs) (Some i)
 
 -- 01: 4 for a text that does not lie in the pool, whose length is given
-text_fault01 : ℕ → Fault → OptText → Fault
-text_fault01 n absent Absent = absent
-text_fault01 n absent (Given t) = cond (leb (t.start + t.len) n) Fine Outside
+text_fault01 : ℕ → Fault → Option Text → Fault
+text_fault01 n absent None = absent
+text_fault01 n absent (Some t) = cond (leb (t.start + t.len) n) Fine Outside
 
 operand_fault01 : Side → ℕ → Str → ℕ → ℕ → Fault
 operand_fault01 side n x i o =
@@ -53,16 +49,16 @@ faults_from01 side n x i (o ∷ os) = worse_of (operand_fault01 side n x i o) (f
 
 judged_with01 : Side → Str → ℕ → Cursor → Str → ℕ → Bool → Judged
 judged_with01 side s n c os w stands =
-    cond (ltb (length s - c.at) w) (Refused R.Cut c.at)
-    (cond stands (faulted c.at (ready s c (get_or s c.at 0) w) (faults_from01 side n (drop c.at s) 1 os)) (Refused R.Misplaced c.at))
+    cond (ltb (length s - c.at) w) (Err (R.Cut, c.at))
+    (cond stands (faulted c.at (ready s c (get_or s c.at 0) w) (faults_from01 side n (drop c.at s) 1 os)) (Err (R.Misplaced, c.at)))
 
 judged_as01 : Side → Str → ℕ → Cursor → ℕ → Option Str → Judged
-judged_as01 side s n c b none = Refused R.Unknown c.at
-judged_as01 side s n c b (some os) = judged_with01 side s n c os (1 + widths os) (may_stand c b)
+judged_as01 side s n c b None = Err (R.Unknown, c.at)
+judged_as01 side s n c b (Some os) = judged_with01 side s n c os (1 + widths os) (may_stand c b)
 
 judged_at01 : Side → Str → ℕ → Cursor → Judged
 judged_at01 side s n c =
-    cond (ltb c.at (length s)) (judged_as01 side s n c (get_or s c.at 0) (operands (get_or s c.at 0))) (Refused R.Cut c.at)
+    cond (ltb c.at (length s)) (judged_as01 side s n c (get_or s c.at 0) (operands (get_or s c.at 0))) (Err (R.Cut, c.at))
 
 parse01 : ℕ → Side → Str → ℕ → Cursor → Parsed
 parse01 zero side s n c = bad R.Cut c.at
@@ -74,21 +70,21 @@ reading01 side r =
     (parse01 (length r.stream + 1) side r.stream (length r.pool) start)
 
 -- letters
-letters-01 : (i : ℕ) (s : Str) → all_plain s ≡ true → odd_letter01 i s ≡ Good
+letters-01 : (i : ℕ) (s : Str) → all_plain s ≡ true → odd_letter01 i s ≡ None
 unfolding odd_letter01 all_plain is_plain inside
 letters-01 i [] h = refl
 letters-01 i (b ∷ s) h = let k = both (leb 32 b && leb b 126) (all_plain s) h in rw k.0 (letters-01 (i + 1) s k.1)
 
-pub plain-letters : (s : Str) → all_plain s ≡ true → odd_letter s ≡ Good
+pub plain-letters : (s : Str) → all_plain s ≡ true → odd_letter s ≡ None
 unfolding odd_letter
 plain-letters s h = rw (eq-eqb (odd_place s) (length s) (sym (plain-all s (all_plain s) refl h)))
 
 -- commands
 module _ (p : Str) (h : all_plain p ≡ true) where
-  text_same : (a : Fault) (t : OptText) → text_fault p a t ≡ text_fault01 (length p) a t
+  text_same : (a : Fault) (t : Option Text) → text_fault p a t ≡ text_fault01 (length p) a t
   unfolding text_fault01
-  text_same a Absent = refl
-  text_same a (Given t) =
+  text_same a None = refl
+  text_same a (Some t) =
       rw (plain-no-tail p t.start h, plain-no-tail p (t.start + t.len) h) (ap (λ (b : Bool). cond b Fine Outside) (and-true (leb (t.start + t.len) (length p))))
 
   operand_same : (side : Side) (x : Str) (i o : ℕ) → operand_fault side p x i o ≡ operand_fault01 side (length p) x i o
@@ -109,18 +105,18 @@ module _ (p : Str) (h : all_plain p ≡ true) where
     judged-with c os w stands =
         ap
         (λ (f : Fault).
-        cond (ltb (length s - c.at) w) (Refused R.Cut c.at) (cond stands (faulted c.at (ready s c (get_or s c.at 0) w) f) (Refused R.Misplaced c.at)))
+        cond (ltb (length s - c.at) w) (Err (R.Cut, c.at)) (cond stands (faulted c.at (ready s c (get_or s c.at 0) w) f) (Err (R.Misplaced, c.at))))
         (faults-same side (drop c.at s) 1 os)
 
     judged-as : (c : Cursor) (b : ℕ) (o : Option Str) → judged_as side s p c b o ≡ judged_as01 side s (length p) c b o
     unfolding judged_as01
-    judged-as c b none = refl
-    judged-as c b (some os) = judged-with c os (1 + widths os) (may_stand c b)
+    judged-as c b None = refl
+    judged-as c b (Some os) = judged-with c os (1 + widths os) (may_stand c b)
 
     judged-same : (c : Cursor) → judged_at side s p c ≡ judged_at01 side s (length p) c
     unfolding judged_at judged_at01
     judged-same c =
-        ap (λ (j : Judged). cond (ltb c.at (length s)) j (Refused R.Cut c.at)) (judged-as c (get_or s c.at 0) (operands (get_or s c.at 0)))
+        ap (λ (j : Judged). cond (ltb c.at (length s)) j (Err (R.Cut, c.at))) (judged-as c (get_or s c.at 0) (operands (get_or s c.at 0)))
 
     parse-same : (k : ℕ) (c : Cursor) → parse k side s p c ≡ parse01 k side s (length p) c
     unfolding parse parse01
@@ -132,6 +128,6 @@ pub plain-reading : (side : Side) (r : Rec) → all_plain r.pool ≡ true → re
 unfolding reading reading01 parsed
 plain-reading side r h =
     ap₂
-    (λ (l : Letters) (x : Parsed). concluded r (leb (length r.stream) stream_limit && leb (length r.pool) pool_limit) l x)
+    (λ (l : Option ℕ) (x : Parsed). concluded r (leb (length r.stream) stream_limit && leb (length r.pool) pool_limit) l x)
     (plain-letters r.pool h ∙ sym (letters-01 0 r.pool h))
     (parse-same r.pool h side r.stream (length r.stream + 1) start)

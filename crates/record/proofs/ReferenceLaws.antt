@@ -1,7 +1,7 @@
 -- What each way out of the look-ups of references and slots says. Assumes nothing.
+use Rattle.std.specs.Prelude.{Option, Some, None}
 use mathlib.Core.Path.{◌≡◌, refl, sym, ap, subst, ◌∙◌}
 use mathlib.Core.List.{List, [], ◌∷◌}
-use mathlib.Core.Option.{Option}
 use mathlib.Core.Bool.{Bool, true, false}
 use mathlib.Core.Logic.{⊎_elim}
 use Prim.Native.Nat.{ℕ}
@@ -18,14 +18,10 @@ use Rattle.record.specs.Lists.{opt_of, field_of}
 use Rattle.record.specs.Index.{Indexed, Declared}
 use Rattle.record.specs.Owner.{referenced, referenced_as, slotted, has_slot}
 use Rattle.record.specs.References.{types_at, Refers, HasSlot}
-use Rattle.record.specs.declared.operands.OptText.{OptText}
-use Rattle.record.specs.declared.operands.OptText.TheVariants.{Absent, Given}
 use Rattle.record.specs.declared.text.Text.{Text}
 use Rattle.record.specs.declared.kind.Kind.{Kind}
 use Rattle.record.specs.declared.kind.Kind.TheVariants as K
 use Rattle.record.specs.declared.command as D
-use Rattle.record.specs.declared.seek.Sought.{Sought}
-use Rattle.record.specs.declared.seek.Sought.TheVariants.{Nowhere, At}
 use Rattle.record.specs.contracts.kind.Kind.{the_type as kinds}
 
 -- referenced_type --------------------------------------------------------------------------------------------------------
@@ -69,27 +65,27 @@ tag-gives K.Other = refl
 
 module _ (p y : Str) (t : Text) (w : Str) (v : Kind) (word : t ≡ text_at y 4) (named : w ≡ text_of p t) (meant : v ≡ kind_of w) where
   -- a field of a kind with this tag refers to what r means
-  abbrev As : OptText → ℕ → Type 0
+  abbrev As : Option Text → ℕ → Type 0
   As r n = (k : Option Key) → opt_of p r ≡ referenced_as (kind_at n) (field_of p (field_at y) k)
 
-  refers-as : (r : OptText) (ks : List ℕ) → All (As r) ks → OneOf ks (tag_of kinds v) → Refers p (field_at y) r
+  refers-as : (r : Option Text) (ks : List ℕ) → All (As r) ks → OneOf ks (tag_of kinds v) → Refers p (field_at y) r
   unfolding referenced
   refers-as r ks a h =
       let g = one_of (As r) ks a h in
       record { name = λ k. g k ∙ ap (λ (x : Kind). referenced_as x (field_of p (field_at y) k)) (tag-gives v ∙ meant ∙ ap kind_of (named ∙ ap (text_of p) word)) }
 
-  pub refers-type : (r : OptText) → r ≡ opt_text_at y 7 → OneOf (7 ∷ 10 ∷ 11 ∷ []) (tag_of kinds v) → Refers p (field_at y) r
+  pub refers-type : (r : Option Text) → r ≡ opt_text_at y 7 → OneOf (7 ∷ 10 ∷ 11 ∷ []) (tag_of kinds v) → Refers p (field_at y) r
   unfolding referenced_as kind_at
   refers-type r e h = rw e (refers-as (opt_text_at y 7) (7 ∷ 10 ∷ 11 ∷ []) (λ k. refl, (λ k. refl, (λ k. refl, tt))) h)
 
-  pub refers-element : (r : OptText) → r ≡ opt_text_at y 10 → OneOf (8 ∷ 9 ∷ []) (tag_of kinds v) → Refers p (field_at y) r
+  pub refers-element : (r : Option Text) → r ≡ opt_text_at y 10 → OneOf (8 ∷ 9 ∷ []) (tag_of kinds v) → Refers p (field_at y) r
   unfolding referenced_as kind_at
   refers-element r e h = rw e (refers-as (opt_text_at y 10) (8 ∷ 9 ∷ []) (λ k. refl, (λ k. refl, tt)) h)
 
-  pub refers-nowhere : OneOf (0 ∷ 1 ∷ 2 ∷ 3 ∷ 4 ∷ 5 ∷ 6 ∷ 12 ∷ 13 ∷ 14 ∷ 15 ∷ 16 ∷ []) (tag_of kinds v) → Refers p (field_at y) Absent
+  pub refers-nowhere : OneOf (0 ∷ 1 ∷ 2 ∷ 3 ∷ 4 ∷ 5 ∷ 6 ∷ 12 ∷ 13 ∷ 14 ∷ 15 ∷ 16 ∷ []) (tag_of kinds v) → Refers p (field_at y) None
   unfolding referenced_as kind_at
   refers-nowhere h =
-      refers-as Absent (0 ∷ 1 ∷ 2 ∷ 3 ∷ 4 ∷ 5 ∷ 6 ∷ 12 ∷ 13 ∷ 14 ∷ 15 ∷ 16 ∷ [])
+      refers-as None (0 ∷ 1 ∷ 2 ∷ 3 ∷ 4 ∷ 5 ∷ 6 ∷ 12 ∷ 13 ∷ 14 ∷ 15 ∷ 16 ∷ [])
       (λ k. refl, (λ k. refl, (λ k. refl, (λ k. refl, (λ k. refl, (λ k. refl, (λ k. refl, (λ k. refl, (λ k. refl, (λ k. refl, (λ k. refl, (λ k. refl, tt)))))))))))) h
 
 pub ruleset reference-laws = (refers-type, refers-element, refers-nowhere)
@@ -121,34 +117,34 @@ referenced-key p f k j = key-free (kind_of (text_of p f.kind)) _ _ refl refl
 
 -- has_slot ---------------------------------------------------------------------------------------------------------------
 
-module _ (s p : Str) (x : List ℕ) (n : Str) (r : Sought) (found : Declared s p x 8 n r) where
-  pub slot-none : r ≡ Nowhere → HasSlot s p x n false
+module _ (s p : Str) (x : List ℕ) (n : Str) (r : Option (ℕ × ℕ)) (found : Declared s p x 8 n r) where
+  pub slot-none : r ≡ None → HasSlot s p x n false
   unfolding has_slot slotted
   slot-none m = record { is = λ i. rw ((found.named i).struct refl, m) }
 
-  module _ (a k : ℕ) (y : Str) (o : OptText) (m : r ≡ At a k) (d : y ≡ drop a s) (e : o ≡ opt_text_at y 4) where
-    has : (v : OptText) → o ≡ v → (i : Indexed s p x) → is_some (opt_of p v) ≡ has_slot (types_at s p) n
+  module _ (a k : ℕ) (y : Str) (o : Option Text) (m : r ≡ Some (a, k)) (d : y ≡ drop a s) (e : o ≡ opt_text_at y 4) where
+    has : (v : Option Text) → o ≡ v → (i : Indexed s p x) → is_some (opt_of p v) ≡ has_slot (types_at s p) n
     unfolding has_slot slotted
-    has v h i = ap (λ (z : OptText). is_some (opt_of p z)) (sym h ∙ e ∙ ap (λ (z : Str). opt_text_at z 4) d) ∙ sym (rw ((found.named i).struct refl, m))
+    has v h i = ap (λ (z : Option Text). is_some (opt_of p z)) (sym h ∙ e ∙ ap (λ (z : Str). opt_text_at z 4) d) ∙ sym (rw ((found.named i).struct refl, m))
 
-    pub slot-absent : o ≡ Absent → HasSlot s p x n false
+    pub slot-absent : o ≡ None → HasSlot s p x n false
     unfolding is_some
-    slot-absent h = record { is = λ i. has Absent h i }
+    slot-absent h = record { is = λ i. has None h i }
 
-    pub slot-given : (t : Text) → o ≡ Given t → HasSlot s p x n true
+    pub slot-given : (t : Text) → o ≡ Some t → HasSlot s p x n true
     unfolding is_some
-    slot-given t h = record { is = λ i. has (Given t) h i }
+    slot-given t h = record { is = λ i. has (Some t) h i }
 
 pub ruleset has-slot-laws = (slot-none, slot-absent, slot-given)
 
 -- is_text ----------------------------------------------------------------------------------------------------------------
 
-module _ (p n : Str) (o : OptText) where
-  pub text-absent : o ≡ Absent → false ≡ is_text (opt_of p o) n
+module _ (p n : Str) (o : Option Text) where
+  pub text-absent : o ≡ None → false ≡ is_text (opt_of p o) n
   unfolding is_text
   text-absent m = rw m
 
-  pub text_same : (t : Text) (w : Str) (b : Bool) → o ≡ Given t → w ≡ text_of p t → b ≡ eqs w n → b ≡ is_text (opt_of p o) n
+  pub text_same : (t : Text) (w : Str) (b : Bool) → o ≡ Some t → w ≡ text_of p t → b ≡ eqs w n → b ≡ is_text (opt_of p o) n
   unfolding is_text
   text_same t w b m h e = rw m (e ∙ ap (λ (x : Str). eqs x n) h)
 

@@ -1,9 +1,9 @@
 -- The roots' walks, one after the other. Once every type that was visited is full, whatever a root leads to is named by a marked field; and a
 -- mark is set only on what its root leads to. Assumes nothing.
+use Rattle.std.specs.Prelude.{Some, None}
 use mathlib.Core.Path.{◌≡◌, refl, sym, ap, subst, ◌∙◌}
 use mathlib.Core.List.Memᴰ
 use mathlib.Core.List.{List, Memᴰ}
-use mathlib.Core.Option.{some}
 use mathlib.Core.Bool.{Bool, true, false}
 use mathlib.Core.Logic.{◌⊎◌, inl, inr}
 use Prim.Native.Nat.{ℕ, suc, ◌≤◌, ◌<◌}
@@ -26,19 +26,18 @@ use Rattle.record.specs.declared.versioned.Versioned.{Versioned}
 use Rattle.record.specs.declared.command as D
 use Rattle.record.specs.declared.command.Cursor.{Cursor}
 use Rattle.record.specs.declared.marks.Body.{Body}
-use Rattle.record.specs.declared.lists.StructStep.{StructStep}
-use Rattle.record.specs.declared.lists.StructStep.TheVariants.{NoStruct, AStruct}
 use Rattle.record.proofs.PlaceLaws.{type-none}
 use Rattle.record.proofs.MarkLaws.{marked-stays, visited-stays, full-stays, walked_none, walked-into}
 use Rattle.record.proofs.Basics.{none≢some}
+use Rattle.record.specs.Commands.{Step}
 
 -- a root's walk ----------------------------------------------------------------------------------------------------------
 
-module _ (s p slot : Str) (mark : ℕ) (r : StructStep) (i : InSlot s p slot r) (m : List ℕ) where
-  none-claimed : r ≡ NoStruct → Claimed s p mark slot m m
+module _ (s p slot : Str) (mark : ℕ) (r : Step D.Struct.Struct) (i : InSlot s p slot r) (m : List ℕ) where
+  none-claimed : r ≡ None → Claimed s p mark slot m m
   none-claimed e = record { walked = walked_none s p; visited = λ root f. absurd (none≢some (sym (i.struct ∙ ap (struct_found s p) e) ∙ f)) }
 
-  some-claimed : (root : D.Struct.Struct) (k : Cursor) (w : Str) (after : List ℕ) → r ≡ AStruct root k → w ≡ text_of p root.name → TypeWalked s p mark w m after → Claimed s p mark slot m after
+  some-claimed : (root : D.Struct.Struct) (k : Cursor) (w : Str) (after : List ℕ) → r ≡ Some (root, k) → w ≡ text_of p root.name → TypeWalked s p mark w m after → Claimed s p mark slot m after
   some-claimed root k w after e h t = record {
     walked = walked-into s p (λ n l. record { root = there; fills = fills; leads = subst (λ (x : Str). Leads (types_at s p) x n) h l }) t.walked;
     visited = λ x f. subst (Visited s p after) (h ∙ ap (λ (y : Struct). y.name) (same x f)) t.visited;
@@ -47,17 +46,17 @@ module _ (s p slot : Str) (mark : ℕ) (r : StructStep) (i : InSlot s p slot r) 
       there : Struct
       there = struct_of p root (fields_at s p k.at)
 
-      fills : struct_in_slot slot (structs_at s p 0) ≡ some there
+      fills : struct_in_slot slot (structs_at s p 0) ≡ Some there
       fills = i.struct ∙ ap (struct_found s p) e
 
-      same : (x : Struct) → struct_in_slot slot (structs_at s p 0) ≡ some x → there ≡ x
-      same x f = let g : some there ≡ some x = sym fills ∙ f in cc
+      same : (x : Struct) → struct_in_slot slot (structs_at s p 0) ≡ Some x → there ≡ x
+      same x f = let g : Some there ≡ Some x = sym fills ∙ f in cc
 
-module _ (s p : Str) (x : List ℕ) (mark : ℕ) (r : StructStep) (m : List ℕ) where
-  pub root_none : r ≡ NoStruct → RootWalked s p x mark r m m
+module _ (s p : Str) (x : List ℕ) (mark : ℕ) (r : Step D.Struct.Struct) (m : List ℕ) where
+  pub root_none : r ≡ None → RootWalked s p x mark r m m
   root_none e = record { by = λ slot i j. none-claimed s p slot mark r i m e }
 
-  pub root-walked : (root : D.Struct.Struct) (k : Cursor) (w : Str) (b : Body) (after : List ℕ) → r ≡ AStruct root k → w ≡ text_of p root.name → (Indexed s p x → IsBody s p w b) → Led s p x m after (BodyWalked s p mark b m after) → RootWalked s p x mark r m after
+  pub root-walked : (root : D.Struct.Struct) (k : Cursor) (w : Str) (b : Body) (after : List ℕ) → r ≡ Some (root, k) → w ≡ text_of p root.name → (Indexed s p x → IsBody s p w b) → Led s p x m after (BodyWalked s p mark b m after) → RootWalked s p x mark r m after
   root-walked root k w b after e h f t = record { by = λ slot i j. some-claimed s p slot mark r i m root k w after e h ((t.so j).of w (f j)) }
 
 pub ruleset root_laws = (root_none, root-walked)
@@ -71,7 +70,7 @@ data Most (s : Str) (m : List ℕ) (k q : ℕ) : Type 0 where
 
 -- after the first k roots: what a marked field leads to was visited, what was visited is full, and no field's mark is above k
 record Settled (s p : Str) (m : List ℕ) (k : ℕ) : Type 0 where
-  closed : (q : ℕ) → get_or s q 0 ≡ 11 → (get_or m q 0 ≡ 0 → ⊥) → (n : Str) → target_at s p q ≡ some n → Visited s p m n
+  closed : (q : ℕ) → get_or s q 0 ≡ 11 → (get_or m q 0 ≡ 0 → ⊥) → (n : Str) → target_at s p q ≡ Some n → Visited s p m n
   filled : (n : Str) → Visited s p m n → Full s p m n
   most : (q : ℕ) → Most s m k q
 
@@ -103,7 +102,7 @@ module _ (s p : Str) where
       most = λ q. most q (c.walked.each q) (g.most q);
     }
       where
-        closed : (q : ℕ) → get_or s q 0 ≡ 11 → (get_or m q 0 ≡ 0 → ⊥) ⊎ ((n : Str) → target_at s p q ≡ some n → Visited s p after n) → (n : Str) → target_at s p q ≡ some n → Visited s p after n
+        closed : (q : ℕ) → get_or s q 0 ≡ 11 → (get_or m q 0 ≡ 0 → ⊥) ⊎ ((n : Str) → target_at s p q ≡ Some n → Visited s p after n) → (n : Str) → target_at s p q ≡ Some n → Visited s p after n
         closed q f (inl h) n t = visited-stays s p c.walked n (g.closed q f h n t)
         closed q f (inr v) n t = v n t
 
@@ -125,7 +124,7 @@ module _ (s p : Str) where
           record { place = f.place; leads = f.leads; marked = f.marked; most = field-most f.place f.field (settled-next.most f.place) };
     }
       where
-        sound : (q : ℕ) (n : Str) → get_or after q 0 ≡ suc k → target_at s p q ≡ some n → Change s p (suc k) (Through s p slot) m after q → Most s m k q → Through s p slot n
+        sound : (q : ℕ) (n : Str) → get_or after q 0 ≡ suc k → target_at s p q ≡ Some n → Change s p (suc k) (Through s p slot) m after q → Most s m k q → Through s p slot n
         sound q n e t (as_it_was h) (at_most l) = absurd (omega arith)
         sound q n e t (as_it_was h) (of-type z o) = absurd (omega arith)
         sound q n e t (a-field f) l = f.into n t
@@ -142,7 +141,7 @@ module _ (s p : Str) where
     complete = λ x n t e. let f = r.complete x n t e in complete n f (w.each f.place);
   }
     where
-      sound : (q : ℕ) (n : Str) → get_or after q 0 ≡ j → target_at s p q ≡ some n → Change s p k R m after q → Through s p slot n
+      sound : (q : ℕ) (n : Str) → get_or after q 0 ≡ j → target_at s p q ≡ Some n → Change s p k R m after q → Through s p slot n
       sound q n e t (as_it_was h) = r.sound q n (sym h ∙ e) t
       sound q n e t (a-field f) = absurd (let h = f.is in omega arith)
       sound q n e t (a-type f) = absurd (let h = f.is in omega arith)

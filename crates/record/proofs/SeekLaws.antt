@@ -1,11 +1,12 @@
 -- The place after a command, a step along the places of a list, and the list by its places. Assumes nothing.
+use Rattle.std.specs.Prelude.{Option, Some, None}
 use Prim.Native.Nat.{ℕ, ◌+◌, ◌-◌, ◌≤◌, ◌<◌}
 use mathlib.Core.List.Memᴰ
 use mathlib.Core.List.{List, [], ◌∷◌, Memᴰ, map, map-id}
 use mathlib.Core.Bool.{Bool, true, false}
 use mathlib.Core.Path.{◌≡◌, refl, sym, ap, ap₂, subst, ◌∙◌}
 use native.Mathlib.Omega.{arith}
-use borrow.Author.Tests.{eqb-true, eqb-false, ne_eqb}
+use borrow.Author.Tests.{eqb-true, eqb-false}
 use lib.Dec.{eqb}
 use lib.ListN.{length, get_or}
 use Rattle.record.specs.Base.{Str}
@@ -13,21 +14,19 @@ use Rattle.record.specs.Commands.{width_of, step_at, commands_at}
 use Rattle.record.specs.Lists.{listed}
 use Rattle.record.specs.declared.command.Cursor.{Cursor}
 use Rattle.record.specs.declared.command.Command.{Command}
-use Rattle.record.specs.declared.command.Step.{Step}
-use Rattle.record.specs.declared.command.Step.TheVariants.{Next, Stop}
 use Rattle.record.proofs.CommandLaws.{step_end, step-last, step-unknown, step_cut, step-next}
 use Rattle.record.proofs.Stream.{step-found, along, commands-stop, commands-next, commands-here, commands-later}
 use Rattle.record.proofs.ListLaws.{byte_of, byte-is, listed-stop, listed_here, listed-over, listed-end, listed_same}
 use Rattle.record.specs.Seek.{after_at, over_of, places_of, places_left, Standing, Stands, SoughtFrom}
 use Rattle.record.specs.declared.seek.Between.{Between}
-use Rattle.record.specs.declared.seek.Between.TheVariants.{Anything, Keys, Fields, Variants}
-use Rattle.record.specs.declared.seek.Sought.{Sought}
-use Rattle.record.specs.declared.seek.Sought.TheVariants.{Nowhere, At}
+use Rattle.record.specs.declared.seek.Between.TheVariants.{Anything}
+use Rattle.record.specs.Commands.{Step}
+use Rattle.record.specs.declared.command as D
 
 -- the place after a command ------------------------------------------------------------------------------------------------
 
 module _ (s : List ℕ) (at : ℕ) where
-  stopped : Stop ≡ step_at s at → 0 ≡ after_at s at
+  stopped : None ≡ step_at s at → 0 ≡ after_at s at
   unfolding after_at
   stopped e = rw (after_at, ← e)
 
@@ -61,7 +60,7 @@ pub ruleset after-laws = (after_last, after-unknown, after-cut, after_next)
 pub record Stepped (s : List ℕ) (at n : ℕ) : Type 0 where
   pub command : Command
   pub cursor : Cursor
-  pub step : step_at s at ≡ Next command cursor
+  pub step : step_at s at ≡ Some (command, cursor)
   pub to : cursor.at ≡ n
   pub number : get_or s at 0 ≡ byte_of command
 
@@ -70,17 +69,17 @@ module _ (s : List ℕ) (at n : ℕ) (e : n ≡ after_at s at) where
   unfolding after_at
   stepped z = go (step_at s at) refl e
     where
-      go : (t : Step) → step_at s at ≡ t → n ≡ elim t [ Next c k ↦ k.at | Stop ↦ 0 ] → Stepped s at n
-      go (Next c k) q f = record { command = c; cursor = k; step = q; to = sym f; number = byte-is s at c k q }
-      go Stop q f = absurd (z f)
+      go : (t : Step D.Command.Command) → step_at s at ≡ t → n ≡ elim t [ Some (c, k) ↦ k.at | None ↦ 0 ] → Stepped s at n
+      go (Some (c, k)) q f = record { command = c; cursor = k; step = q; to = sym f; number = byte-is s at c k q }
+      go None q f = absurd (z f)
 
-  pub ended-there : n ≡ 0 → step_at s at ≡ Stop
+  pub ended-there : n ≡ 0 → step_at s at ≡ None
   unfolding after_at
   ended-there z = go (step_at s at) refl (sym z ∙ e)
     where
-      go : (t : Step) → step_at s at ≡ t → ◌≡◌ {A = ℕ} 0 (elim t [ Next c k ↦ k.at | Stop ↦ 0 ]) → step_at s at ≡ Stop
-      go (Next c k) q f = let g = step-found s at c k q in let o = g.on in absurd (omega arith)
-      go Stop q f = q
+      go : (t : Step D.Command.Command) → step_at s at ≡ t → ◌≡◌ {A = ℕ} 0 (elim t [ Some (c, k) ↦ k.at | None ↦ 0 ]) → step_at s at ≡ None
+      go (Some (c, k)) q f = let g = step-found s at c k q in let o = g.on in absurd (omega arith)
+      go None q f = q
 
   pub after-nearer : (n ≡ 0 → ⊥) → length s - n < length s - at
   after-nearer z =
@@ -111,7 +110,7 @@ pub passing-here : (s : Str) (o : Between) (b a : ℕ) → Passing s o b a a
 passing-here s o b a = record { same = refl; ahead = omega arith; later = λ v m. m }
 
 module _ (s : Str) (o : Between) (b a at n : ℕ) (p : Passing s o b a at) (e : n ≡ after_at s at) where
-  pub seek-end : n ≡ 0 → SoughtFrom s o b a Nowhere
+  pub seek-end : n ≡ 0 → SoughtFrom s o b a None
   unfolding places_of
   seek-end z = record { list = p.same ∙ listed-stop s (over_of o) b (λ at rest. at) at (ended-there s at n e z); standing = tt }
 
@@ -122,7 +121,7 @@ module _ (s : Str) (o : Between) (b a at n : ℕ) (p : Passing s o b a at) (e : 
     number : byte_of t.command ≡ y
     number = sym (i ∙ t.number)
 
-    pub seek_hit : y ≡ b → SoughtFrom s o b a (At at n)
+    pub seek_hit : y ≡ b → SoughtFrom s o b a (Some (at, n))
     unfolding places_of
     seek_hit h =
         let g = step-found s at t.command t.cursor t.step in
@@ -143,7 +142,7 @@ module _ (s : Str) (o : Between) (b a at n : ℕ) (p : Passing s o b a at) (e : 
         }
 
     module _ (w : y ≡ b → ⊥) (q : Bool) (v : q ≡ over_of o y) where
-      pub seek_stop : q ≡ false → SoughtFrom s o b a Nowhere
+      pub seek_stop : q ≡ false → SoughtFrom s o b a None
       unfolding places_of
       seek_stop f = record {
         list = p.same ∙ listed-end s (over_of o) b (λ at rest. at) at t.command t.cursor t.step (λ h. w (sym number ∙ h)) (ap (over_of o) number ∙ sym v ∙ f);
@@ -164,31 +163,13 @@ module _ (s : Str) (o : Between) (b a at n : ℕ) (p : Passing s o b a at) (e : 
             later = λ x m. p.later x (commands-later s at t.command t.cursor t.step x (subst (λ (k : ℕ). Memᴰ x (commands_at s k)) (sym to) m));
           }
 
-pub seek-past : (s : Str) (o : Between) (b a at : ℕ) → Passing s o b a at → length s ≤ at → SoughtFrom s o b a Nowhere
+pub seek-past : (s : Str) (o : Between) (b a at : ℕ) → Passing s o b a at → length s ≤ at → SoughtFrom s o b a None
 seek-past s o b a at p h = seek-end s o b a at 0 p (after-end s at h) refl
 
 pub ruleset seek-laws = (seek-past, seek-end, seek_hit, seek_stop, seek-on)
 
-module _ (o : Between) (y : ℕ) where
-  pub over-keys : o ≡ Keys → eqb y 12 ≡ over_of o y
-  over-keys e = rw e
-
-  pub over-field : o ≡ Fields → y ≡ 11 → true ≡ over_of o y
-  over-field e h = rw (e, h)
-
-  pub over-fields : o ≡ Fields → (y ≡ 11 → ⊥) → eqb y 12 ≡ over_of o y
-  over-fields e h = rw (e, ne_eqb y 11 h)
-
-  pub over-variant : o ≡ Variants → y ≡ 10 → true ≡ over_of o y
-  over-variant e h = rw (e, h)
-
-  pub over-variants : o ≡ Variants → (y ≡ 10 → ⊥) → eqb y 12 ≡ over_of o y
-  over-variants e h = rw (e, ne_eqb y 10 h)
-
-pub ruleset over-laws = (over-keys, over-field, over-fields, over-variant, over-variants)
-
 -- the place moves on
-module _ (s : Str) (o : Between) (b at : ℕ) (r : Sought) (i : SoughtFrom s o b at r) (a k : ℕ) (m : r ≡ At a k) where
+module _ (s : Str) (o : Between) (b at : ℕ) (r : Option (ℕ × ℕ)) (i : SoughtFrom s o b at r) (a k : ℕ) (m : r ≡ Some (a, k)) where
   pub sought-stands : Standing s b at a k
   sought-stands = subst (Stands s b at) m i.standing
 
@@ -205,14 +186,14 @@ module _ {A : Type 0} (s : Str) (o : Between) (b : ℕ) (f : ℕ → List ℕ �
   unfolding places_of
   by-places at = sym (map-id (listed s (over_of o) b f (commands_at s at))) ∙ listed_same s (over_of o) b f (λ at rest. at) (λ (x : A). x) element here at
     where
-      here : (at : ℕ) (c : Command) (k : Cursor) → step_at s at ≡ Next c k → get_or s at 0 ≡ b → f at (commands_at s k.at) ≡ element at
+      here : (at : ℕ) (c : Command) (k : Cursor) → step_at s at ≡ Some (c, k) → get_or s at 0 ≡ b → f at (commands_at s k.at) ≡ element at
       here at c k e h = let g = step-found s at c k e in ap (λ (j : ℕ). f at (commands_at s j)) (g.wide ∙ ap (λ (x : ℕ). at + width_of x) h)
 
-  module _ (at : ℕ) (r : Sought) (i : SoughtFrom s o b at r) where
-    pub listed-none : r ≡ Nowhere → listed s (over_of o) b f (commands_at s at) ≡ []
+  module _ (at : ℕ) (r : Option (ℕ × ℕ)) (i : SoughtFrom s o b at r) where
+    pub listed-none : r ≡ None → listed s (over_of o) b f (commands_at s at) ≡ []
     listed-none m = by-places at ∙ ap (map element) (i.list ∙ ap (places_left s o b) m)
 
-    pub listed-some : (a k : ℕ) → r ≡ At a k → listed s (over_of o) b f (commands_at s at) ≡ f a (commands_at s k) ∷ listed s (over_of o) b f (commands_at s k)
+    pub listed-some : (a k : ℕ) → r ≡ Some (a, k) → listed s (over_of o) b f (commands_at s at) ≡ f a (commands_at s k) ∷ listed s (over_of o) b f (commands_at s k)
     listed-some a k m =
         let g = sought-stands s o b at r i a k m in
         by-places at ∙ ap (map element) (i.list ∙ ap (places_left s o b) m)
@@ -225,7 +206,7 @@ place-listed s b at h =
     along s (λ (a : ℕ). Memᴰ at (commands_at s a) → Memᴰ at (places_of s Anything b a)) (λ a e m. absurd (Memᴰ.not-nil (rw (commands-stop s a e) at m)))
     (λ a c k e ih m. go a c k e ih (eqb (byte_of c) b) refl (rw (commands-next s a c k e) at m))
   where
-    go : (a : ℕ) (c : Command) (k : Cursor) → step_at s a ≡ Next c k → (Memᴰ at (commands_at s k.at) → Memᴰ at (places_of s Anything b k.at))
+    go : (a : ℕ) (c : Command) (k : Cursor) → step_at s a ≡ Some (c, k) → (Memᴰ at (commands_at s k.at) → Memᴰ at (places_of s Anything b k.at))
         → (x : Bool) → eqb (byte_of c) b ≡ x → Memᴰ at (a ∷ commands_at s k.at) → Memᴰ at (places_of s Anything b a)
     go a c k e ih true q (Memᴰ.head z) = rw (listed_here s (over_of Anything) b (λ at rest. at) a c k e (eqb-true (byte_of c) b q)) (Memᴰ.head z)
     go a c k e ih true q (Memᴰ.tail m) = rw (listed_here s (over_of Anything) b (λ at rest. at) a c k e (eqb-true (byte_of c) b q)) (Memᴰ.tail (ih m))

@@ -1,4 +1,5 @@
 -- A record that can be read as current reads the same as released. Assumes nothing.
+use Rattle.std.specs.Prelude.{Option, Some, None, Result, Ok, Err}
 use mathlib.Core.Path.{◌≡◌, refl, sym, ◌∙◌, ap}
 use mathlib.Core.List.{List, [], ◌∷◌}
 use mathlib.Core.Bool.{Bool, true, false, cond}
@@ -13,15 +14,13 @@ use Rattle.record.specs.Operands.{flag_at, opt_text_at}
 use Rattle.record.specs.Commands.{wide, widths, start}
 use Rattle.record.specs.Judge.{worse_of, missing_in, if_absent, text_fault, flag_fault, operand_fault, faults_from, judged_with, judged_at}
 use Rattle.record.specs.Reading.{Rec, read, ok, continued, onto, parse, parsed, concluded, reading}
-use Rattle.record.specs.declared.operands.OptText.{OptText}
-use Rattle.record.specs.declared.operands.OptText.TheVariants.{Absent, Given}
 use Rattle.record.specs.declared.command.Cursor.{Cursor}
 use Rattle.record.specs.declared.refusal.Side.TheVariants.{Current, Released}
 use Rattle.record.specs.declared.judge.Fault.{Fault}
 use Rattle.record.specs.declared.judge.Fault.TheVariants.{Fine, Outside, Missing, Flag}
-use Rattle.record.specs.declared.judge.Judged.{Judged}
-use Rattle.record.specs.declared.judge.Judged.TheVariants.{Next, Done, Refused}
 use Rattle.record.proofs.Accepted.{Lets, passed, onto-ok, accepting}
+use Rattle.record.specs.declared.text.Text.{Text}
+use Rattle.record.specs.Judge.{Judged}
 
 pub worse-both : (a b : Fault) → worse_of a b ≡ Fine → (a ≡ Fine) × (b ≡ Fine)
 worse-both Fine b e = (refl, e)
@@ -46,9 +45,9 @@ absent-side x o e = go (eqb o 79) (eqb o 33) e
     go false true e = refl
     go false false e = e
 
-text-side : (pool : Str) (a b : Fault) (t : OptText) → (a ≡ Fine → b ≡ Fine) → text_fault pool a t ≡ Fine → text_fault pool b t ≡ Fine
-text-side pool a b Absent f e = f e
-text-side pool a b (Given t) f e = e
+text-side : (pool : Str) (a b : Fault) (t : Option Text) → (a ≡ Fine → b ≡ Fine) → text_fault pool a t ≡ Fine → text_fault pool b t ≡ Fine
+text-side pool a b None f e = f e
+text-side pool a b (Some t) f e = e
 
 module _ (pool : Str) (x : Str) where
   operand-side : (i o : ℕ) → operand_fault Current pool x i o ≡ Fine → operand_fault Released pool x i o ≡ Fine
@@ -84,11 +83,11 @@ parse-side (suc k) s pool c ps h = go (judged_at Current s pool c) refl (λ d qs
   where
     go : (j : Judged) → judged_at Current s pool c ≡ j → ((d : Cursor) (qs : List ℕ) → parse k Current s pool d ≡ ok qs → parse k Released s pool d ≡ ok qs)
         → continued c.at (parse k Current s pool) j ≡ ok ps → continued c.at (parse k Released s pool) (judged_at Released s pool c) ≡ ok ps
-    go (Next d k2) e ih t =
+    go (Ok (Some (d, k2))) e ih t =
         let i = onto-ok c.at (parse k Current s pool k2) ps t in
-        rw (judged-side s pool c (Next d k2) tt e) (rw (ih k2 i.more i.parsed-so) (ap ok i.whole))
-    go Done e ih t = rw (judged-side s pool c Done tt e) t
-    go (Refused m p) e ih t = absurd (let z : ◌≡◌ {A = ℕ} 0 1 = cc in omega arith)
+        rw (judged-side s pool c (Ok (Some (d, k2))) tt e) (rw (ih k2 i.more i.parsed-so) (ap ok i.whole))
+    go (Ok None) e ih t = rw (judged-side s pool c (Ok None) tt e) t
+    go (Err (m, p)) e ih t = absurd (let z : ◌≡◌ {A = ℕ} 0 1 = cc in omega arith)
 
 pub one-reading : (r : Rec) (t : Schema) → reading Current r ≡ read t → reading Released r ≡ read t
 unfolding reading parsed

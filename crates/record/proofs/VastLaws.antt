@@ -1,7 +1,7 @@
 -- The laws of the types in the order of the stream, and of the ends of their fields. Assumes nothing.
+use Rattle.std.specs.Prelude.{Option, Some, None}
 use mathlib.Core.Path.{◌≡◌, refl, sym, ap, ap₂, subst, ◌∙◌}
 use mathlib.Core.List.{List, [], ◌∷◌, ◌++◌}
-use mathlib.Core.Option.{none}
 use mathlib.Core.Bool.{Bool, true, false, ◌||◌}
 use Prim.Native.Nat.{ℕ, suc, ◌+◌, ◌-◌, ◌≤◌, ◌<◌}
 use native.Mathlib.Omega.{arith}
@@ -19,33 +19,19 @@ use Rattle.record.specs.Kind.{kind_of, kind_among, words}
 use Rattle.record.specs.Shapes.{enum_size, sized, scalar_size, size_as, shape_size, FieldLayout, place_of, places, plain, fam_prefix, limit, capped}
 use Rattle.record.specs.Reading.{rec, schema_from, schema_of, opened_at, opened, large, vast}
 use Rattle.record.specs.Vast.{opened_from, opened_of, opened_left, OpenedFrom, disc_size, len_size, front_end, vast_at, first_vast}
-use Rattle.record.specs.declared.operands.OptText.{OptText}
-use Rattle.record.specs.declared.operands.OptText.TheVariants.{Given}
 use Rattle.record.specs.declared.command as D
 use Rattle.record.specs.declared.command.Cursor.{Cursor}
-use Rattle.record.specs.declared.lists.FieldStep.TheVariants.{NoField, AField}
 use Rattle.record.specs.declared.seek.Between.TheVariants.{Keys}
-use Rattle.record.specs.declared.seek.Sought.{Sought}
-use Rattle.record.specs.declared.seek.Sought.TheVariants.{Nowhere, At}
 use Rattle.record.specs.declared.vast.TypeStep.{TypeStep}
 use Rattle.record.specs.declared.vast.TypeStep.TheVariants.{NoType, Plain, Fronted}
-use Rattle.record.specs.declared.vast.Vast.TheVariants.{NoneVast, VastAt}
 use Rattle.record.proofs.Stream.{commands-stop, commands-next}
 use Rattle.record.proofs.ListLaws.{find_none, find-hit, find-miss}
 use Rattle.record.proofs.SeekLaws.{Stepped, stepped, ended-there, after-nearer}
 use Rattle.record.proofs.StepLaws.{fields-none, fields-found, fields-over-now, fields-now}
 use Rattle.record.proofs.SizeLaws.{cap-low, cap-high, keyless}
+use Rattle.record.specs.declared.text.Text.{Text}
 
 -- one step along the types ------------------------------------------------------------------------------------------------
-
-module _ (b : ℕ) where
-  pub opens-struct : b ≡ 8 → true ≡ (eqb b 8 || eqb b 10)
-  opens-struct h = rw h
-
-  pub opens-variant : (b ≡ 8 → ⊥) → eqb b 10 ≡ (eqb b 8 || eqb b 10)
-  opens-variant h = rw (ne_eqb b 8 h)
-
-pub ruleset opens-laws = (opens-struct, opens-variant)
 
 -- the types from a place on are those from a later one
 pub record Onward (s : Str) (a at : ℕ) : Type 0 where
@@ -153,31 +139,31 @@ module _ (s p : Str) (w : List Scalar) where
   pub ending-begin : (offset at : ℕ) → offset ≤ limit → Ending (places (schema_of (rec s p w)) offset (fields_at s p at)) offset at
   ending-begin offset at h = record { so_far = refl; low = h }
 
-  module _ (fs : List FieldLayout) (offset at : ℕ) (i : Ending fs offset at) (r : Sought) (f : SoughtFrom s Keys 11 at r) where
-    pub ending-none : r ≡ Nowhere → false ≡ any large fs
+  module _ (fs : List FieldLayout) (offset at : ℕ) (i : Ending fs offset at) (r : Option (ℕ × ℕ)) (f : SoughtFrom s Keys 11 at r) where
+    pub ending-none : r ≡ None → false ≡ any large fs
     unfolding places any
-    ending-none m = sym (i.so_far ∙ rw (fields-over-now s at NoField (fields-none s at r f m) p refl))
+    ending-none m = sym (i.so_far ∙ rw (fields-over-now s at None (fields-none s at r f m) p refl))
 
-    module _ (a k : ℕ) (m : r ≡ At a k) (y : Str) (d : y ≡ drop a s) (z end : ℕ) (u : z ≡ capped (shape_size (schema_of (rec s p w)) (field_of p (field_at y) none))) (v : end ≡ capped (offset + z)) where
+    module _ (a k : ℕ) (m : r ≡ Some (a, k)) (y : Str) (d : y ≡ drop a s) (z end : ℕ) (u : z ≡ capped (shape_size (schema_of (rec s p w)) (field_of p (field_at y) None))) (v : end ≡ capped (offset + z)) where
       here : fields_at s p at ≡ field_of p (field_at y) (field_key_at s p k) ∷ fields_at s p k
-      here = fields-now s at (AField (field_at y) (place k)) (fields-found s at r f a k m y (field_at y) (place k) d refl refl) p (field_at y) (place k) refl
+      here = fields-now s at (Some (field_at y, place k)) (fields-found s at r f a k m y (field_at y) (place k) d refl refl) p (field_at y) (place k) refl
 
-      size_is : shape_size (schema_of (rec s p w)) (field_of p (field_at y) (field_key_at s p k)) ≡ shape_size (schema_of (rec s p w)) (field_of p (field_at y) none)
+      size_is : shape_size (schema_of (rec s p w)) (field_of p (field_at y) (field_key_at s p k)) ≡ shape_size (schema_of (rec s p w)) (field_of p (field_at y) None)
       unfolding shape_size
-      size_is = keyless (kind_of (field_of p (field_at y) none).kind) (schema_of (rec s p w)) p (field_at y) (field_key_at s p k)
+      size_is = keyless (kind_of (field_of p (field_at y) None).kind) (schema_of (rec s p w)) p (field_at y) (field_key_at s p k)
 
-      ending_at : any large fs ≡ (ltb limit (offset + shape_size (schema_of (rec s p w)) (field_of p (field_at y) none)) || any large (places (schema_of (rec s p w)) (offset + shape_size (schema_of (rec s p w)) (field_of p (field_at y) none)) (fields_at s p k)))
+      ending_at : any large fs ≡ (ltb limit (offset + shape_size (schema_of (rec s p w)) (field_of p (field_at y) None)) || any large (places (schema_of (rec s p w)) (offset + shape_size (schema_of (rec s p w)) (field_of p (field_at y) None)) (fields_at s p k)))
       unfolding places place_of any large
       ending_at = i.so_far ∙ rw (here, size_is)
 
       pub ending-past : limit < end → true ≡ any large fs
       ending-past h =
-          let g = end-past offset (shape_size (schema_of (rec s p w)) (field_of p (field_at y) none)) z end i.low u v h in
-          sym (ending_at ∙ rw (lt-ltb limit (offset + shape_size (schema_of (rec s p w)) (field_of p (field_at y) none)) g))
+          let g = end-past offset (shape_size (schema_of (rec s p w)) (field_of p (field_at y) None)) z end i.low u v h in
+          sym (ending_at ∙ rw (lt-ltb limit (offset + shape_size (schema_of (rec s p w)) (field_of p (field_at y) None)) g))
 
       pub ending-more : end ≤ limit → Ending fs end k
       ending-more h =
-          let x = end-exact offset (shape_size (schema_of (rec s p w)) (field_of p (field_at y) none)) z end i.low u v h in
+          let x = end-exact offset (shape_size (schema_of (rec s p w)) (field_of p (field_at y) None)) z end i.low u v h in
           record {
             so_far = ending_at ∙ rw (← x, le-ltb limit end h);
             low = h;
@@ -188,7 +174,7 @@ pub ruleset ending-laws = (ending-none, ending-past, ending-more)
 -- fronts of families ------------------------------------------------------------------------------------------------------
 
 module _ (s p : Str) (w : List Scalar) (f : D.Family.Family) where
-  pub front-is : (t : OptText) (a b x y r : ℕ) → t ≡ Given f.discriminant_type → a ≡ sized (opt_of p t) (enum_size (enums_at s p 0)) 1
+  pub front-is : (t : Option Text) (a b x y r : ℕ) → t ≡ Some f.discriminant_type → a ≡ sized (opt_of p t) (enum_size (enums_at s p 0)) 1
       → b ≡ prim_size w (or_else (opt_of p f.param_len_type) (bytes "u8")) → x ≡ a → y ≡ b → r ≡ capped (x + y)
       → r ≡ capped (front_end (schema_of (rec s p w)) (family_of p f [] []))
   unfolding front_end disc_size len_size scalar_size schema_of schema_from enums_at
@@ -249,12 +235,12 @@ pub ruleset front-laws = (front-past, front-on)
 -- the first vast type -----------------------------------------------------------------------------------------------------
 
 module _ (s p : Str) (w : List Scalar) (at : ℕ) (r : TypeStep) (f : OpenedFrom s at r) where
-  pub vast-end : r ≡ NoType → first_vast (rec s p w) at ≡ NoneVast
+  pub vast-end : r ≡ NoType → first_vast (rec s p w) at ≡ None
   unfolding first_vast
   vast-end m = ap vast_at (find_none (vast (schema_of (rec s p w))) _ (f.list p ∙ ap (opened_of s p) m))
 
   module _ (q : ℕ) (k : Cursor) (m : r ≡ Plain q k) (b : Bool) (e : b ≡ any large (places (schema_of (rec s p w)) 0 (fields_at s p k.at))) where
-    pub vast-plain : b ≡ true → first_vast (rec s p w) at ≡ VastAt q
+    pub vast-plain : b ≡ true → first_vast (rec s p w) at ≡ Some q
     unfolding first_vast vast
     vast-plain t = ap vast_at (find-hit (vast (schema_of (rec s p w))) _ _ _ (f.list p ∙ ap (opened_of s p) m) (sym e ∙ t))
 
@@ -266,7 +252,7 @@ module _ (s p : Str) (w : List Scalar) (at : ℕ) (r : TypeStep) (f : OpenedFrom
     plain-nearer = let h : suc (length s - k.at) ≤ length s - at = subst (λ x. opened_left s x ≤ length s - at) m f.left in omega arith
 
   module _ (q : ℕ) (x : D.Family.Family) (k : Cursor) (m : r ≡ Fronted q x k) (b : Bool) (e : b ≡ any large (places (schema_of (rec s p w)) 0 (fam_prefix (family_of p x [] []) ++ fields_at s p k.at))) where
-    pub vast-front : b ≡ true → first_vast (rec s p w) at ≡ VastAt q
+    pub vast-front : b ≡ true → first_vast (rec s p w) at ≡ Some q
     unfolding first_vast vast
     vast-front t = ap vast_at (find-hit (vast (schema_of (rec s p w))) _ _ _ (f.list p ∙ ap (opened_of s p) m) (sym e ∙ t))
 

@@ -1,8 +1,8 @@
 -- The walk finds the first root that leads to a name. Assumes nothing.
+use Rattle.std.specs.Prelude.{Option, Some, None}
 use mathlib.Core.Path.{◌≡◌, refl, sym, ◌∙◌, ap, subst}
 use mathlib.Core.List.Memᴰ
 use mathlib.Core.List.{List, [], ◌∷◌, map, Memᴰ}
-use mathlib.Core.Option.{Option, none, some}
 use mathlib.Core.Bool.{Bool, true, false, cond, false≢true}
 use mathlib.Core.Logic.{◌⊎◌, inl, inr}
 use Prim.Native.Nat.{ℕ, zero, suc, ◌+◌, ◌≤◌}
@@ -16,14 +16,14 @@ use Rattle.record.proofs.Basics.{eqs→eq, eqs-refl, find-some, none≢some}
 
 -- the name stands in the list
 abbrev Has : List Owned → Str → Type 0
-Has os n = (o : Owned) × (owned_in os n ≡ some o)
+Has os n = (o : Owned) × (owned_in os n ≡ Some o)
 
-has-or-not : (os : List Owned) (n : Str) → Has os n ⊎ (owned_in os n ≡ none)
+has-or-not : (os : List Owned) (n : Str) → Has os n ⊎ (owned_in os n ≡ None)
 has-or-not os n = go (owned_in os n) refl
   where
-    go : (x : Option Owned) → owned_in os n ≡ x → Has os n ⊎ (owned_in os n ≡ none)
-    go none e = inr e
-    go (some o) e = inl (o, e)
+    go : (x : Option Owned) → owned_in os n ≡ x → Has os n ⊎ (owned_in os n ≡ None)
+    go None e = inr e
+    go (Some o) e = inl (o, e)
 
 has-head : (n r : Str) (os : List Owned) → Has (record { name = n; root = r } ∷ os) n
 unfolding owned_in find
@@ -34,32 +34,32 @@ has-uncons : (n r : Str) (os : List Owned) (m : Str) → Has (record { name = n;
 unfolding owned_in find
 has-uncons n r os m h = go (eqs n m) refl h
   where
-    go : (b : Bool) → eqs n m ≡ b → (x : Owned) × (cond b (some (record { name = n; root = r })) (find (λ (u : Owned). eqs u.name m) os) ≡ some x)
+    go : (b : Bool) → eqs n m ≡ b → (x : Owned) × (cond b (Some (record { name = n; root = r })) (find (λ (u : Owned). eqs u.name m) os) ≡ Some x)
         → (n ≡ m) ⊎ Has os m
     go true e k = inl (eqs→eq n m e)
     go false e k = inr k
 
 -- older entries are found as before, where the names are others
-old-entry : (n r : Str) (os : List Owned) (m : Str) {o : Owned} → owned_in os n ≡ none → owned_in os m ≡ some o
-    → owned_in (record { name = n; root = r } ∷ os) m ≡ some o
+old-entry : (n r : Str) (os : List Owned) (m : Str) {o : Owned} → owned_in os n ≡ None → owned_in os m ≡ Some o
+    → owned_in (record { name = n; root = r } ∷ os) m ≡ Some o
 unfolding owned_in find
 old-entry n r os m {o} fresh h = go (eqs n m) refl
   where
-    go : (b : Bool) → eqs n m ≡ b → cond b (some (record { name = n; root = r })) (find (λ (u : Owned). eqs u.name m) os) ≡ some o
-    go true e = absurd (none≢some (sym fresh ∙ subst (λ (x : Str). find (λ (u : Owned). eqs u.name x) os ≡ some o) (sym (eqs→eq n m e)) h))
+    go : (b : Bool) → eqs n m ≡ b → cond b (Some (record { name = n; root = r })) (find (λ (u : Owned). eqs u.name m) os) ≡ Some o
+    go true e = absurd (none≢some (sym fresh ∙ subst (λ (x : Str). find (λ (u : Owned). eqs u.name x) os ≡ Some o) (sym (eqs→eq n m e)) h))
     go false e = h
 
 -- how many of these names the list has not
 count_one : Option Owned → ℕ → ℕ
-count_one none n = suc n
-count_one (some o) n = n
+count_one None n = suc n
+count_one (Some o) n = n
 
 missing : List Owned → List Str → ℕ
 missing os [] = 0
 missing os (x ∷ xs) = count_one (owned_in os x) (missing os xs)
 
 abbrev Sub : List Owned → List Owned → Type 0
-Sub a b = (n : Str) (o : Owned) → owned_in a n ≡ some o → owned_in b n ≡ some o
+Sub a b = (n : Str) (o : Owned) → owned_in a n ≡ Some o → owned_in b n ≡ Some o
 
 missing-sub : (a b : List Owned) (l : List Str) → Sub a b → missing b l ≤ missing a l
 unfolding missing count_one
@@ -67,26 +67,26 @@ missing-sub a b [] s = omega arith
 missing-sub a b (x ∷ xs) s = go (owned_in a x) (owned_in b x) refl refl (missing-sub a b xs s)
   where
     go : (u v : Option Owned) → owned_in a x ≡ u → owned_in b x ≡ v → missing b xs ≤ missing a xs → count_one v (missing b xs) ≤ count_one u (missing a xs)
-    go none none e f h = omega arith
-    go none (some o) e f h = omega arith
-    go (some o) none e f h = absurd (none≢some (sym f ∙ s x o e))
-    go (some o) (some q) e f h = h
+    go None None e f h = omega arith
+    go None (Some o) e f h = omega arith
+    go (Some o) None e f h = absurd (none≢some (sym f ∙ s x o e))
+    go (Some o) (Some q) e f h = h
 
-missing-less : (a b : List Owned) (l : List Str) (n : Str) → Sub a b → Memᴰ n l → owned_in a n ≡ none → Has b n → missing b l + 1 ≤ missing a l
+missing-less : (a b : List Owned) (l : List Str) (n : Str) → Sub a b → Memᴰ n l → owned_in a n ≡ None → Has b n → missing b l + 1 ≤ missing a l
 unfolding missing count_one
 missing-less a b [] n s m f h = absurd (Memᴰ.not-nil m)
 missing-less a b (x ∷ xs) n s (Memᴰ.head e) f h =
-    let p : owned_in a x ≡ none = subst (λ (y : Str). owned_in a y ≡ none) e f in
-    let q : owned_in b x ≡ some h.0 = subst (λ (y : Str). owned_in b y ≡ some h.0) e h.1 in
+    let p : owned_in a x ≡ None = subst (λ (y : Str). owned_in a y ≡ None) e f in
+    let q : owned_in b x ≡ Some h.0 = subst (λ (y : Str). owned_in b y ≡ Some h.0) e h.1 in
     let k = missing-sub a b xs s in
     rw (p, q) (omega arith)
 missing-less a b (x ∷ xs) n s (Memᴰ.tail m) f h = go (owned_in a x) (owned_in b x) refl refl (missing-less a b xs n s m f h)
   where
     go : (u v : Option Owned) → owned_in a x ≡ u → owned_in b x ≡ v → missing b xs + 1 ≤ missing a xs → count_one v (missing b xs) + 1 ≤ count_one u (missing a xs)
-    go none none e g k = omega arith
-    go none (some o) e g k = omega arith
-    go (some o) none e g k = absurd (none≢some (sym g ∙ s x o e))
-    go (some o) (some q) e g k = k
+    go None None e g k = omega arith
+    go None (Some o) e g k = omega arith
+    go (Some o) None e g k = absurd (none≢some (sym g ∙ s x o e))
+    go (Some o) (Some q) e g k = k
 
 missing-length : (os : List Owned) (l : List Str) → missing os l ≤ length l
 unfolding missing count_one
@@ -94,8 +94,8 @@ missing-length os [] = omega arith
 missing-length os (x ∷ xs) = go (owned_in os x) (missing-length os xs)
   where
     go : (u : Option Owned) → missing os xs ≤ length xs → count_one u (missing os xs) ≤ suc (length xs)
-    go none h = omega arith
-    go (some o) h = omega arith
+    go None h = omega arith
+    go (Some o) h = omega arith
 
 -- a name that nothing declares has no fields
 declared-or-empty : (s : Types) (n : Str) → Memᴰ n (declared s) ⊎ (type_fields s n ≡ [])
@@ -103,13 +103,13 @@ unfolding declared type_fields fields_in struct_in family_in
 declared-or-empty s n = go (struct_in n s.structs) (family_in n s.families) refl refl
   where
     go : (t : Option Struct) (m : Option Family) → struct_in n s.structs ≡ t → family_in n s.families ≡ m → Memᴰ n (declared s) ⊎ (fields_in t m ≡ [])
-    go (some t) m e f =
+    go (Some t) m e f =
         let i = find-some (λ (x : Struct). eqs x.name n) s.structs e in
         inl (Memᴰ.append_left (map (λ (x : Family). x.name) s.families) (Memᴰ.cast (sym (eqs→eq _ _ i.1)) (Memᴰ.map (λ (x : Struct). x.name) i.0)))
-    go none (some m) e f =
+    go None (Some m) e f =
         let i = find-some (λ (x : Family). eqs x.name n) s.families f in
         inl (Memᴰ.append_right (map (λ (x : Struct). x.name) s.structs) (Memᴰ.cast (sym (eqs→eq _ _ i.1)) (Memᴰ.map (λ (x : Family). x.name) i.0)))
-    go none none e f = inr refl
+    go None None e f = inr refl
 
 -- what a walk does to the list: older entries stay, and what is new has its references in
 record Walked (s : Types) (os after : List Owned) : Type 0 where
@@ -135,13 +135,13 @@ abbrev Works : Types → (Str → List Owned → List Owned) → ℕ → Type 0
 Works s go d = (n : Str) (os : List Owned) → missing os (declared s) ≤ d → Walked s os (go n os) × Has (go n os) n
 
 visit-works : (s : Types) (go : Str → List Owned → List Owned) (d : ℕ) → Works s go d → (o : Option Str) (os : List Owned) → missing os (declared s) ≤ d
-    → Walked s os (visit go s o os) × ((n : Str) → o ≡ some n → has_slot s n ≡ false → Has (visit go s o os) n)
+    → Walked s os (visit go s o os) × ((n : Str) → o ≡ Some n → has_slot s n ≡ false → Has (visit go s o os) n)
 unfolding visit unless
-visit-works s go d w none os h = (walked-refl s os, λ n e f. absurd (none≢some e))
-visit-works s go d w (some x) os h = slot (has_slot s x) refl
+visit-works s go d w None os h = (walked-refl s os, λ n e f. absurd (none≢some e))
+visit-works s go d w (Some x) os h = slot (has_slot s x) refl
   where
     slot : (b : Bool) → has_slot s x ≡ b
-        → Walked s os (unless b (go x) os) × ((n : Str) → some x ≡ some n → has_slot s n ≡ false → Has (unless b (go x) os) n)
+        → Walked s os (unless b (go x) os) × ((n : Str) → Some x ≡ Some n → has_slot s n ≡ false → Has (unless b (go x) os) n)
     slot true e = (
       walked-refl s os,
       λ n q f. absurd (false≢true (sym f ∙ subst (λ (y : Str). has_slot s y ≡ true) (let p : x ≡ n = cc in p) e)),
@@ -150,7 +150,7 @@ visit-works s go d w (some x) os h = slot (has_slot s x) refl
 
 visit_all-works : (s : Types) (go : Str → List Owned → List Owned) (d : ℕ) → Works s go d → (fs : List Field) (os : List Owned) → missing os (declared s) ≤ d
     → Walked s os (visit_all go s fs os)
-    × ((f : Field) → Memᴰ f fs → (n : Str) → referenced f ≡ some n → has_slot s n ≡ false → Has (visit_all go s fs os) n)
+    × ((f : Field) → Memᴰ f fs → (n : Str) → referenced f ≡ Some n → has_slot s n ≡ false → Has (visit_all go s fs os) n)
 unfolding visit_all
 visit_all-works s go d w [] os h = (walked-refl s os, λ f m n e q. absurd (Memᴰ.not-nil m))
 visit_all-works s go d w (x ∷ xs) os h =
@@ -159,10 +159,10 @@ visit_all-works s go d w (x ∷ xs) os h =
     let rest = visit_all-works s go d w xs (visit go s (referenced x) os) (omega (arith, less, h)) in
     (walked-trans s one.0 rest.0, reach one rest)
   where
-    reach : Walked s os (visit go s (referenced x) os) × ((n : Str) → referenced x ≡ some n → has_slot s n ≡ false → Has (visit go s (referenced x) os) n)
+    reach : Walked s os (visit go s (referenced x) os) × ((n : Str) → referenced x ≡ Some n → has_slot s n ≡ false → Has (visit go s (referenced x) os) n)
         → Walked s (visit go s (referenced x) os) (visit_all go s xs (visit go s (referenced x) os))
-        × ((f : Field) → Memᴰ f xs → (n : Str) → referenced f ≡ some n → has_slot s n ≡ false → Has (visit_all go s xs (visit go s (referenced x) os)) n)
-        → (f : Field) → Memᴰ f (x ∷ xs) → (n : Str) → referenced f ≡ some n → has_slot s n ≡ false
+        × ((f : Field) → Memᴰ f xs → (n : Str) → referenced f ≡ Some n → has_slot s n ≡ false → Has (visit_all go s xs (visit go s (referenced x) os)) n)
+        → (f : Field) → Memᴰ f (x ∷ xs) → (n : Str) → referenced f ≡ Some n → has_slot s n ≡ false
         → Has (visit_all go s xs (visit go s (referenced x) os)) n
     reach one rest f (Memᴰ.head e) n r q =
         let k = one.1 n (ap referenced (sym e) ∙ r) q in (k.0, rest.0.keep n k.0 k.1)
@@ -176,8 +176,8 @@ claim-works s root (suc k) d h n os m = start (λ e t. claim-works s root k e t)
     entry : Owned
     entry = record { name = n; root = root }
 
-    open-one : (after : List Owned) → owned_in os n ≡ none → Walked s (entry ∷ os) after
-        → ((f : Field) → Memᴰ f (type_fields s n) → (x : Str) → referenced f ≡ some x → has_slot s x ≡ false → Has after x)
+    open-one : (after : List Owned) → owned_in os n ≡ None → Walked s (entry ∷ os) after
+        → ((f : Field) → Memᴰ f (type_fields s n) → (x : Str) → referenced f ≡ Some x → has_slot s x ≡ false → Has after x)
         → Walked s os after × Has after n
     open-one after e w t = (
       record {
@@ -195,7 +195,7 @@ claim-works s root (suc k) d h n os m = start (λ e t. claim-works s root k e t)
         side x (inl p) = edges x (has-uncons n root os x p)
         side x (inr f) = inr f
 
-    fresh : ((e : ℕ) → e + 1 ≤ k → Works s (claim k s root) e) → owned_in os n ≡ none → Memᴰ n (declared s) ⊎ (type_fields s n ≡ [])
+    fresh : ((e : ℕ) → e + 1 ≤ k → Works s (claim k s root) e) → owned_in os n ≡ None → Memᴰ n (declared s) ⊎ (type_fields s n ≡ [])
         → Walked s os (visit_all (claim k s root) s (type_fields s n) (entry ∷ os)) × Has (visit_all (claim k s root) s (type_fields s n) (entry ∷ os)) n
     fresh rec e (inl i) =
         let sub : Sub os (entry ∷ os) = λ x o q. old-entry n root os x e q in
@@ -210,39 +210,39 @@ claim-works s root (suc k) d h n os m = start (λ e t. claim-works s root k e t)
     start : ((e : ℕ) → e + 1 ≤ k → Works s (claim k s root) e) → (o : Option Owned) → owned_in os n ≡ o
         → Walked s os (enter o (λ (x : List Owned). visit_all (claim k s root) s (type_fields s n) (record { name = n; root = root } ∷ x)) os)
         × Has (enter o (λ (x : List Owned). visit_all (claim k s root) s (type_fields s n) (record { name = n; root = root } ∷ x)) os) n
-    start rec (some o) e = (walked-refl s os, (o, e))
-    start rec none e = fresh rec e (declared-or-empty s n)
+    start rec (Some o) e = (walked-refl s os, (o, e))
+    start rec None e = fresh rec e (declared-or-empty s n)
 
 -- what is new belongs to the root, and the root leads to it
 abbrev Tracks : Types → Str → (Str → List Owned → List Owned) → Type 0
-Tracks s root go = (n : Str) (os : List Owned) → Leads s root n → (m : Str) (o : Owned) → owned_in (go n os) m ≡ some o
-    → (owned_in os m ≡ some o) ⊎ ((o.root ≡ root) × Leads s root m)
+Tracks s root go = (n : Str) (os : List Owned) → Leads s root n → (m : Str) (o : Owned) → owned_in (go n os) m ≡ Some o
+    → (owned_in os m ≡ Some o) ⊎ ((o.root ≡ root) × Leads s root m)
 
 visit-tracks : (s : Types) (root b : Str) (go : Str → List Owned → List Owned) → Tracks s root go → Leads s root b
-    → (f : Field) → Memᴰ f (type_fields s b) → (os : List Owned) (m : Str) (o : Owned) → owned_in (visit go s (referenced f) os) m ≡ some o
-    → (owned_in os m ≡ some o) ⊎ ((o.root ≡ root) × Leads s root m)
+    → (f : Field) → Memᴰ f (type_fields s b) → (os : List Owned) (m : Str) (o : Owned) → owned_in (visit go s (referenced f) os) m ≡ Some o
+    → (owned_in os m ≡ Some o) ⊎ ((o.root ≡ root) × Leads s root m)
 unfolding visit unless
 visit-tracks s root b go t l f i os m o h = named (referenced f) refl h
   where
-    slot : (x : Str) → referenced f ≡ some x → (c : Bool) → has_slot s x ≡ c → owned_in (unless c (go x) os) m ≡ some o
-        → (owned_in os m ≡ some o) ⊎ ((o.root ≡ root) × Leads s root m)
+    slot : (x : Str) → referenced f ≡ Some x → (c : Bool) → has_slot s x ≡ c → owned_in (unless c (go x) os) m ≡ Some o
+        → (owned_in os m ≡ Some o) ⊎ ((o.root ≡ root) × Leads s root m)
     slot x e true q k = inl k
     slot x e false q k = t x os (along l (record { field = f; is_field = i; names = e; free = q })) m o k
 
-    named : (r : Option Str) → referenced f ≡ r → owned_in (visit go s r os) m ≡ some o → (owned_in os m ≡ some o) ⊎ ((o.root ≡ root) × Leads s root m)
-    named none e k = inl k
-    named (some x) e k = slot x e (has_slot s x) refl k
+    named : (r : Option Str) → referenced f ≡ r → owned_in (visit go s r os) m ≡ Some o → (owned_in os m ≡ Some o) ⊎ ((o.root ≡ root) × Leads s root m)
+    named None e k = inl k
+    named (Some x) e k = slot x e (has_slot s x) refl k
 
 visit_all-tracks : (s : Types) (root b : Str) (go : Str → List Owned → List Owned) → Tracks s root go → Leads s root b
     → (fs : List Field) → ((f : Field) → Memᴰ f fs → Memᴰ f (type_fields s b))
-    → (os : List Owned) (m : Str) (o : Owned) → owned_in (visit_all go s fs os) m ≡ some o
-    → (owned_in os m ≡ some o) ⊎ ((o.root ≡ root) × Leads s root m)
+    → (os : List Owned) (m : Str) (o : Owned) → owned_in (visit_all go s fs os) m ≡ Some o
+    → (owned_in os m ≡ Some o) ⊎ ((o.root ≡ root) × Leads s root m)
 unfolding visit_all
 visit_all-tracks s root b go t l [] inc os m o h = inl h
 visit_all-tracks s root b go t l (f ∷ fs) inc os m o h =
     or (visit_all-tracks s root b go t l fs (λ g i. inc g (Memᴰ.tail i)) (visit go s (referenced f) os) m o h)
   where
-    or : (owned_in (visit go s (referenced f) os) m ≡ some o) ⊎ ((o.root ≡ root) × Leads s root m) → (owned_in os m ≡ some o) ⊎ ((o.root ≡ root) × Leads s root m)
+    or : (owned_in (visit go s (referenced f) os) m ≡ Some o) ⊎ ((o.root ≡ root) × Leads s root m) → (owned_in os m ≡ Some o) ⊎ ((o.root ≡ root) × Leads s root m)
     or (inl k) = visit-tracks s root b go t l f (inc f (Memᴰ.head refl)) os m o k
     or (inr k) = inr k
 
@@ -254,22 +254,22 @@ claim-tracks s root (suc k) n os l m o h = start (claim-tracks s root k) (owned_
     entry : Owned
     entry = record { name = n; root = root }
 
-    head-is : (b : Bool) → eqs n m ≡ b → cond b (some entry) (find (λ (u : Owned). eqs u.name m) os) ≡ some o
-        → (find (λ (u : Owned). eqs u.name m) os ≡ some o) ⊎ ((o.root ≡ root) × Leads s root m)
+    head-is : (b : Bool) → eqs n m ≡ b → cond b (Some entry) (find (λ (u : Owned). eqs u.name m) os) ≡ Some o
+        → (find (λ (u : Owned). eqs u.name m) os ≡ Some o) ⊎ ((o.root ≡ root) × Leads s root m)
     head-is true e q =
         let p : ◌≡◌ {A = Owned} entry o = cc in
         inr (ap (λ (u : Owned). u.root) (sym p), subst (Leads s root) (eqs→eq n m e) l)
     head-is false e q = inl q
 
-    or : (owned_in (entry ∷ os) m ≡ some o) ⊎ ((o.root ≡ root) × Leads s root m) → (owned_in os m ≡ some o) ⊎ ((o.root ≡ root) × Leads s root m)
+    or : (owned_in (entry ∷ os) m ≡ Some o) ⊎ ((o.root ≡ root) × Leads s root m) → (owned_in os m ≡ Some o) ⊎ ((o.root ≡ root) × Leads s root m)
     or (inl q) = unfold owned_in find in head-is (eqs n m) refl q
     or (inr q) = inr q
 
     start : Tracks s root (claim k s root) → (x : Option Owned)
-        → owned_in (enter x (λ (y : List Owned). visit_all (claim k s root) s (type_fields s n) (record { name = n; root = root } ∷ y)) os) m ≡ some o
-        → (owned_in os m ≡ some o) ⊎ ((o.root ≡ root) × Leads s root m)
-    start t (some y) q = inl q
-    start t none q = or (visit_all-tracks s root n (claim k s root) t l (type_fields s n) (λ f i. i) (entry ∷ os) m o q)
+        → owned_in (enter x (λ (y : List Owned). visit_all (claim k s root) s (type_fields s n) (record { name = n; root = root } ∷ y)) os) m ≡ Some o
+        → (owned_in os m ≡ Some o) ⊎ ((o.root ≡ root) × Leads s root m)
+    start t (Some y) q = inl q
+    start t None q = or (visit_all-tracks s root n (claim k s root) t l (type_fields s n) (λ f i. i) (entry ∷ os) m o q)
 
 -- lists from which no reference leads out
 abbrev Closed : Types → List Owned → Type 0
@@ -303,25 +303,25 @@ module _ (s : Types) where
   roots-keep (r ∷ rs) os n o e = roots-keep rs (claim size s r r os) n o ((one-root r os).0.keep n o e)
 
   -- what the walk says is the first root that leads there
-  says : (rs : List Str) (os : List Owned) (n r : Str) → Closed s os → owned_in os n ≡ none → root_of (owned_in (claim_roots s rs os) n) ≡ some r → First s n rs r
+  says : (rs : List Str) (os : List Owned) (n r : Str) → Closed s os → owned_in os n ≡ None → root_of (owned_in (claim_roots s rs os) n) ≡ Some r → First s n rs r
   unfolding claim_roots root_of size
   says [] os n r c f h = absurd (none≢some (rw f at h))
   says (q ∷ rs) os n r c f h = or (has-or-not (claim size s q q os) n) (λ g. says rs (claim size s q q os) n r (root-closed q os c) g h)
     where
-      new : (o : Owned) → owned_in (claim size s q q os) n ≡ some o → (owned_in os n ≡ some o) ⊎ ((o.root ≡ q) × Leads s q n) → First s n (q ∷ rs) r
+      new : (o : Owned) → owned_in (claim size s q q os) n ≡ Some o → (owned_in os n ≡ Some o) ⊎ ((o.root ≡ q) × Leads s q n) → First s n (q ∷ rs) r
       new o e (inl p) = absurd (none≢some (sym f ∙ p))
       new o e (inr p) =
-          let k : owned_in (claim_roots s rs (claim size s q q os)) n ≡ some o = roots-keep rs (claim size s q q os) n o e in
-          let g : some o.root ≡ some r = rw k at h in
+          let k : owned_in (claim_roots s rs (claim size s q q os)) n ≡ Some o = roots-keep rs (claim size s q q os) n o e in
+          let g : Some o.root ≡ Some r = rw k at h in
           let x : q ≡ r = (let y : o.root ≡ r = cc in sym p.0 ∙ y) in
           now x p.1
 
-      or : Has (claim size s q q os) n ⊎ (owned_in (claim size s q q os) n ≡ none) → (owned_in (claim size s q q os) n ≡ none → First s n rs r) → First s n (q ∷ rs) r
+      or : Has (claim size s q q os) n ⊎ (owned_in (claim size s q q os) n ≡ None) → (owned_in (claim size s q q os) n ≡ None → First s n rs r) → First s n (q ∷ rs) r
       or (inl w) k = new w.0 w.1 (claim-tracks s q size q os (here refl) n w.0 w.1)
       or (inr e) k = later (λ l. none≢some (sym e ∙ (root-leads q os c l).1)) (k e)
 
   -- and the first root that leads there is what the walk says
-  said : (rs : List Str) (os : List Owned) (n r : Str) → Closed s os → owned_in os n ≡ none → First s n rs r → root_of (owned_in (claim_roots s rs os) n) ≡ some r
+  said : (rs : List Str) (os : List Owned) (n r : Str) → Closed s os → owned_in os n ≡ None → First s n rs r → root_of (owned_in (claim_roots s rs os) n) ≡ Some r
   unfolding claim_roots root_of size
   said [] os n r c f x3 = elim x3 [ ]
   said (q ∷ rs) os n r c f (now y l) =
@@ -329,18 +329,18 @@ module _ (s : Types) where
       let k = roots-keep rs (claim size s q q os) n w.0 w.1 in
       rw k (or w.0 (claim-tracks s q size q os (here refl) n w.0 w.1))
     where
-      or : (o : Owned) → (owned_in os n ≡ some o) ⊎ ((o.root ≡ q) × Leads s q n) → some o.root ≡ some r
+      or : (o : Owned) → (owned_in os n ≡ Some o) ⊎ ((o.root ≡ q) × Leads s q n) → Some o.root ≡ Some r
       or o (inl p) = absurd (none≢some (sym f ∙ p))
-      or o (inr p) = ap some (p.0 ∙ y)
+      or o (inr p) = ap Some (p.0 ∙ y)
   said (q ∷ rs) os n r c f (later x g) = or (has-or-not (claim size s q q os) n) (λ e. said rs (claim size s q q os) n r (root-closed q os c) e g)
     where
-      new : (o : Owned) → (owned_in os n ≡ some o) ⊎ ((o.root ≡ q) × Leads s q n) → ⊥
+      new : (o : Owned) → (owned_in os n ≡ Some o) ⊎ ((o.root ≡ q) × Leads s q n) → ⊥
       new o (inl p) = none≢some (sym f ∙ p)
       new o (inr p) = x p.1
 
-      or : Has (claim size s q q os) n ⊎ (owned_in (claim size s q q os) n ≡ none)
-          → (owned_in (claim size s q q os) n ≡ none → root_of (owned_in (claim_roots s rs (claim size s q q os)) n) ≡ some r)
-          → root_of (owned_in (claim_roots s rs (claim size s q q os)) n) ≡ some r
+      or : Has (claim size s q q os) n ⊎ (owned_in (claim size s q q os) n ≡ None)
+          → (owned_in (claim size s q q os) n ≡ None → root_of (owned_in (claim_roots s rs (claim size s q q os)) n) ≡ Some r)
+          → root_of (owned_in (claim_roots s rs (claim size s q q os)) n) ≡ Some r
       or (inl w) k = absurd (new w.0 (claim-tracks s q size q os (here refl) n w.0 w.1))
       or (inr e) k = k e
 
@@ -349,6 +349,6 @@ module _ (s : Types) where
   nothing-closed m h n e = absurd (none≢some h.1)
 
   -- OWNERSHIP: the executable owner is the first root, in the order of the slots, from which references lead to the name
-  pub owner-is-first : (n r : Str) → (owner_of s n ≡ some r → First s n (roots s) r) × (First s n (roots s) r → owner_of s n ≡ some r)
+  pub owner-is-first : (n r : Str) → (owner_of s n ≡ Some r → First s n (roots s) r) × (First s n (roots s) r → owner_of s n ≡ Some r)
   unfolding owner_of owned_in find
   owner-is-first n r = (says (roots s) [] n r nothing-closed refl, said (roots s) [] n r nothing-closed refl)

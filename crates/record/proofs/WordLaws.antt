@@ -9,6 +9,11 @@ use lib.ListN.{length, drop, get_or, drop_of_length-le, get_or-eq_default}
 use lib.Seq.{drop-cons}
 use lib.Dec.{eqb, ltb}
 use borrow.Author.Tests.{ltb-true, ltb-false, lt-ltb, le-ltb, eq-eqb, ne_eqb, eqb-true}
+use Rattle.std.proofs.Common.{Ordering}
+use Rattle.std.specs.Ordering.{nat_cmp, is_lt}
+use Rattle.std.specs.Cmp.Lexicographic.{slice_cmp}
+use Rattle.std.proofs.lemmas.Cmp.{same_from_slice_cmp}
+use Rattle.std.proofs.lemmas.Bool.Decides.{nat_tests}
 use Rattle.record.specs.Base.{Str, before}
 use Rattle.record.specs.Le.{u64_at}
 use Rattle.record.specs.Words.{front_at, Fronted, Skipped}
@@ -53,8 +58,6 @@ module _ (a b : Str) (i : ℕ) where
   pub before-end : length a ≤ i → length b ≤ i → before (drop i a) (drop i b) ≡ false
   unfolding before
   before-end p q = rw (drop_of_length-le a, drop_of_length-le b)
-
-pub ruleset before-laws = (before-next, before-below, before_above, before-longer, before-shorter, before-end)
 
 module _ (a b : Str) where
   pub skip-none : Skipped a b 0
@@ -137,4 +140,15 @@ before-asym (x ∷ a) (y ∷ b) e = go (ltb y x) (eqb y x) refl refl e (before-a
 pub front_above : (a b : Str) (x y : ℕ) → Fronted a x → Fronted b y → y < x → false ≡ before a b
 front_above a b x y f g h = sym (before-asym a b (sym (front_below b a y x g f h)))
 
-pub ruleset front-laws = (front_below, front_above)
+-- texts that differ in their first four bytes go in the order of these
+pub front_order : (a b : Str) (x y : ℕ) → Fronted a x → Fronted b y → (x ≡ y → ⊥) → ltb x y ≡ before a b
+front_order a b x y f g d = go (ltb x y) refl
+  where
+    go : (t : Bool) → ltb x y ≡ t → t ≡ before a b
+    go true e = front_below a b x y f g (ltb-true x y e)
+    go false e = let l = ltb-false x y e in front_above a b x y f g (let z : (x ≡ y → ⊥) = d in omega arith)
+
+-- the library's order of bytes is theirs
+pub before_cmp : (a b : Str) (o : Ordering) → o ≡ slice_cmp nat_cmp a b → is_lt o ≡ before a b
+unfolding before
+before_cmp = same_from_slice_cmp nat_cmp is_lt before refl (λ _ _. refl) (λ _ _. refl) (λ x y xs ys o h. grind (arith, nat_tests))

@@ -3,14 +3,15 @@ use mathlib.Core.Path.{◌≡◌, refl, sym, ap, ap₂, subst, ◌∙◌}
 use mathlib.Core.List.{List, [], ◌∷◌, ◌++◌, append_assoc}
 use mathlib.Core.Bool.{Bool, true, false}
 use mathlib.Core.Logic.{◌⊎◌, inl, inr, ⊎_elim}
-use Prim.Native.Nat.{ℕ, zero, suc, ◌+◌, ◌-◌, ◌/◌, ◌%◌, ◌^◌, ◌≤◌, ◌<◌}
+use Prim.Native.Nat.{ℕ, zero, suc, ◌+◌, ◌-◌, ◌*◌, ◌/◌, ◌%◌, ◌^◌, ◌≤◌, ◌<◌}
 use native.Mathlib.Nat.{pow-suc, div-lt_iff_lt-mul, zero-add, add-zero}
-use native.Mathlib.Numerals.{add-one, sub-one}
+use native.Mathlib.Numerals.{sub-one}
 use native.Mathlib.Omega.{arith}
 use lib.Dec.{leb}
 use borrow.Author.Tests.{le-ltb, lt-ltb, le-leb, lt-leb, leb-true, leb-false}
-use lib.ListN.{length, get_or, take, drop, set, length-append, length-drop, length-take}
-use lib.Seq.{set_split, drop_at, take_at, length-take-le, paste, paste-zero, paste-suc, take-length, drop-append-add, drop-drop}
+use lib.ListN.{length, take, drop, set, length-append, length-drop, length-take}
+use borrow.Rule.Slice.PartMut.{put_mid}
+use lib.Seq.{set_split, drop_at, take_at, length-take-le, paste-zero, drop-append-add, drop-drop}
 use Rattle.record.specs.Base.{Str, digits, decimal, signed}
 use Rattle.record.specs.Fill.{placed, fronted}
 use Rattle.record.specs.Write.{largest, saturated, Puts}
@@ -51,44 +52,14 @@ pub places-less : (k r : ℕ) → 10 ≤ r → r < 10 ^ k → r / 10 < 10 ^ (k -
 places-less zero r h b = absurd (omega arith)
 places-less (suc k) r h b = simp sub-one ((div-lt_iff_lt-mul {k = 10} {x = r} {y = 10 ^ k} (omega arith)).1 (rw pow-suc at b))
 
--- how many digits there are
-digits-one : (k r : ℕ) → 1 ≤ k → r < 10 → length (digits k r) ≡ 1
-digits-one zero r a h = absurd (omega arith)
-digits-one (suc k) r a h = simp (lt-ltb r 10 h)
-
-digits_more : (k r : ℕ) → 2 ≤ k → 10 ≤ r → length (digits k r) ≡ length (digits (k - 1) (r / 10)) + 1
-digits_more zero r a h = absurd (omega arith)
-digits_more (suc k) r a h = simp (sub-one, le-ltb r 10 h, length-append)
-
--- how far they are counted: those that are left are a number's
-pub record Counting (n len rest : ℕ) : Type 0 where
-  pub few : len ≤ 20
-  pub fits : rest < 10 ^ (21 - len)
-  pub sum : len + length (digits (21 - len) rest) ≡ length (decimal n) + 1
-
-pub counting-start : (n : ℕ) → n < 2 ^ 64 → Counting n 1 n
-unfolding decimal
-counting-start n h = record { few = omega arith; fits = omega arith; sum = omega arith }
-
-pub counting-next : (n len rest : ℕ) → Counting n len rest → 10 ≤ rest → Counting n (len + 1) (rest / 10)
-counting-next n len rest c h =
-    let k = places (21 - len) rest h c.fits in
-    let d = digits_more (21 - len) rest k h in
-    let s = c.sum in
-    let e : 21 - (len + 1) ≡ 21 - len - 1 = omega arith in
-    let m : len + 1 + length (digits (21 - len - 1) (rest / 10)) ≡ length (decimal n) + 1 = omega arith in
-    record {
-      few = omega arith;
-      fits = subst (λ (i : ℕ). rest / 10 < 10 ^ i) (sym e) (places-less (21 - len) rest h c.fits);
-      sum = subst (λ (i : ℕ). len + 1 + length (digits i (rest / 10)) ≡ length (decimal n) + 1) (sym e) m;
-    }
-
-pub counting-end : (n len rest : ℕ) → Counting n len rest → rest < 10 → (len ≡ length (decimal n)) × (len ≤ 20)
-counting-end n len rest c h =
-    let f = c.few in
-    let s = c.sum in
-    let d = digits-one (21 - len) rest (omega arith) h in
-    (omega arith, f)
+-- how many digits a number has, by the power of ten that it reaches
+pub length-digits : (k m n : ℕ) → k < m → 10 ^ k ≤ n → n < 10 * 10 ^ k → length (digits m n) ≡ k + 1
+length-digits k zero n h p q = absurd (omega arith)
+length-digits zero (suc m) n h p q = rw (lt-ltb n 10 (omega arith)) refl
+length-digits (suc k) (suc m) n h p q =
+    let e : 10 ^ suc k ≡ 10 ^ k * 10 = pow-suc 10 k in
+    let r = length-digits k m (n / 10) (omega arith) (omega arith) (omega arith) in
+    rw (le-ltb n 10 (omega arith)) (length-append (digits m (n / 10)) ((48 + n % 10) ∷ []) ∙ (let z : length (digits m (n / 10)) + 1 ≡ suc k + 1 = omega arith in z))
 
 -- short numbers
 module _ (n a : ℕ) (e : a ≡ 48 + n % 10) where
@@ -107,14 +78,10 @@ module _ (n a : ℕ) (e : a ≡ 48 + n % 10) where
         let m : c ≡ 48 + n / 10 / 10 = omega arith in
         rw (le-ltb n 10 (omega arith), le-ltb (n / 10) 10 (omega arith), lt-ltb (n / 10 / 10) 10 (omega arith), m, f, e)
 
--- one element of a copy
-pub stored : (d s e : List ℕ) (at o j : ℕ) → o ≡ at + j → e ≡ paste d at s j → o < length d → j < length s → set e o (get_or s j 0) ≡ paste d at s (j + 1)
-stored d s e at o j ho he hd hs = rw (he, ho, add-one) (paste-suc d at s j 0 (omega arith) hs)
-
--- the whole of it
-pub copied : (d s e : List ℕ) (at j : ℕ) → j ≡ length s → e ≡ paste d at s j → e ≡ placed d at s
+-- a copy
+pub copied : (d s e : List ℕ) (at k : ℕ) → e ≡ s → k ≡ length s → put_mid at k d e ≡ placed d at s
 unfolding placed
-copied d s e at j hj he = he ∙ rw (hj, take-length)
+copied d s e at k h f = rw (h, f, append_assoc) (ap (λ (t : List ℕ). take at d ++ (s ++ t)) (drop-drop (length s) at d))
 
 -- a sign is stored in front of the digits
 pub sign : (v s : ℕ) (bs : List ℕ) → 2 ^ 63 ≤ v → v < 2 ^ 64 → 1 ≤ s → s ≤ length bs → drop s bs ≡ decimal (18446744073709551615 - v + 1) → drop (s - 1) (set bs (s - 1) 45) ≡ signed v
@@ -163,13 +130,6 @@ sat-plus a b =
     ⊎_elim (λ w. ap (λ (n : ℕ). saturated (n + b)) w.1)
     (λ w. ap (λ (n : ℕ). saturated (n + b)) w.1 ∙ sat-past (largest + b) (omega arith) ∙ sym (sat-past (a + b) (omega arith)))
     (sat-cases a)
-
-module _ (at n : ℕ) where
-  pub after-low : n ≤ largest - at → at ≤ largest → at + n ≡ saturated (at + n)
-  after-low h l = sat-low (at + n) (omega arith)
-
-  pub after-high : largest - at < n → largest ≡ saturated (at + n)
-  after-high h = sat-high (at + n) (omega arith)
 
 -- bytes in their place ---------------------------------------------------------------------------------------------------
 

@@ -1,6 +1,5 @@
 -- The commands of 01, Record commands: the table of their operands, the command at a place, and the places of all commands. Assumes nothing.
-use Rattle.std.specs.Prelude.{ℕ, zero, suc, ◌+◌, ◌-◌, List, [], ◌∷◌, cond, get_or, length, drop, eqb, ltb}
-use Rattle.std.proofs.Math.Option.{Option, none, some}
+use Rattle.std.specs.Prelude.{ℕ, zero, suc, ◌+◌, ◌-◌, List, [], ◌∷◌, cond, get_or, length, drop, eqb, ltb, Option, Some, None}
 use Rattle.record.specs.Base.{Str, bytes}
 use Rattle.record.specs.Le.{u32_at, u64_at}
 use Rattle.record.specs.Operands.{text_at, opt_text_at, opt_number_at, flag_at}
@@ -21,28 +20,30 @@ use Rattle.record.specs.declared.command.Cursor.{Cursor}
 use Rattle.record.specs.declared.command.Parent.TheVariants.{NoParent}
 use Rattle.record.specs.declared.command.Command.{Command}
 use Rattle.record.specs.declared.command.Command.TheVariants as C
-use Rattle.record.specs.declared.command.Step.{Step}
-use Rattle.record.specs.declared.command.Step.TheVariants.{Next, Stop}
+
+-- an element of a list with the cursor after it, or none where the list ends
+abbrev pub Step : Type 0 → Type 0
+Step E = Option (E × Cursor)
 
 -- 01's table. The operands of each command, in 01's letters: T a text; O a text that may be absent; ! an O that a current record requires; ? an O
 -- that is required where is-text is 1; F a flag; N a number that may be absent; W four bytes; V eight.
 unfoldable pub operands : ℕ → Option Str
 operands b =
-    cond (eqb b 1) (some (bytes "!F"))
-    (cond (eqb b 2) (some (bytes "TFV?FO"))
-    (cond (eqb b 3) (some (bytes "TT"))
-    (cond (eqb b 4) (some (bytes "TWFO"))
-    (cond (eqb b 5) (some (bytes "TVO"))
-    (cond (eqb b 6) (some (bytes "TW!"))
-    (cond (eqb b 7) (some (bytes "TWNO"))
-    (cond (eqb b 8) (some (bytes "TOO"))
-    (cond (eqb b 9) (some (bytes "TTTTOF"))
-    (cond (eqb b 10) (some (bytes "T"))
-    (cond (eqb b 11) (some (bytes "TTOONNNN"))
-    (cond (eqb b 12) (some (bytes "T!"))
-    (cond (eqb b 13) (some (bytes "T!"))
-    (cond (eqb b 14) (some (bytes "TW"))
-    (cond (eqb b 15) (some (bytes "")) none))))))))))))))
+    cond (eqb b 1) (Some (bytes "!F"))
+    (cond (eqb b 2) (Some (bytes "TFV?FO"))
+    (cond (eqb b 3) (Some (bytes "TT"))
+    (cond (eqb b 4) (Some (bytes "TWFO"))
+    (cond (eqb b 5) (Some (bytes "TVO"))
+    (cond (eqb b 6) (Some (bytes "TW!"))
+    (cond (eqb b 7) (Some (bytes "TWNO"))
+    (cond (eqb b 8) (Some (bytes "TOO"))
+    (cond (eqb b 9) (Some (bytes "TTTTOF"))
+    (cond (eqb b 10) (Some (bytes "T"))
+    (cond (eqb b 11) (Some (bytes "TTOONNNN"))
+    (cond (eqb b 12) (Some (bytes "T!"))
+    (cond (eqb b 13) (Some (bytes "T!"))
+    (cond (eqb b 14) (Some (bytes "TW"))
+    (cond (eqb b 15) (Some (bytes "")) None))))))))))))))
 
 -- 01: the bytes of an operand, F 1, W 4, V 8, N 5, a text 3
 unfoldable pub wide : ℕ → ℕ
@@ -57,8 +58,8 @@ widths [] = 0
 widths (o ∷ os) = wide o + widths os
 
 unfoldable pub width_with : Option Str → ℕ
-width_with none = 0
-width_with (some os) = 1 + widths os
+width_with None = 0
+width_with (Some os) = 1 + widths os
 
 -- the bytes of a command, its number among them; 0 for a number that is none's
 unfoldable pub width_of : ℕ → ℕ
@@ -153,19 +154,19 @@ place at = record { at = at; last = 0; parent = NoParent }
 
 -- the command at a place, unjudged, with the place after it; none at the end of the stream, at the end command, at a number that is no
 -- command's, and where the stream ends inside the command
-unfoldable pub step_at : List ℕ → ℕ → Step
+unfoldable pub step_at : List ℕ → ℕ → Step Command
 step_at s at =
     cond (ltb at (length s))
-    (cond (eqb (get_or s at 0) 15) Stop
-    (cond (eqb (width_of (get_or s at 0)) 0) Stop
-    (cond (ltb (length s - at) (width_of (get_or s at 0))) Stop
-    (Next (command_of (get_or s at 0) (drop at s)) (place (at + width_of (get_or s at 0)))))))
-    Stop
+    (cond (eqb (get_or s at 0) 15) None
+    (cond (eqb (width_of (get_or s at 0)) 0) None
+    (cond (ltb (length s - at) (width_of (get_or s at 0))) None
+    (Some (command_of (get_or s at 0) (drop at s), place (at + width_of (get_or s at 0)))))))
+    None
 
 -- the places of the commands from a place on
 unfoldable pub commands_from : ℕ → List ℕ → ℕ → List ℕ
 commands_from zero s at = []
-commands_from (suc n) s at = elim (step_at s at) [ Next c k ↦ at ∷ commands_from n s k.at | Stop ↦ [] ]
+commands_from (suc n) s at = elim (step_at s at) [ Some (c, k) ↦ at ∷ commands_from n s k.at | None ↦ [] ]
 
 unfoldable pub commands_at : List ℕ → ℕ → List ℕ
 commands_at s at = commands_from (length s - at) s at

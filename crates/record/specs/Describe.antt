@@ -1,7 +1,6 @@
 -- The texts that the code's descriptions of fields stand for; what a field's description is, shape_type of schema.rs, stands in Shapes.
 -- Assumes nothing.
-use Rattle.std.specs.Prelude.{◌≡◌, ◌∷◌, ◌++◌, ℕ}
-use Rattle.std.proofs.Math.Option.{none}
+use Rattle.std.specs.Prelude.{◌≡◌, ◌∷◌, ◌++◌, ℕ, Option, None}
 use Rattle.record.specs.Base.{Str, bytes, decimal, or_else}
 use Rattle.record.specs.Stretch.{text_of}
 use Rattle.record.specs.Operands.{text_at}
@@ -9,13 +8,13 @@ use Rattle.record.specs.Commands.{field_at}
 use Rattle.record.specs.Lists.{opt_of, field_of}
 use Rattle.record.specs.Kind.{kind_of, is_padding}
 use Rattle.record.specs.Shapes.{shape_type}
-use Rattle.record.specs.declared.operands.OptText.{OptText}
 use Rattle.record.specs.declared.describe.Shape.{Shape}
 use Rattle.record.specs.declared.describe.Description.{Description}
 use Rattle.record.specs.declared.describe.Description.TheVariants.{Plain, Named, Array, Array2d, Discriminant, Length}
+use Rattle.record.specs.declared.text.Text.{Text}
 
 -- the word of a scalar: a byte's where none is given
-abbrev pub element_of : Str → OptText → Str
+abbrev pub element_of : Str → Option Text → Str
 element_of p e = or_else (opt_of p e) (bytes "u8")
 
 -- a dimension of an array
@@ -32,5 +31,5 @@ described_as p (Length e) = bytes "scalar " ++ element_of p e
 
 -- how the field reads whose command some bytes begin with, and whether it is padding
 pub record Shaped (p s : Str) (r : Shape) : Type 0 where
-  pub text : described_as p r.described ≡ shape_type (field_of p (field_at s) none)
+  pub text : described_as p r.described ≡ shape_type (field_of p (field_at s) None)
   pub padded : r.padding ≡ is_padding (kind_of (text_of p (text_at s 4)))

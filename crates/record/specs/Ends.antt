@@ -1,19 +1,18 @@
 -- Where the lists of a record end, as the code keeps it. Assumes nothing.
-use Rattle.std.specs.Prelude.{◌≡◌, List, [], Bool, true, ◌||◌, cond, ℕ, eqb}
+use Rattle.std.specs.Prelude.{◌≡◌, List, [], Bool, true, ◌||◌, cond, ℕ, eqb, Some}
 use Rattle.record.specs.Base.{Str}
 use Rattle.record.specs.Commands.{step_at}
 use Rattle.record.specs.Seek.{places_of}
 use Rattle.record.specs.Index.{Indexed}
 use Rattle.record.specs.declared.command.Command.{Command}
 use Rattle.record.specs.declared.command.Cursor.{Cursor}
-use Rattle.record.specs.declared.command.Step.TheVariants.{Next}
 use Rattle.record.specs.declared.seek.Between.TheVariants.{Anything}
 use Rattle.record.specs.declared.ends.Ends.{Ends}
 
 -- the commands from a place on lead to another
 pub data Reached (s : Str) (to : ℕ) : ℕ → Type 0 where
   there : {at : ℕ} → at ≡ to → Reached s to at
-  onward : {at : ℕ} {c : Command} {k : Cursor} → step_at s at ≡ Next c k → Reached s to k.at → Reached s to at
+  onward : {at : ℕ} {c : Command} {k : Cursor} → step_at s at ≡ Some (c, k) → Reached s to k.at → Reached s to at
 
 -- the numbers of the commands of each list
 abbrev pub in_constants : ℕ → Bool

@@ -1,7 +1,6 @@
 -- The index of the names that a record declares: for each number that a name's length, first and last bytes give, the places of its commands from the
 -- last to the first, each place one more than it is. Assumes nothing.
-use Rattle.std.specs.Prelude.{◌≡◌, List, [], ◌∷◌, ◌⊎◌, Bool, true, ◌&&◌, cond, ℕ, zero, suc, ◌+◌, ◌-◌, ◌*◌, ◌/◌, ◌%◌, ◌≤◌, ◌<◌, length, get_or, set, drop, eqb, ltb}
-use Rattle.std.proofs.Math.Option.{Option, none, some}
+use Rattle.std.specs.Prelude.{◌≡◌, List, [], ◌∷◌, ◌⊎◌, Bool, true, ◌&&◌, cond, ℕ, zero, suc, ◌+◌, ◌-◌, ◌*◌, ◌/◌, ◌%◌, ◌≤◌, ◌<◌, length, get_or, set, drop, eqb, ltb, Option, Some, None}
 use Rattle.record.specs.Le.{u32_at}
 use Rattle.record.specs.Base.{Str, eqs, find_last, any}
 use Rattle.record.specs.Stretch.{text_of}
@@ -14,8 +13,6 @@ use Rattle.record.specs.Steps.{values_at, members_at, fields_at, variants_at}
 use Rattle.record.specs.Steps.{constants_at, aliases_at, enums_at, bitfields_at, structs_at, families_at, unstored_at}
 use Rattle.record.specs.Steps.{constant_in, alias_in, enum_in, bitfield_in, struct_in, family_in}
 use Rattle.record.specs.Seek.{after_at}
-use Rattle.record.specs.declared.seek.Sought.{Sought}
-use Rattle.record.specs.declared.seek.Sought.TheVariants.{Nowhere, At}
 
 -- names ------------------------------------------------------------------------------------------------------------------
 
@@ -130,41 +127,41 @@ pub record LastNamed (s p : Str) (x : List ℕ) (b f : ℕ) (n : Str) (r : ℕ) 
   pub last : Indexed s p x → r ≡ first_in (counts s p b f n) (declared_places s)
 
 -- a place that is one less than a number, and the place after its command
-unfoldable pub sought_at : Str → ℕ → Sought
-sought_at s zero = Nowhere
-sought_at s (suc q) = At q (after_at s q)
+unfoldable pub sought_at : Str → ℕ → Option (ℕ × ℕ)
+sought_at s zero = None
+sought_at s (suc q) = Some (q, after_at s q)
 
 -- what the command at a place declares, with the place after it
-abbrev pub constant_placed : Str → Str → Sought → Option Const
-constant_placed s p Nowhere = none
-constant_placed s p (At a k) = some (constant_of p (constant_at (drop a s)))
+abbrev pub constant_placed : Str → Str → Option (ℕ × ℕ) → Option Const
+constant_placed s p None = None
+constant_placed s p (Some (a, k)) = Some (constant_of p (constant_at (drop a s)))
 
-abbrev pub alias_placed : Str → Str → Sought → Option Alias
-alias_placed s p Nowhere = none
-alias_placed s p (At a k) = some (alias_of p (alias_at (drop a s)))
+abbrev pub alias_placed : Str → Str → Option (ℕ × ℕ) → Option Alias
+alias_placed s p None = None
+alias_placed s p (Some (a, k)) = Some (alias_of p (alias_at (drop a s)))
 
-abbrev pub enum_placed : Str → Str → Sought → Option Enum
-enum_placed s p Nowhere = none
-enum_placed s p (At a k) = some (enum_of p (enum_at (drop a s)) (values_at s p k))
+abbrev pub enum_placed : Str → Str → Option (ℕ × ℕ) → Option Enum
+enum_placed s p None = None
+enum_placed s p (Some (a, k)) = Some (enum_of p (enum_at (drop a s)) (values_at s p k))
 
-abbrev pub bitfield_placed : Str → Str → Sought → Option BitField
-bitfield_placed s p Nowhere = none
-bitfield_placed s p (At a k) = some (bitfield_of p (bitfield_at (drop a s)) (members_at s p k))
+abbrev pub bitfield_placed : Str → Str → Option (ℕ × ℕ) → Option BitField
+bitfield_placed s p None = None
+bitfield_placed s p (Some (a, k)) = Some (bitfield_of p (bitfield_at (drop a s)) (members_at s p k))
 
-abbrev pub struct_placed : Str → Str → Sought → Option Struct
-struct_placed s p Nowhere = none
-struct_placed s p (At a k) = some (struct_of p (struct_at (drop a s)) (fields_at s p k))
+abbrev pub struct_placed : Str → Str → Option (ℕ × ℕ) → Option Struct
+struct_placed s p None = None
+struct_placed s p (Some (a, k)) = Some (struct_of p (struct_at (drop a s)) (fields_at s p k))
 
-abbrev pub family_placed : Str → Str → Sought → Option Family
-family_placed s p Nowhere = none
-family_placed s p (At a k) = some (family_of p (family_at (drop a s)) (fields_at s p k) (variants_at s p k))
+abbrev pub family_placed : Str → Str → Option (ℕ × ℕ) → Option Family
+family_placed s p None = None
+family_placed s p (Some (a, k)) = Some (family_of p (family_at (drop a s)) (fields_at s p k) (variants_at s p k))
 
-abbrev pub unstored_placed : Str → Str → Sought → Option Key
-unstored_placed s p Nowhere = none
-unstored_placed s p (At a k) = some (key_of p (Commands.key_at (drop a s)))
+abbrev pub unstored_placed : Str → Str → Option (ℕ × ℕ) → Option Key
+unstored_placed s p None = None
+unstored_placed s p (Some (a, k)) = Some (key_of p (Commands.key_at (drop a s)))
 
 -- the answer is the place of the first constant of a name, asked for by 2, and so on
-pub record PlaceNamed (s p n : Str) (b : ℕ) (r : Sought) : Type 0 where
+pub record PlaceNamed (s p n : Str) (b : ℕ) (r : Option (ℕ × ℕ)) : Type 0 where
   pub constant : b ≡ 2 → constant_in n (constants_at s p 0) ≡ constant_placed s p r
   pub alias : b ≡ 3 → alias_in n (aliases_at s p 0) ≡ alias_placed s p r
   pub enum : b ≡ 4 → enum_in n (enums_at s p 0) ≡ enum_placed s p r
@@ -173,7 +170,7 @@ pub record PlaceNamed (s p n : Str) (b : ℕ) (r : Sought) : Type 0 where
   pub family : b ≡ 9 → family_in n (families_at s p 0) ≡ family_placed s p r
 
 -- the answer is such a place, that of the first command of the number and the name, where the index is the record's
-pub record Declared (s p : Str) (x : List ℕ) (b : ℕ) (n : Str) (r : Sought) : Type 0 where
+pub record Declared (s p : Str) (x : List ℕ) (b : ℕ) (n : Str) (r : Option (ℕ × ℕ)) : Type 0 where
   pub named : Indexed s p x → PlaceNamed s p n b r
   pub first : Indexed s p x → r ≡ sought_at s (first_place s p b n)
 
@@ -182,12 +179,12 @@ pub record Findable (s p : Str) (x : List ℕ) : Type 0 where
   pub by : Indexed s p x ⊎ (length x ≡ 0)
 
 -- the answer by such an index
-pub record Looked (s p : Str) (x : List ℕ) (b : ℕ) (n : Str) (r : Sought) : Type 0 where
+pub record Looked (s p : Str) (x : List ℕ) (b : ℕ) (n : Str) (r : Option (ℕ × ℕ)) : Type 0 where
   pub named : Findable s p x → PlaceNamed s p n b r
 
 -- the answer is the place of the last constant of a name, asked for by 2 with no flag, of the last unstored key, of the last constant and the last
 -- enum in the plugin API, and of the last standalone family
-pub record PlaceLast (s p n : Str) (b f : ℕ) (r : Sought) : Type 0 where
+pub record PlaceLast (s p n : Str) (b f : ℕ) (r : Option (ℕ × ℕ)) : Type 0 where
   pub constant : b ≡ 2 → f ≡ 0 → find_last (λ (c : Const). eqs c.name n) (constants_at s p 0) ≡ constant_placed s p r
   pub unstored : b ≡ 13 → f ≡ 0 → find_last (λ (k : Key). eqs k.name n) (unstored_at s p 0) ≡ unstored_placed s p r
   pub api-constant : b ≡ 2 → f ≡ 16 → find_last (λ (c : Const). c.api && eqs c.name n) (constants_at s p 0) ≡ constant_placed s p r
@@ -195,7 +192,7 @@ pub record PlaceLast (s p n : Str) (b f : ℕ) (r : Sought) : Type 0 where
   pub standalone : b ≡ 9 → f ≡ 16 → find_last (λ (m : Family). m.standalone && eqs m.name n) (families_at s p 0) ≡ family_placed s p r
 
 -- the answer is such a place, where the index is the record's
-pub record LastDeclared (s p : Str) (x : List ℕ) (b f : ℕ) (n : Str) (r : Sought) : Type 0 where
+pub record LastDeclared (s p : Str) (x : List ℕ) (b f : ℕ) (n : Str) (r : Option (ℕ × ℕ)) : Type 0 where
   pub named : Indexed s p x → PlaceLast s p n b f r
 
 -- the answer, where the index is the record's: whether a family of a name is standalone

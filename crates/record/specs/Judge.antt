@@ -1,13 +1,10 @@
 -- One command judged: refusals 2, 1, 3, 4, 5, 6 in this order, each at the command's place, after the order in 01, What a check returns, and the
 -- operands and places in 01, Record commands. Assumes nothing.
-use Rattle.std.specs.Prelude.{ℕ, ◌+◌, ◌-◌, [], ◌∷◌, Bool, true, false, ◌&&◌, ◌||◌, not, cond, get_or, length, drop, eqb, ltb, leb}
-use Rattle.std.proofs.Math.Option.{Option, none, some}
+use Rattle.std.specs.Prelude.{ℕ, ◌+◌, ◌-◌, [], ◌∷◌, Bool, true, false, ◌&&◌, ◌||◌, not, cond, get_or, length, drop, eqb, ltb, leb, Option, Some, None, Result, Ok, Err}
 use Rattle.texts.specs.Utf8.{no_tail}
 use Rattle.record.specs.Base.{Str}
 use Rattle.record.specs.Operands.{flag_at, opt_text_at}
 use Rattle.record.specs.Commands.{operands, wide, widths, width_of, command_of}
-use Rattle.record.specs.declared.operands.OptText.{OptText}
-use Rattle.record.specs.declared.operands.OptText.TheVariants.{Absent, Given}
 use Rattle.record.specs.declared.command.Parent.{Parent}
 use Rattle.record.specs.declared.command.Parent.TheVariants.{NoParent, InStruct, InFamily}
 use Rattle.record.specs.declared.command.Cursor.{Cursor}
@@ -17,8 +14,13 @@ use Rattle.record.specs.declared.refusal.Refusal.TheVariants as R
 use Rattle.record.specs.declared.judge.Fault.{Fault}
 use Rattle.record.specs.declared.judge.Fault.TheVariants.{Fine, Outside, Missing, Flag}
 use Rattle.record.specs.declared.judge.Row.{Row}
-use Rattle.record.specs.declared.judge.Judged.{Judged}
-use Rattle.record.specs.declared.judge.Judged.TheVariants.{Next, Done, Refused}
+use Rattle.record.specs.declared.text.Text.{Text}
+use Rattle.record.specs.declared.refusal.Refusal.{Refusal}
+use Rattle.record.specs.declared.command.Command.{Command}
+
+-- the command at a place with the cursor after it, or none at the end command; or why it is refused, and its place
+abbrev pub Judged : Type 0
+Judged = Result (Option (Command × Cursor)) (Refusal × ℕ)
 
 -- operands. 01: 4, 5, 6, so any 4 goes before any 5, and that before any 6 ------------------------------------------------------------------
 
@@ -48,9 +50,9 @@ if_absent side x o =
 
 -- 01 and 02, W-206: a text that is there lies in the pool and neither begins nor ends inside a sequence, or it is 4. In a pool without fault,
 -- and that is judged first, no tail stands at a place exactly if it is not inside a sequence (texts, proofs/EdgeLaws, `edge-no-tail`)
-abbrev pub text_fault : Str → Fault → OptText → Fault
-text_fault p absent Absent = absent
-text_fault p absent (Given t) =
+abbrev pub text_fault : Str → Fault → Option Text → Fault
+text_fault p absent None = absent
+text_fault p absent (Some t) =
     cond (leb (t.start + t.len) (length p) && (no_tail p t.start && no_tail p (t.start + t.len))) Fine Outside
 
 -- 01: a flag byte above 1 is 6
@@ -71,8 +73,8 @@ faults_from side p x i (o ∷ os) = worse_of (operand_fault side p x i o) (fault
 
 -- the fault of a command's operands, which begin at its second byte; nothing where there is no such command
 unfoldable pub faults_of : Side → Str → Str → Option Str → Fault
-faults_of side p x none = Fine
-faults_of side p x (some os) = faults_from side p x 1 os
+faults_of side p x None = Fine
+faults_of side p x (Some os) = faults_from side p x 1 os
 
 -- places ------------------------------------------------------------------------------------------------------------------
 
@@ -124,26 +126,26 @@ advanced c b w = record { at = c.at + w; last = b; parent = parent_after c.paren
 -- a command without fault. 01: any byte after 0F is 3, at its own place
 unfoldable pub ready : Str → Cursor → ℕ → ℕ → Judged
 ready s c b w =
-    cond (eqb b 15) (cond (eqb (c.at + w) (length s)) Done (Refused R.Misplaced (c.at + w)))
-    (Next (command_of b (drop c.at s)) (advanced c b w))
+    cond (eqb b 15) (cond (eqb (c.at + w) (length s)) (Ok None) (Err (R.Misplaced, c.at + w)))
+    (Ok (Some (command_of b (drop c.at s), advanced c b w)))
 
 abbrev pub faulted : ℕ → Judged → Fault → Judged
 faulted at j Fine = j
-faulted at j Outside = Refused R.Outside at
-faulted at j Missing = Refused R.Missing at
-faulted at j Flag = Refused R.Flag at
+faulted at j Outside = Err (R.Outside, at)
+faulted at j Missing = Err (R.Missing, at)
+faulted at j Flag = Err (R.Flag, at)
 
 -- by a command's operands, its width, and whether it may stand here
 unfoldable pub judged_with : Side → Str → Str → Cursor → Str → ℕ → Bool → Judged
 judged_with side s p c os w stands =
-    cond (ltb (length s - c.at) w) (Refused R.Cut c.at)
-    (cond stands (faulted c.at (ready s c (get_or s c.at 0) w) (faults_from side p (drop c.at s) 1 os)) (Refused R.Misplaced c.at))
+    cond (ltb (length s - c.at) w) (Err (R.Cut, c.at))
+    (cond stands (faulted c.at (ready s c (get_or s c.at 0) w) (faults_from side p (drop c.at s) 1 os)) (Err (R.Misplaced, c.at)))
 
 abbrev pub judged_as : Side → Str → Str → Cursor → ℕ → Option Str → Judged
-judged_as side s p c b none = Refused R.Unknown c.at
-judged_as side s p c b (some os) = judged_with side s p c os (1 + widths os) (may_stand c b)
+judged_as side s p c b None = Err (R.Unknown, c.at)
+judged_as side s p c b (Some os) = judged_with side s p c os (1 + widths os) (may_stand c b)
 
 -- the command at a cursor, of a stream beside a pool. 01: with 0F lacking, 1 at the stream's length
 unfoldable pub judged_at : Side → Str → Str → Cursor → Judged
 judged_at side s p c =
-    cond (ltb c.at (length s)) (judged_as side s p c (get_or s c.at 0) (operands (get_or s c.at 0))) (Refused R.Cut c.at)
+    cond (ltb c.at (length s)) (judged_as side s p c (get_or s c.at 0) (operands (get_or s c.at 0))) (Err (R.Cut, c.at))

@@ -1,5 +1,5 @@
 -- The plugin keys of a record: plugin_keys of schema.rs and of released.rs. Assumes nothing.
-use Rattle.std.specs.Prelude.{◌≡◌, List, [], ◌∷◌, ℕ, ◌≤◌}
+use Rattle.std.specs.Prelude.{◌≡◌, List, [], ◌∷◌, ℕ, ◌≤◌, Option, Some, None}
 use Rattle.record.specs.Base.{Str, with_some}
 use Rattle.record.specs.Schema.{Key, Field, Struct}
 use Rattle.record.specs.Commands.{place}
@@ -9,12 +9,9 @@ use Rattle.record.specs.declared.keys.KeysAt.{KeysAt}
 use Rattle.record.specs.declared.keys.KeysAt.TheVariants.{Stored, Unstored}
 use Rattle.record.specs.declared.keys.StoredAt.{StoredAt}
 use Rattle.record.specs.declared.keys.StoredAt.TheVariants.{Structs, Fields}
-use Rattle.record.specs.declared.keys.StoredStep.{StoredStep}
-use Rattle.record.specs.declared.keys.StoredStep.TheVariants.{NoStored, AStored}
 use Rattle.record.specs.declared.keys.FieldKey.{FieldKey}
 use Rattle.record.specs.declared.keys.FieldKey.TheVariants.{Ended, Keyed}
-use Rattle.record.specs.declared.keys.PluginKeyStep.{PluginKeyStep}
-use Rattle.record.specs.declared.keys.PluginKeyStep.TheVariants.{NoPluginKey, APluginKey}
+use Rattle.record.specs.declared.command as D
 
 unfoldable pub field_keys : List Field → List Key → List Key
 field_keys [] l = l
@@ -45,18 +42,18 @@ pub record AllKeys (r : KeysAt) : Type 0 where
   pub list : (s p : Str) → keys_from s p r ≡ plugin_keys (structs_at s p 0) (unstored_at s p 0)
 
 -- the list at a step
-abbrev pub stored_of : Str → Str → StoredStep → List Key → List Key
-stored_of s p NoStored l = l
-stored_of s p (AStored e k) l = key_of p e ∷ stored_from s p k l
+abbrev pub stored_of : Str → Str → Option (D.PluginKey.PluginKey × StoredAt) → List Key → List Key
+stored_of s p None l = l
+stored_of s p (Some (e, k)) l = key_of p e ∷ stored_from s p k l
 
-pub record StoredFrom (s : Str) (at : StoredAt) (r : StoredStep) : Type 0 where
+pub record StoredFrom (s : Str) (at : StoredAt) (r : Option (D.PluginKey.PluginKey × StoredAt)) : Type 0 where
   pub list : (p : Str) (l : List Key) → stored_from s p at l ≡ stored_of s p r l
 
-abbrev pub plugin_keys_of : Str → Str → PluginKeyStep → List Key
-plugin_keys_of s p NoPluginKey = []
-plugin_keys_of s p (APluginKey e k) = key_of p e ∷ keys_from s p k
+abbrev pub plugin_keys_of : Str → Str → Option (D.PluginKey.PluginKey × KeysAt) → List Key
+plugin_keys_of s p None = []
+plugin_keys_of s p (Some (e, k)) = key_of p e ∷ keys_from s p k
 
-pub record PluginKeysFrom (s : Str) (at : KeysAt) (r : PluginKeyStep) : Type 0 where
+pub record PluginKeysFrom (s : Str) (at : KeysAt) (r : Option (D.PluginKey.PluginKey × KeysAt)) : Type 0 where
   pub list : (p : Str) → keys_from s p at ≡ plugin_keys_of s p r
 
 -- the list at a step along the fields, and where they end

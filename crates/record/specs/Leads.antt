@@ -1,7 +1,6 @@
 -- The table of leads: for each declared type a place whose mark is no higher than that of any field with a mark that refers to it. What stands at the
 -- place is left open, since a look-up reads it again. Assumes nothing.
-use Rattle.std.specs.Prelude.{◌≡◌, List, Bool, true, false, cond, ℕ, ◌+◌, ◌-◌, ◌/◌, ◌≤◌, ◌<◌, eqb, length, get_or}
-use Rattle.std.proofs.Math.Option.{some}
+use Rattle.std.specs.Prelude.{◌≡◌, List, Bool, true, false, cond, ℕ, ◌+◌, ◌-◌, ◌/◌, ◌≤◌, ◌<◌, eqb, length, get_or, Some}
 use Rattle.record.specs.Base.{Str}
 use Rattle.record.specs.Index.{first_place, Indexed}
 use Rattle.record.specs.Marks.{reference_at}
@@ -34,7 +33,7 @@ pub record PutLeast (m t : List ℕ) (e q : ℕ) (after : List ℕ) : Type 0 whe
 
 -- the fields with a mark before a place have been put into the table
 pub record LedTo (s p : Str) (m t : List ℕ) (i : ℕ) : Type 0 where
-  pub each : (q : ℕ) (n : Str) → q < i → (get_or m q 0 ≡ 0 → ⊥) → reference_at s p q ≡ some n → entry_of s p n < length t
+  pub each : (q : ℕ) (n : Str) → q < i → (get_or m q 0 ≡ 0 → ⊥) → reference_at s p q ≡ Some n → entry_of s p n < length t
       → Least m (get_or t (entry_of s p n) 0) q
 
 -- a table into which the field at q was put, where the index is the record's
@@ -44,7 +43,7 @@ pub record PutLead (s p : Str) (m x t : List ℕ) (q : ℕ) (after : List ℕ) :
 
 -- the table of a record's leads
 pub record LeadTable (s p : Str) (m t : List ℕ) : Type 0 where
-  pub each : (q : ℕ) (n : Str) → (get_or m q 0 ≡ 0 → ⊥) → reference_at s p q ≡ some n → entry_of s p n < length t → Least m (get_or t (entry_of s p n) 0) q
+  pub each : (q : ℕ) (n : Str) → (get_or m q 0 ≡ 0 → ⊥) → reference_at s p q ≡ Some n → entry_of s p n < length t → Least m (get_or t (entry_of s p n) 0) q
 
 -- a table that was filled: the record's, where the index is and a place fits an entry
 pub record LeadsFilled (s p : Str) (m x t : List ℕ) : Type 0 where
@@ -52,8 +51,8 @@ pub record LeadsFilled (s p : Str) (m x t : List ℕ) : Type 0 where
 
 -- what is known of the fields with a mark that refer to a name: that there is none, or that none has a lower mark than this one
 pub record LeadsTo (s p : Str) (m : List ℕ) (n : Str) (r : Lead) : Type 0 where
-  pub none : r ≡ NoField → (q : ℕ) → (get_or m q 0 ≡ 0 → ⊥) → reference_at s p q ≡ some n → ⊥
-  pub least : (i : ℕ) → r ≡ AField i → (q : ℕ) → (get_or m q 0 ≡ 0 → ⊥) → reference_at s p q ≡ some n → get_or m i 0 ≤ get_or m q 0
+  pub none : r ≡ NoField → (q : ℕ) → (get_or m q 0 ≡ 0 → ⊥) → reference_at s p q ≡ Some n → ⊥
+  pub least : (i : ℕ) → r ≡ AField i → (q : ℕ) → (get_or m q 0 ≡ 0 → ⊥) → reference_at s p q ≡ Some n → get_or m i 0 ≤ get_or m q 0
 
 -- the answer, where the index and the table are the record's
 pub record LeadGiven (s p : Str) (x t : List ℕ) (n : Str) (r : Lead) : Type 0 where

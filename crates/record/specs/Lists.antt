@@ -1,27 +1,19 @@
 -- The lists of a record (01, Record commands), read off the places of its commands; what the operands mean over the pool. Assumes nothing.
-use Rattle.std.specs.Prelude.{List, [], ◌∷◌, Bool, true, false, ◌||◌, cond, ℕ, get_or, drop, eqb}
-use Rattle.std.proofs.Math.Option.{Option, none, some}
+use Rattle.std.specs.Prelude.{List, [], ◌∷◌, Bool, true, false, ◌||◌, cond, ℕ, get_or, drop, eqb, Option, Some, None}
 use Rattle.record.specs.Base.{Str, first, or_else}
 use Rattle.record.specs.Stretch.{text_of}
 use Rattle.record.specs.Schema.{Heading, integer, words, Const, Alias, Enum, EnumValue, BitField, Member}
 use Rattle.record.specs.Schema.{Key, Field, Struct, Variant, Family, Version}
 use Rattle.record.specs.Commands.{head_at, constant_at, alias_at, enum_at, value_at, bitfield_at, member_at}
 use Rattle.record.specs.Commands.{struct_at, family_at, variant_at, field_at, key_at, version_at}
-use Rattle.record.specs.declared.operands.OptText.{OptText}
-use Rattle.record.specs.declared.operands.OptText.TheVariants.{Absent, Given}
-use Rattle.record.specs.declared.operands.OptNumber.{OptNumber}
-use Rattle.record.specs.declared.operands.OptNumber.TheVariants.{Missing, Number}
 use Rattle.record.specs.declared.command as D
+use Rattle.record.specs.declared.text.Text.{Text}
 
 -- operands ---------------------------------------------------------------------------------------------------------------
 
-abbrev pub opt_of : Str → OptText → Option Str
-opt_of p Absent = none
-opt_of p (Given t) = some (text_of p t)
-
-abbrev pub number_of : OptNumber → Option ℕ
-number_of Missing = none
-number_of (Number n) = some n
+abbrev pub opt_of : Str → Option Text → Option Str
+opt_of p None = None
+opt_of p (Some t) = Some (text_of p t)
 
 -- elements ---------------------------------------------------------------------------------------------------------------
 
@@ -49,7 +41,7 @@ abbrev pub bitfield_of : Str → D.Bitfield.Bitfield → List Member → BitFiel
 bitfield_of p c l = record { name = text_of p c.name; size = c.size; since = opt_of p c.first_release; members = l }
 
 abbrev pub member_of : Str → D.Member.Member → Member
-member_of p c = record { name = text_of p c.name; bit = c.bit; width = number_of c.width; since = opt_of p c.first_release }
+member_of p c = record { name = text_of p c.name; bit = c.bit; width = c.width; since = opt_of p c.first_release }
 
 abbrev pub struct_of : Str → D.Struct.Struct → List Field → Struct
 struct_of p c l = record { name = text_of p c.name; slot = opt_of p c.generation_slot; version = opt_of p c.version_constant; fields = l }
@@ -75,10 +67,10 @@ field_of p c k = record {
   kind = text_of p c.kind;
   typ = opt_of p c.type_name;
   element = opt_of p c.element;
-  count = number_of c.count;
-  rows = number_of c.rows;
-  cols = number_of c.cols;
-  size = number_of c.size;
+  count = c.count;
+  rows = c.rows;
+  cols = c.cols;
+  size = c.size;
   key = k;
 }
 

@@ -1,7 +1,6 @@
 -- Marks on the fields and types of a stream, one for each byte at which a command may begin, and what a walk does to them: the code's way to 01,
 -- Ownership, which is defined in Owner. Assumes nothing.
-use Rattle.std.specs.Prelude.{◌≡◌, List, [], ◌∷◌, Bool, true, false, cond, ◌⊎◌, ℕ, suc, ◌+◌, ◌-◌, ◌≤◌, ◌<◌, length, get_or, drop, eqb}
-use Rattle.std.proofs.Math.Option.{Option, none, some}
+use Rattle.std.specs.Prelude.{◌≡◌, List, [], ◌∷◌, Bool, true, false, cond, ◌⊎◌, ℕ, suc, ◌+◌, ◌-◌, ◌≤◌, ◌<◌, length, get_or, drop, eqb, Option, Some, None}
 use Rattle.record.specs.Base.{Str, first}
 use Rattle.record.specs.Schema.{Field}
 use Rattle.record.specs.Commands.{field_at, commands_at}
@@ -13,13 +12,8 @@ use Rattle.record.specs.declared.seek.Between.TheVariants.{Keys, Variants}
 use Rattle.record.specs.Index.{first_place, sought_at, Indexed}
 use Rattle.record.specs.Owner.{Types, referenced, has_slot, type_fields, Edge, Leads}
 use Rattle.record.specs.References.{types_at}
-use Rattle.record.specs.declared.seek.Sought.{Sought}
-use Rattle.record.specs.declared.seek.Sought.TheVariants.{Nowhere, At}
 use Rattle.record.specs.declared.marks.Body.{Body}
-use Rattle.record.specs.declared.marks.Target.{Target}
-use Rattle.record.specs.declared.marks.Target.TheVariants.{Nothing, Fields}
-use Rattle.record.specs.declared.marks.PlaceStep.{PlaceStep}
-use Rattle.record.specs.declared.marks.PlaceStep.TheVariants.{NoPlace, APlace}
+use Rattle.record.specs.Commands.{Step}
 
 -- places -----------------------------------------------------------------------------------------------------------------
 
@@ -32,24 +26,24 @@ between false = Keys
 unfoldable pub body_at : Bool → Str → Str → ℕ → List Field
 body_at family s p at = listed s (over_of (between family)) 11 (λ at rest. field_of p (field_at (drop at s)) (first (keys s p rest))) (commands_at s at)
 
-abbrev pub body_of : Bool → Str → Str → PlaceStep → List Field
-body_of family s p NoPlace = []
-body_of family s p (APlace q k) = field_of p (field_at (drop q s)) (field_key_at s p k.at) ∷ body_at family s p k.at
+abbrev pub body_of : Bool → Str → Str → Step ℕ → List Field
+body_of family s p None = []
+body_of family s p (Some (q, k)) = field_of p (field_at (drop q s)) (field_key_at s p k.at) ∷ body_at family s p k.at
 
-abbrev pub body_left : Str → PlaceStep → ℕ
-body_left s NoPlace = 0
-body_left s (APlace q k) = suc (length s - k.at)
+abbrev pub body_left : Str → Step ℕ → ℕ
+body_left s None = 0
+body_left s (Some (q, k)) = suc (length s - k.at)
 
-abbrev pub place_past : PlaceStep → ℕ
-place_past NoPlace = 0
-place_past (APlace q k) = suc q
+abbrev pub place_past : Step ℕ → ℕ
+place_past None = 0
+place_past (Some (q, k)) = suc q
 
-abbrev pub place_number : Str → PlaceStep → ℕ
-place_number s NoPlace = 11
-place_number s (APlace q k) = get_or s q 0
+abbrev pub place_number : Str → Step ℕ → ℕ
+place_number s None = 11
+place_number s (Some (q, k)) = get_or s q 0
 
 -- a step along a type's fields: the list at the step, one more than the bytes after the field, its place inside the stream, and the number there
-pub record PlacesFrom (family : Bool) (s : Str) (at : ℕ) (r : PlaceStep) : Type 0 where
+pub record PlacesFrom (family : Bool) (s : Str) (at : ℕ) (r : Step ℕ) : Type 0 where
   pub list : (p : Str) → body_at family s p at ≡ body_of family s p r
   pub left : body_left s r ≤ length s - at
   pub within : place_past r ≤ length s
@@ -57,22 +51,22 @@ pub record PlacesFrom (family : Bool) (s : Str) (at : ℕ) (r : PlaceStep) : Typ
 
 -- the name that the field at a place refers to
 unfoldable pub reference_at : Str → Str → ℕ → Option Str
-reference_at s p q = referenced (field_of p (field_at (drop q s)) none)
+reference_at s p q = referenced (field_of p (field_at (drop q s)) None)
 
 -- a name, unless it is that of a structure with slot text
 unfoldable pub entered : Types → Option Str → Option Str
-entered t none = none
-entered t (some n) = cond (has_slot t n) none (some n)
+entered t None = None
+entered t (Some n) = cond (has_slot t n) None (Some n)
 
 -- the name that the field at a place leads to
 unfoldable pub target_at : Str → Str → ℕ → Option Str
 target_at s p q = entered (types_at s p) (reference_at s p q)
 
 -- the first of two places that there is, else where the stream ends
-unfoldable pub either_place : Str → Sought → Sought → ℕ
-either_place s (At a k) f = a
-either_place s Nowhere (At a k) = a
-either_place s Nowhere Nowhere = length s
+unfoldable pub either_place : Str → Option (ℕ × ℕ) → Option (ℕ × ℕ) → ℕ
+either_place s (Some (a, k)) f = a
+either_place s None (Some (a, k)) = a
+either_place s None None = length s
 
 -- the place of a type's command: of the first structure of the name, else of the first family, else where the stream ends
 unfoldable pub type_place : Str → Str → Str → ℕ
@@ -84,20 +78,20 @@ pub record IsBody (s p : Str) (n : Str) (b : Body) : Type 0 where
   pub fields : type_fields (types_at s p) n ≡ body_at b.family s p b.from.at
 
 -- what a reference to a name leads to: nothing where it is a structure with slot text, else the fields of its type
-abbrev pub Entering : Str → Str → Str → Target → Type 0
-Entering s p n Nothing = has_slot (types_at s p) n ≡ true
-Entering s p n (Fields b) = (has_slot (types_at s p) n ≡ false) × IsBody s p n b
+abbrev pub Entering : Str → Str → Str → Option Body → Type 0
+Entering s p n None = has_slot (types_at s p) n ≡ true
+Entering s p n (Some b) = (has_slot (types_at s p) n ≡ false) × IsBody s p n b
 
 -- the field at a place leads to a name whose fields begin here
 pub record Into (s p : Str) (q : ℕ) (b : Body) : Type 0 where
   pub name : Str
-  pub target : target_at s p q ≡ some name
+  pub target : target_at s p q ≡ Some name
   pub body : IsBody s p name b
 
 -- what the field at a place leads to
-abbrev pub LeadsToTarget : Str → Str → ℕ → Target → Type 0
-LeadsToTarget s p q Nothing = target_at s p q ≡ none
-LeadsToTarget s p q (Fields b) = Into s p q b
+abbrev pub LeadsToTarget : Str → Str → ℕ → Option Body → Type 0
+LeadsToTarget s p q None = target_at s p q ≡ None
+LeadsToTarget s p q (Some b) = Into s p q b
 
 -- walks ------------------------------------------------------------------------------------------------------------------
 
@@ -130,7 +124,7 @@ pub record Named (s p : Str) (m : List ℕ) (n : Str) : Type 0 where
   pub place : ℕ
   pub field : get_or s place 0 ≡ 11
   pub marked : get_or m place 0 ≡ 0 → ⊥
-  pub leads : target_at s p place ≡ some n
+  pub leads : target_at s p place ≡ Some n
 
 -- whatever a type's fields lead to, a marked field leads to
 pub record Full (s p : Str) (m : List ℕ) (n : Str) : Type 0 where
@@ -140,7 +134,7 @@ pub record Full (s p : Str) (m : List ℕ) (n : Str) : Type 0 where
 pub record Fresh (s p : Str) (mark : ℕ) (R : Str → Type 0) (before after : List ℕ) (q : ℕ) : Type 0 where
   pub was : get_or before q 0 ≡ 0
   pub is : get_or after q 0 ≡ mark
-  pub into : (n : Str) → target_at s p q ≡ some n → R n
+  pub into : (n : Str) → target_at s p q ≡ Some n → R n
 
 -- a type that was marked on the way
 pub record Entered (s : Str) (before after : List ℕ) (q : ℕ) : Type 0 where
@@ -164,7 +158,7 @@ pub record Led (s p : Str) (x before after : List ℕ) (So : Type 0) : Type 0 wh
 pub record Walked (s p : Str) (mark : ℕ) (R : Str → Type 0) (before after : List ℕ) : Type 0 where
   pub each : (q : ℕ) → Change s p mark R before after q
   pub closed : (q : ℕ) → get_or s q 0 ≡ 11 → (get_or after q 0 ≡ 0 → ⊥)
-      → (get_or before q 0 ≡ 0 → ⊥) ⊎ ((n : Str) → target_at s p q ≡ some n → Visited s p after n)
+      → (get_or before q 0 ≡ 0 → ⊥) ⊎ ((n : Str) → target_at s p q ≡ Some n → Visited s p after n)
   pub filled : (n : Str) → Visited s p after n → Visited s p before n ⊎ Full s p after n
 
 -- a type's walk
@@ -179,7 +173,7 @@ pub record BodyWalked (s p : Str) (mark : ℕ) (b : Body) (before after : List �
 -- what a field leads to leads to the name
 pub record Beyond (s p : Str) (q : ℕ) (n : Str) : Type 0 where
   pub through : Str
-  pub target : target_at s p q ≡ some through
+  pub target : target_at s p q ≡ Some through
   pub leads : Leads (types_at s p) through n
 
 -- a field's walk

@@ -1,7 +1,6 @@
 -- Ownership: referenced_type, slot_of, struct_in_slot, type_fields, claim and ownership of schema.rs, and 01's sentence. Assumes nothing.
-use Rattle.std.specs.Prelude.{◌≡◌, Bool, true, false, ℕ, zero, suc, ◌+◌, length}
+use Rattle.std.specs.Prelude.{◌≡◌, Bool, true, false, ℕ, zero, suc, ◌+◌, length, Option, Some, None}
 use mathlib.Core.List.{List, [], ◌∷◌, ◌++◌, map, Memᴰ}
-use Rattle.std.proofs.Math.Option.{Option, none, some}
 use Rattle.record.specs.Base.{Str, bytes, eqs, is_text, is_some, find}
 use Rattle.record.specs.Schema.{Schema, Field, Struct, Family, Variant}
 use Rattle.record.specs.Steps.{struct_in, family_in}
@@ -22,8 +21,8 @@ unfoldable pub struct_in_slot : Str → List Struct → Option Struct
 struct_in_slot slot l = find (λ (t : Struct). is_text t.slot slot) l
 
 unfoldable pub slotted : Option Struct → Bool
-slotted none = false
-slotted (some t) = is_some t.slot
+slotted None = false
+slotted (Some t) = is_some t.slot
 
 -- whether the first structure of this name has slot text, whatever it says
 unfoldable pub has_slot : Types → Str → Bool
@@ -35,18 +34,18 @@ referenced_as K.TaggedFamPtr f = f.typ
 referenced_as K.SimpleFamPtr f = f.typ
 referenced_as K.StructArrayPtr f = f.element
 referenced_as K.StructPtrArrayPtr f = f.element
-referenced_as K.Scalar f = none
-referenced_as K.Enum f = none
-referenced_as K.TypeAlias f = none
-referenced_as K.Bitfield f = none
-referenced_as K.InlineArray f = none
-referenced_as K.InlineArray2d f = none
-referenced_as K.CstrPtr f = none
-referenced_as K.OpaquePtr f = none
-referenced_as K.FnPtr f = none
-referenced_as K.Padding f = none
-referenced_as K.Text f = none
-referenced_as K.Other f = none
+referenced_as K.Scalar f = None
+referenced_as K.Enum f = None
+referenced_as K.TypeAlias f = None
+referenced_as K.Bitfield f = None
+referenced_as K.InlineArray f = None
+referenced_as K.InlineArray2d f = None
+referenced_as K.CstrPtr f = None
+referenced_as K.OpaquePtr f = None
+referenced_as K.FnPtr f = None
+referenced_as K.Padding f = None
+referenced_as K.Text f = None
+referenced_as K.Other f = None
 
 -- the name that a field refers to
 unfoldable pub referenced : Field → Option Str
@@ -57,9 +56,9 @@ variant_fields [] = []
 variant_fields (v ∷ vs) = v.fields ++ variant_fields vs
 
 unfoldable pub fields_in : Option Struct → Option Family → List Field
-fields_in (some t) m = t.fields
-fields_in none (some m) = m.common ++ variant_fields m.variants
-fields_in none none = []
+fields_in (Some t) m = t.fields
+fields_in None (Some m) = m.common ++ variant_fields m.variants
+fields_in None None = []
 
 -- the fields of the first structure of this name, else of the first family
 unfoldable pub type_fields : Types → Str → List Field
@@ -81,13 +80,13 @@ unless true g os = os
 unless false g os = g os
 
 unfoldable pub enter : Option Owned → (List Owned → List Owned) → List Owned → List Owned
-enter (some o) g os = os
-enter none g os = g os
+enter (Some o) g os = os
+enter None g os = g os
 
 -- a field's walk visits the type it names
 unfoldable pub visit : (Str → List Owned → List Owned) → Types → Option Str → List Owned → List Owned
-visit go t none os = os
-visit go t (some n) os = unless (has_slot t n) (go n) os
+visit go t None os = os
+visit go t (Some n) os = unless (has_slot t n) (go n) os
 
 -- a type's walk visits its fields
 unfoldable pub visit_all : (Str → List Owned → List Owned) → Types → List Field → List Owned → List Owned
@@ -107,8 +106,8 @@ claim_roots t [] os = os
 claim_roots t (r ∷ rs) os = claim_roots t rs (claim (length (declared t) + 1) t r r os)
 
 unfoldable pub with_name : Option Struct → List Str → List Str
-with_name none l = l
-with_name (some s) l = s.name ∷ l
+with_name None l = l
+with_name (Some s) l = s.name ∷ l
 
 -- the names of the structures that fill these slots
 unfoldable pub roots_in : List Struct → List Str → List Str
@@ -123,8 +122,8 @@ unfoldable pub roots : Types → List Str
 roots t = roots_in t.structs ownership_order
 
 unfoldable pub root_of : Option Owned → Option Str
-root_of none = none
-root_of (some o) = some o.root
+root_of None = None
+root_of (Some o) = Some o.root
 
 unfoldable pub owner_of : Types → Str → Option Str
 owner_of t n = root_of (owned_in (claim_roots t (roots t) []) n)
@@ -136,7 +135,7 @@ owner_of t n = root_of (owned_in (claim_roots t (roots t) []) n)
 pub record Edge (t : Types) (m n : Str) : Type 0 where
   pub field : Field
   pub is_field : Memᴰ field (type_fields t m)
-  pub names : referenced field ≡ some n
+  pub names : referenced field ≡ Some n
   pub free : has_slot t n ≡ false
 
 -- references lead from a to b

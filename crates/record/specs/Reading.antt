@@ -1,7 +1,6 @@
 -- The reading of a record: a stream of commands and a pool of texts to a schema, or a refusal with its place, in the order of 01, What a check
 -- returns. Assumes nothing.
-use Rattle.std.specs.Prelude.{List, [], ◌∷◌, ◌++◌, Bool, true, false, ◌&&◌, ◌||◌, cond, ℕ, zero, suc, ◌+◌, eqb, ltb, leb, length, get_or, drop}
-use Rattle.std.proofs.Math.Option.{Option, none, some}
+use Rattle.std.specs.Prelude.{List, [], ◌∷◌, ◌++◌, Bool, true, false, ◌&&◌, ◌||◌, cond, ℕ, zero, suc, ◌+◌, eqb, ltb, leb, length, get_or, drop, Option, Some, None, Result, Ok, Err}
 use Rattle.record.specs.Base.{Str, first, find, any}
 use Rattle.record.specs.Scalars.{Scalar}
 use Rattle.record.specs.Schema.{Schema, Heading, Field}
@@ -14,10 +13,7 @@ use Rattle.record.specs.declared.command.Cursor.{Cursor}
 use Rattle.record.specs.declared.refusal.Side.{Side}
 use Rattle.record.specs.declared.refusal.Refusal.{Refusal}
 use Rattle.record.specs.declared.refusal.Refusal.TheVariants as R
-use Rattle.record.specs.declared.judge.Judged.{Judged}
-use Rattle.record.specs.declared.judge.Judged.TheVariants.{Next, Done, Refused}
-use Rattle.record.specs.declared.letters.Letters.{Letters}
-use Rattle.record.specs.declared.letters.Letters.TheVariants.{Good, Odd}
+use Rattle.record.specs.Judge.{Judged}
 
 -- a record, with the table of scalar words under which it is read
 pub record Rec : Type 0 where
@@ -31,12 +27,12 @@ rec s p w = record { stream = s; pool = p; scalars = w }
 -- the schema --------------------------------------------------------------------------------------------------------------
 
 unfoldable pub release_of : Option Heading → Option Str
-release_of none = none
-release_of (some h) = h.release
+release_of None = None
+release_of (Some h) = h.release
 
 unfoldable pub unreleased_of : Option Heading → Bool
-unreleased_of none = false
-unreleased_of (some h) = h.unreleased
+unreleased_of None = false
+unreleased_of (Some h) = h.unreleased
 
 -- what the commands at these places give
 unfoldable pub schema_from : Rec → List ℕ → Schema
@@ -100,9 +96,9 @@ onto at (bad n p) = bad n p
 
 -- the rest is judged only where a command is followed by more
 unfoldable pub continued : ℕ → (Cursor → Parsed) → Judged → Parsed
-continued at go (Next c k) = onto at (go k)
-continued at go Done = ok []
-continued at go (Refused n p) = bad n p
+continued at go (Ok (Some (c, k))) = onto at (go k)
+continued at go (Ok None) = ok []
+continued at go (Err (n, p)) = bad n p
 
 unfoldable pub parse : ℕ → Side → Str → Str → Cursor → Parsed
 parse zero side s p c = bad R.Cut c.at
@@ -119,18 +115,18 @@ unfoldable pub pool_limit : ℕ
 pool_limit = 16384
 
 unfoldable pub vast_or : Schema → Option Opened → Reading
-vast_or s none = read s
-vast_or s (some t) = refuse R.Vast t.place
+vast_or s None = read s
+vast_or s (Some t) = refuse R.Vast t.place
 
 unfoldable pub sizes_of : Rec → List ℕ → Reading
 sizes_of r ps = vast_or (schema_from r ps) (find (vast (schema_from r ps)) (opened r.stream r.pool ps))
 
 -- 01: 8 (place 0), 7 (pool offset), the commands from the front, then 9 (place of the command opening the first such type)
-unfoldable pub concluded : Rec → Bool → Letters → Parsed → Reading
+unfoldable pub concluded : Rec → Bool → Option ℕ → Parsed → Reading
 concluded r false l c = refuse R.Long 0
-concluded r true (Odd i) c = refuse R.Letter i
-concluded r true Good (bad n p) = refuse n p
-concluded r true Good (ok ps) = sizes_of r ps
+concluded r true (Some i) c = refuse R.Letter i
+concluded r true None (bad n p) = refuse n p
+concluded r true None (ok ps) = sizes_of r ps
 
 unfoldable pub reading : Side → Rec → Reading
 reading side r =

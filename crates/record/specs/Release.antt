@@ -1,11 +1,7 @@
 -- Releases as three numbers: is_release and release_parts of schema.rs, FIRST_RELEASE_NAMING_ITSELF of layout.rs. Assumes nothing.
-use Rattle.std.specs.Prelude.{ℕ, ◌+◌, ◌-◌, ◌*◌, ◌^◌, List, [], ◌∷◌, Bool, true, ◌&&◌, ◌||◌, not, cond, length, get_or, eqb, ltb, leb}
+use Rattle.std.specs.Prelude.{ℕ, ◌+◌, ◌-◌, ◌*◌, ◌^◌, List, [], ◌∷◌, Bool, true, ◌&&◌, ◌||◌, not, cond, length, get_or, eqb, ltb, leb, Option, Some, None}
 use Rattle.record.specs.Base.{Str, bytes, eqs}
 use Rattle.record.specs.declared.release.Release.{Release}
-use Rattle.record.specs.declared.release.ReleaseParts.{ReleaseParts}
-use Rattle.record.specs.declared.release.ReleaseParts.TheVariants.{NotARelease, Parts}
-use Rattle.record.specs.declared.release.Parsed.{Parsed}
-use Rattle.record.specs.declared.release.Parsed.TheVariants.{Vast, Number}
 
 unfoldable pub onto_head : ℕ → List Str → List Str
 onto_head a [] = (a ∷ []) ∷ []
@@ -40,21 +36,21 @@ number acc [] = acc
 number acc (a ∷ s) = number (acc * 10 + (a - 48)) s
 
 -- a number of 32 bits
-unfoldable pub as_u32 : ℕ → Parsed
-as_u32 n = cond (ltb n (2 ^ 32)) (Number n) Vast
+unfoldable pub as_u32 : ℕ → Option ℕ
+as_u32 n = cond (ltb n (2 ^ 32)) (Some n) None
 
-unfoldable pub parsed_part : Str → ℕ → Parsed
+unfoldable pub parsed_part : Str → ℕ → Option ℕ
 parsed_part s i = as_u32 (number 0 (get_or (parts s) i []))
 
-abbrev pub of_numbers : Parsed → Parsed → Parsed → ReleaseParts
-of_numbers Vast b c = NotARelease
-of_numbers (Number a) Vast c = NotARelease
-of_numbers (Number a) (Number b) Vast = NotARelease
-of_numbers (Number a) (Number b) (Number c) = Parts (record { major = a; minor = b; patch = c })
+abbrev pub of_numbers : Option ℕ → Option ℕ → Option ℕ → Option Release
+of_numbers None b c = None
+of_numbers (Some a) None c = None
+of_numbers (Some a) (Some b) None = None
+of_numbers (Some a) (Some b) (Some c) = Some (record { major = a; minor = b; patch = c })
 
 -- a release whose numbers are of 32 bits
-unfoldable pub release_parts : Str → ReleaseParts
-release_parts s = cond (is_release s) (of_numbers (parsed_part s 0) (parsed_part s 1) (parsed_part s 2)) NotARelease
+unfoldable pub release_parts : Str → Option Release
+release_parts s = cond (is_release s) (of_numbers (parsed_part s 0) (parsed_part s 1) (parsed_part s 2)) None
 
 unfoldable pub earlier : Release → Release → Bool
 earlier a b =

@@ -1,6 +1,5 @@
 -- Scalar words and their sizes: prim_size of schema.rs, over a table of rows that is lent. Assumes nothing.
-use Rattle.std.specs.Prelude.{ℕ, zero, suc, ◌+◌, ◌-◌, List, [], ◌∷◌, cond, length, take, drop, get_or, leb}
-use Rattle.std.proofs.Math.Option.{Option, none, some}
+use Rattle.std.specs.Prelude.{ℕ, zero, suc, ◌+◌, ◌-◌, List, [], ◌∷◌, cond, length, take, drop, get_or, leb, Option, Some, None}
 use Rattle.record.specs.Base.{Str, bytes, eqs, find}
 use Rattle.record.specs.Cut.{before_byte}
 
@@ -32,8 +31,8 @@ unfoldable pub scalar_in : Str → List Scalar → Option Scalar
 scalar_in w rows = find (λ (c : Scalar). eqs c.word w) rows
 
 abbrev pub size_found : Option Scalar → ℕ
-size_found none = 0
-size_found (some c) = c.size
+size_found None = 0
+size_found (Some c) = c.size
 
 -- the size of a scalar word, and 0 for a word that is none
 unfoldable pub prim_size : List Scalar → Str → ℕ

@@ -1,6 +1,5 @@
 -- A record's model: what the commands of 01, Record commands, give of Schema in schema.rs and Released in released.rs. Assumes nothing.
-use Rattle.std.specs.Prelude.{List, Bool, ℕ}
-use Rattle.std.proofs.Math.Option.{Option}
+use Rattle.std.specs.Prelude.{List, Bool, ℕ, Option}
 use Rattle.record.specs.Base.{Str}
 use Rattle.record.specs.Scalars.{Scalar}
 

@@ -1,6 +1,5 @@
 -- Sizes, descriptions and places of fields: shape_size and shape_type of schema.rs, add_type and fam_prefix of layout.rs. Assumes nothing.
-use Rattle.std.specs.Prelude.{List, [], ◌∷◌, ◌++◌, Bool, cond, ℕ, ◌+◌, ◌*◌, leb}
-use Rattle.std.proofs.Math.Option.{Option, none, some}
+use Rattle.std.specs.Prelude.{List, [], ◌∷◌, ◌++◌, Bool, cond, ℕ, ◌+◌, ◌*◌, leb, Option, Some, None}
 use Rattle.record.specs.Base.{Str, bytes, decimal, or_else, or_option, map_option}
 use Rattle.record.specs.Scalars.{Scalar, prim_size}
 use Rattle.record.specs.Schema.{Schema, Field, Family, Enum, Alias, BitField}
@@ -22,8 +21,8 @@ bitfield_size bs n = map_option (λ (b : BitField). b.size) (bitfield_in n bs)
 
 -- the size of the type that a field names, or this one where it names none or none is declared
 unfoldable pub sized : Option Str → (Str → Option ℕ) → ℕ → ℕ
-sized none f d = d
-sized (some n) f d = or_else (f n) d
+sized None f d = d
+sized (Some n) f d = or_else (f n) d
 
 -- the size of a scalar that is a byte where no word is given
 unfoldable pub scalar_size : Schema → Option Str → ℕ
@@ -55,8 +54,8 @@ shape_size s f = size_as (kind_of f.kind) s f
 
 -- what stands after the kind: nothing, or a space and more
 unfoldable pub spaced : Option Str → Str
-spaced none = []
-spaced (some n) = 32 ∷ n
+spaced None = []
+spaced (Some n) = 32 ∷ n
 
 unfoldable pub named : Field → Str
 named f = spaced (or_option f.typ f.element)
@@ -112,13 +111,13 @@ unfoldable pub plain : Str → Str → Str → Field
 plain n k t = record {
   name = n;
   kind = k;
-  typ = some t;
-  element = none;
-  count = none;
-  rows = none;
-  cols = none;
-  size = none;
-  key = none;
+  typ = Some t;
+  element = None;
+  count = None;
+  rows = None;
+  cols = None;
+  size = None;
+  key = None;
 }
 
 -- 01: family layouts begin with discriminant and length field

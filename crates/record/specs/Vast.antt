@@ -1,21 +1,18 @@
 -- The types of a record in the order of the stream, as the code steps along them, and the first that is vast: the code's way to number 9 of 01,
 -- which is defined in Reading. Then a bound of all the sizes in a record, by the numbers in its commands alone. Assumes nothing.
-use Rattle.std.specs.Prelude.{◌≡◌, List, [], ◌∷◌, ◌++◌, cond, ℕ, suc, ◌+◌, ◌-◌, ◌*◌, ◌≤◌, length, get_or, drop, eqb}
-use Rattle.std.proofs.Math.Option.{Option, none, some}
+use Rattle.std.specs.Prelude.{◌≡◌, List, [], ◌∷◌, ◌++◌, cond, ℕ, suc, ◌+◌, ◌-◌, ◌*◌, ◌≤◌, length, get_or, drop, eqb, Option, Some, None}
 use Rattle.record.specs.Base.{Str, find, or_else}
 use Rattle.record.specs.Le.{u32_at}
 use Rattle.record.specs.Scalars.{Scalar}
 use Rattle.record.specs.Schema.{Schema, Family}
 use Rattle.record.specs.Commands.{commands_at, field_at}
-use Rattle.record.specs.Lists.{family_of, number_of}
+use Rattle.record.specs.Lists.{family_of}
 use Rattle.record.specs.Steps.{fields_at}
 use Rattle.record.specs.Shapes.{enum_size, sized, scalar_size, fam_prefix}
 use Rattle.record.specs.Reading.{Rec, Opened, opened, vast, schema_of}
 use Rattle.record.specs.declared.command as D
 use Rattle.record.specs.declared.vast.TypeStep.{TypeStep}
 use Rattle.record.specs.declared.vast.TypeStep.TheVariants.{NoType, Plain, Fronted}
-use Rattle.record.specs.declared.vast.Vast.{Vast}
-use Rattle.record.specs.declared.vast.Vast.TheVariants.{NoneVast, VastAt}
 
 -- the types that the stream opens from a place on
 unfoldable pub opened_from : Str → Str → ℕ → List Opened
@@ -37,7 +34,7 @@ pub record OpenedFrom (s : Str) (at : ℕ) (r : TypeStep) : Type 0 where
 
 -- the two fields in front of a family, and where they end
 unfoldable pub disc_size : Schema → Family → ℕ
-disc_size s m = sized (some m.disc_type) (enum_size s.enums) 1
+disc_size s m = sized (Some m.disc_type) (enum_size s.enums) 1
 
 unfoldable pub len_size : Schema → Family → ℕ
 len_size s m = scalar_size s m.len_type
@@ -45,12 +42,12 @@ len_size s m = scalar_size s m.len_type
 unfoldable pub front_end : Schema → Family → ℕ
 front_end s m = disc_size s m + len_size s m
 
-abbrev pub vast_at : Option Opened → Vast
-vast_at none = NoneVast
-vast_at (some t) = VastAt t.place
+abbrev pub vast_at : Option Opened → Option ℕ
+vast_at None = None
+vast_at (Some t) = Some t.place
 
 -- the first vast type from a place on
-unfoldable pub first_vast : Rec → ℕ → Vast
+unfoldable pub first_vast : Rec → ℕ → Option ℕ
 first_vast r at = vast_at (find (vast (schema_of r)) (opened_from r.stream r.pool at))
 
 -- a bound ----------------------------------------------------------------------------------------------------------------
@@ -67,7 +64,7 @@ unit_at s at = cond (eqb (get_or s at 0) 4) (u32_at (drop at s) 4) (cond (eqb (g
 -- what a field's numbers add to the bound of its size, where no scalar is larger than v
 unfoldable pub numbers_of : ℕ → D.Field.Field → ℕ
 numbers_of v f =
-    v * or_else (number_of f.count) 0 + (v * or_else (number_of f.rows) 0 * or_else (number_of f.cols) 0 + or_else (number_of f.size) 0)
+    v * or_else f.count 0 + (v * or_else f.rows 0 * or_else f.cols 0 + or_else f.size 0)
 
 -- what a command adds by its numbers: a field alone does
 unfoldable pub extra_at : ℕ → Str → ℕ → ℕ

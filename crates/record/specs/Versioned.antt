@@ -1,6 +1,5 @@
 -- The structures that carry a generation: SLOT_ORDER, struct_in_slot, generation_slots and versioned_structs of schema.rs. Assumes nothing.
-use Rattle.std.specs.Prelude.{◌≡◌, List, [], ◌∷◌, cond, ℕ, drop}
-use Rattle.std.proofs.Math.Option.{Option, none, some}
+use Rattle.std.specs.Prelude.{◌≡◌, List, [], ◌∷◌, cond, ℕ, drop, Option, Some, None}
 use Rattle.record.specs.Base.{Str, bytes, is_text, find}
 use Rattle.record.specs.Commands.{place, struct_at, commands_at}
 use Rattle.record.specs.Lists.{opt_of, listed, anything}
@@ -8,9 +7,8 @@ use Rattle.record.specs.Steps.{structs_at, struct_found}
 use Rattle.record.specs.Schema.{Struct}
 use Rattle.record.specs.Owner.{struct_in_slot, with_name, roots_in}
 use Rattle.record.specs.declared.command as D
-use Rattle.record.specs.declared.lists.StructStep.{StructStep}
-use Rattle.record.specs.declared.lists.StructStep.TheVariants.{NoStruct, AStruct}
 use Rattle.record.specs.declared.versioned.Versioned.{Versioned}
+use Rattle.record.specs.Commands.{Step}
 
 -- the order in which the check takes the slots
 unfoldable pub slot_order : List Str
@@ -28,12 +26,12 @@ struct_commands_at s at = listed s anything 8 (λ at rest. struct_at (drop at s)
 unfoldable pub command_in_slot : Str → Str → List D.Struct.Struct → Option D.Struct.Struct
 command_in_slot p slot l = find (λ (e : D.Struct.Struct). is_text (opt_of p e.generation_slot) slot) l
 
-abbrev pub command_found : StructStep → Option D.Struct.Struct
-command_found NoStruct = none
-command_found (AStruct e k) = some e
+abbrev pub command_found : Step D.Struct.Struct → Option D.Struct.Struct
+command_found None = None
+command_found (Some (e, k)) = Some e
 
 -- the answer is the first structure with this slot text, and its command is the first with it: the name's stretch is that command's
-pub record InSlot (s p slot : Str) (r : StructStep) : Type 0 where
+pub record InSlot (s p slot : Str) (r : Step D.Struct.Struct) : Type 0 where
   pub struct : struct_in_slot slot (structs_at s p 0) ≡ struct_found s p r
   pub command : command_in_slot p slot (struct_commands_at s 0) ≡ command_found r
 
@@ -48,9 +46,9 @@ abbrev pub versioned_names : Str → Str → Versioned → List Str
 versioned_names s p r = with_name (struct_found s p r.info) (with_name (struct_found s p r.metadata) (with_name (struct_found s p r.runtime) []))
 
 -- what fills a slot once one more structure is seen: the first with the slot text
-unfoldable pub first_slotted : Str → Str → StructStep → D.Struct.Struct → ℕ → StructStep
-first_slotted p slot (AStruct first from) e k = AStruct first from
-first_slotted p slot NoStruct e k = cond (is_text (opt_of p e.generation_slot) slot) (AStruct e (place k)) NoStruct
+unfoldable pub first_slotted : Str → Str → Step D.Struct.Struct → D.Struct.Struct → ℕ → Step D.Struct.Struct
+first_slotted p slot (Some (first, from)) e k = Some (first, from)
+first_slotted p slot None e k = cond (is_text (opt_of p e.generation_slot) slot) (Some (e, place k)) None
 
 -- what fills the slots
 unfoldable pub filled_by : Str → Versioned → D.Struct.Struct → ℕ → Versioned

@@ -4,13 +4,13 @@ ghost use Rattle.record.specs.Commands.{head_at, constant_at, alias_at, enum_at,
 ghost use Rattle.record.specs.Commands.{family_at, variant_at, field_at, key_at, version_at, width_of, command_of, start, place, step_at};
 
 use crate::le;
-use crate::operands::{OptNumber, OptText, flag_at, opt_number_at, opt_text_at, text_at};
+use crate::operands::{flag_at, opt_number_at, opt_text_at, text_at};
 use crate::text::Text;
 
 // The head of a record.
 #[derive(Clone, Copy)]
 pub struct Head {
-    pub release: OptText,
+    pub release: Option<Text>,
     pub unreleased: bool,
 }
 
@@ -20,9 +20,9 @@ pub struct Constant {
     pub name: Text,
     pub is_text: bool,
     pub integer: u64,
-    pub text: OptText,
+    pub text: Option<Text>,
     pub ora_api: bool,
-    pub first_release: OptText,
+    pub first_release: Option<Text>,
 }
 
 // A name for a scalar word.
@@ -38,7 +38,7 @@ pub struct Enum {
     pub name: Text,
     pub size: u32,
     pub ora_api: bool,
-    pub first_release: OptText,
+    pub first_release: Option<Text>,
 }
 
 // A value of an enum; the number is kept as its 64 bits.
@@ -46,7 +46,7 @@ pub struct Enum {
 pub struct Value {
     pub name: Text,
     pub value: u64,
-    pub first_release: OptText,
+    pub first_release: Option<Text>,
 }
 
 // A bit field; its members follow.
@@ -54,7 +54,7 @@ pub struct Value {
 pub struct Bitfield {
     pub name: Text,
     pub size: u32,
-    pub first_release: OptText,
+    pub first_release: Option<Text>,
 }
 
 // A member of a bit field.
@@ -62,16 +62,16 @@ pub struct Bitfield {
 pub struct Member {
     pub name: Text,
     pub bit: u32,
-    pub width: OptNumber,
-    pub first_release: OptText,
+    pub width: Option<u32>,
+    pub first_release: Option<Text>,
 }
 
 // A structure; its fields follow.
 #[derive(Clone, Copy)]
 pub struct Struct {
     pub name: Text,
-    pub generation_slot: OptText,
-    pub version_constant: OptText,
+    pub generation_slot: Option<Text>,
+    pub version_constant: Option<Text>,
 }
 
 // A family (a tagged FAM of the Rust); its common fields follow, then its variants.
@@ -81,7 +81,7 @@ pub struct Family {
     pub discriminant_field: Text,
     pub discriminant_type: Text,
     pub param_len_field: Text,
-    pub param_len_type: OptText,
+    pub param_len_type: Option<Text>,
     pub standalone: bool,
 }
 
@@ -96,19 +96,19 @@ pub struct Variant {
 pub struct Field {
     pub name: Text,
     pub kind: Text,
-    pub type_name: OptText,
-    pub element: OptText,
-    pub count: OptNumber,
-    pub rows: OptNumber,
-    pub cols: OptNumber,
-    pub size: OptNumber,
+    pub type_name: Option<Text>,
+    pub element: Option<Text>,
+    pub count: Option<u32>,
+    pub rows: Option<u32>,
+    pub cols: Option<u32>,
+    pub size: Option<u32>,
 }
 
 // A plugin key.
 #[derive(Clone, Copy)]
 pub struct PluginKey {
     pub name: Text,
-    pub first_release: OptText,
+    pub first_release: Option<Text>,
 }
 
 // A generation of a structure that has shipped.
@@ -335,11 +335,8 @@ pub struct Cursor {
     pub parent: Parent,
 }
 
-#[derive(Clone, Copy)]
-pub enum Step {
-    Next(Command, Cursor),
-    Stop,
-}
+// An element of a list with the cursor after it, or none where the list ends.
+pub type Step<E> = Option<(E, Cursor)>;
 
 impl Cursor {
     // The front of a stream.
@@ -366,31 +363,31 @@ impl Cursor {
 
     // The command at the cursor, unjudged, with a cursor that knows its place alone. It stops at the end command, at a number that is no
     // command's, and where the stream ends inside the command.
-    pub fn next(self, s: &[u8]) -> Step
+    pub fn next(self, s: &[u8]) -> Step<Command>
         ensures { result ≡ step_at s.now self.at }
     {
         let at = self.at;
         if s.len() <= at {
-            return Step::Stop;
+            return None;
         }
         let byte = s[at];
         if byte == 15 {
-            return Step::Stop;
+            return None;
         }
         let width = width_of(byte);
         if width == 0 {
-            return Step::Stop;
+            return None;
         }
         if s.len() - at < width {
-            return Step::Stop;
+            return None;
         }
-        Step::Next(
+        Some((
             command_of(byte, &s[at..]),
             Cursor {
                 at: at + width,
                 last: 0,
                 parent: Parent::NoParent,
             },
-        )
+        ))
     }
 }

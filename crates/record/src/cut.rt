@@ -27,14 +27,7 @@ pub fn from(s: &[u8], at: usize) -> &[u8]
 pub fn place_of(s: &[u8], b: u8) -> usize
     ensures { result ≡ place_of b s.now }
 {
-    let mut i = 0;
-    while i < s.len() {
-        if s[i] == b {
-            return i;
-        }
-        i += 1;
-    }
-    i
+    s.iter().position(|x| *x == b).unwrap_or(s.len())
 }
 
 // The bytes before the first b.

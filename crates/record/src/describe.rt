@@ -1,6 +1,5 @@
 // How a field's type reads: shape_type of the Rust, as the parts of the text, and the text put into a buffer.
-ghost use Rattle.std.specs.Prelude.{◌≡◌, ◌++◌, ◌+◌, ◌≤◌, length};
-ghost use Rattle.std.proofs.Math.Option.{none};
+ghost use Rattle.std.specs.Prelude.{◌≡◌, ◌++◌, ◌+◌, ◌≤◌, length, None};
 ghost use Rattle.record.specs.Base.{Str, bytes};
 ghost use Rattle.record.specs.Stretch.{text_of};
 ghost use Rattle.record.specs.Lists.{field_of};
@@ -10,7 +9,7 @@ ghost use Rattle.record.specs.Write.{Puts};
 ghost use Rattle.record.specs.Describe.{element_of, times, described_as, Shaped};
 
 use crate::kind::{Kind, kind_of};
-use crate::operands::{OptText, opt_number_at, opt_text_at, text_at};
+use crate::operands::{opt_number_at, opt_text_at, text_at};
 use crate::sizes::or_else;
 use crate::text::{Text, bytes_of};
 use crate::writer::{number_len, put, put_number, put_text, put_worded};
@@ -22,13 +21,13 @@ pub enum Description {
     // A kind and a name.
     Named(Text, Text),
     // A kind, an element and a count.
-    Array(Text, OptText, u32),
+    Array(Text, Option<Text>, u32),
     // A kind, an element, rows and columns.
-    Array2d(Text, OptText, u32, u32),
+    Array2d(Text, Option<Text>, u32, u32),
     // A family's discriminant, an enum of that name.
     Discriminant(Text),
     // A family's length field, a scalar of that word.
-    Length(OptText),
+    Length(Option<Text>),
 }
 
 // How a field's type reads, and whether the field is padding.
@@ -40,12 +39,12 @@ pub struct Shape {
 
 // A kind and the type that a field names, or else its element.
 fn named_at(kind: Text, s: &[u8]) -> Description
-    ensures { (p : Str) → described_as p result ≡ text_of p kind ++ named (field_of p (field_at s.now) none) }
+    ensures { (p : Str) → described_as p result ≡ text_of p kind ++ named (field_of p (field_at s.now) None) }
 {
-    if let OptText::Given(name) = opt_text_at(s, 7) {
+    if let Some(name) = opt_text_at(s, 7) {
         return Description::Named(kind, name);
     }
-    if let OptText::Given(name) = opt_text_at(s, 10) {
+    if let Some(name) = opt_text_at(s, 10) {
         return Description::Named(kind, name);
     }
     Description::Plain(kind)
@@ -90,12 +89,12 @@ pub fn shape_at(pool: &[u8], s: &[u8]) -> Shape
 }
 
 // Puts the word of a scalar: a byte's where none is given.
-fn put_element(out: &mut [u8], at: usize, pool: &[u8], word: OptText) -> usize
+fn put_element(out: &mut [u8], at: usize, pool: &[u8], word: Option<Text>) -> usize
     ensures { Puts out.old at (element_of pool.now word) out.new result × (result ≤ at + 255) }
 {
     match word {
-        OptText::Absent => put(out, at, b"u8"),
-        OptText::Given(t) => put_text(out, at, pool, t),
+        None => put(out, at, b"u8"),
+        Some(t) => put_text(out, at, pool, t),
     }
 }
 
@@ -126,7 +125,14 @@ fn put_pair(out: &mut [u8], at: usize, pool: &[u8], kind: Text, name: Text) -> u
 }
 
 // Puts a kind, an element and a count.
-fn put_array(out: &mut [u8], at: usize, pool: &[u8], kind: Text, element: OptText, n: u32) -> usize
+fn put_array(
+    out: &mut [u8],
+    at: usize,
+    pool: &[u8],
+    kind: Text,
+    element: Option<Text>,
+    n: u32,
+) -> usize
     ensures { let text : Str = described_as pool.now (Description.Array kind element n) in
         Puts out.old at text out.new result × (result ≤ at + 535) }
 {
@@ -158,13 +164,13 @@ pub fn put_description(out: &mut [u8], at: usize, pool: &[u8], d: Description) -
 // Puts a kind and the type that a field names, or else its element.
 fn put_named(out: &mut [u8], at: usize, pool: &[u8], kind: Text, s: &[u8]) -> usize
     ensures { let p : Str = pool.now in
-        let text : Str = text_of p kind ++ named (field_of p (field_at s.now) none) in
+        let text : Str = text_of p kind ++ named (field_of p (field_at s.now) None) in
         Puts out.old at text out.new result × (result ≤ at + 511) }
 {
-    if let OptText::Given(name) = opt_text_at(s, 7) {
+    if let Some(name) = opt_text_at(s, 7) {
         return put_pair(out, at, pool, kind, name);
     }
-    if let OptText::Given(name) = opt_text_at(s, 10) {
+    if let Some(name) = opt_text_at(s, 10) {
         return put_pair(out, at, pool, kind, name);
     }
     put_text(out, at, pool, kind)
@@ -172,7 +178,7 @@ fn put_named(out: &mut [u8], at: usize, pool: &[u8], kind: Text, s: &[u8]) -> us
 
 // Puts how a field's type reads, from the bytes that begin with its command: without its parts, since the list puts every field.
 pub fn put_shape(out: &mut [u8], at: usize, pool: &[u8], s: &[u8]) -> usize
-    ensures { let text : Str = shape_type (field_of pool.now (field_at s.now) none) in
+    ensures { let text : Str = shape_type (field_of pool.now (field_at s.now) None) in
         Puts out.old at text out.new result × (result ≤ at + 559) }
 {
     let kind = text_at(s, 4);
@@ -194,12 +200,12 @@ pub fn put_shape(out: &mut [u8], at: usize, pool: &[u8], s: &[u8]) -> usize
 }
 
 // The length of a scalar's word.
-fn element_len(pool: &[u8], word: OptText) -> usize
+fn element_len(pool: &[u8], word: Option<Text>) -> usize
     ensures { (result ≡ length (element_of pool.now word)) × (result ≤ 255) }
 {
     match word {
-        OptText::Absent => 2,
-        OptText::Given(t) => bytes_of(pool, t).len(),
+        None => 2,
+        Some(t) => bytes_of(pool, t).len(),
     }
 }
 
@@ -212,12 +218,12 @@ fn times_len(n: u32) -> usize
 
 // The length of what follows a kind that is no array's.
 fn named_len(pool: &[u8], s: &[u8]) -> usize
-    ensures { (result ≡ length (named (field_of pool.now (field_at s.now) none))) × (result ≤ 256) }
+    ensures { (result ≡ length (named (field_of pool.now (field_at s.now) None))) × (result ≤ 256) }
 {
-    if let OptText::Given(name) = opt_text_at(s, 7) {
+    if let Some(name) = opt_text_at(s, 7) {
         return 1 + bytes_of(pool, name).len();
     }
-    if let OptText::Given(name) = opt_text_at(s, 10) {
+    if let Some(name) = opt_text_at(s, 10) {
         return 1 + bytes_of(pool, name).len();
     }
     0
@@ -225,7 +231,7 @@ fn named_len(pool: &[u8], s: &[u8]) -> usize
 
 // The length of what follows a kind.
 fn rest_len(pool: &[u8], s: &[u8], kind: Kind) -> usize
-    ensures { (result ≡ length (rest_as kind (field_of pool.now (field_at s.now) none))) × (result ≤ 304) }
+    ensures { (result ≡ length (rest_as kind (field_of pool.now (field_at s.now) None))) × (result ≤ 304) }
 {
     match kind {
         Kind::InlineArray => {
@@ -245,7 +251,7 @@ fn rest_len(pool: &[u8], s: &[u8], kind: Kind) -> usize
 
 // The length of a field's description, from the bytes that begin with its command.
 pub fn shape_len(pool: &[u8], s: &[u8]) -> usize
-    ensures { (result ≡ length (shape_type (field_of pool.now (field_at s.now) none))) × (result ≤ 559) }
+    ensures { (result ≡ length (shape_type (field_of pool.now (field_at s.now) None))) × (result ≤ 559) }
 {
     let kind = bytes_of(pool, text_at(s, 4));
     kind.len() + rest_len(pool, s, kind_of(kind))

@@ -17,39 +17,29 @@ pub struct Ends {
 }
 
 // The ends once one more command is seen, by its number and the place after it.
+#[tactic(auto, unfolding(crate::specs::Ends::noted))]
 fn noted(ends: Ends, number: u8, after: usize) -> Ends
     ensures { result ≡ noted ends number after }
 {
-    let mut out = ends;
-    if number == 2 {
-        out.constants = after;
-        return out;
+    match number {
+        2 => Ends {
+            constants: after,
+            ..ends
+        },
+        4 | 5 => Ends {
+            enums: after,
+            ..ends
+        },
+        6 | 7 => Ends {
+            bitfields: after,
+            ..ends
+        },
+        12 | 13 => Ends {
+            keys: after,
+            ..ends
+        },
+        _ => ends,
     }
-    if number == 4 {
-        out.enums = after;
-        return out;
-    }
-    if number == 5 {
-        out.enums = after;
-        return out;
-    }
-    if number == 6 {
-        out.bitfields = after;
-        return out;
-    }
-    if number == 7 {
-        out.bitfields = after;
-        return out;
-    }
-    if number == 12 {
-        out.keys = after;
-        return out;
-    }
-    if number == 13 {
-        out.keys = after;
-        return out;
-    }
-    out
 }
 
 // The ends where no command is seen.

@@ -3,45 +3,42 @@ ghost use Rattle.record.specs.Generation.{HeldBy, HoldsGeneration};
 
 use crate::cut;
 use crate::index::find_declared;
-use crate::lists::ConstantStep;
 use crate::named::first_constant;
-use crate::operands::{OptText, opt_text_at};
-use crate::seek::Sought;
+use crate::operands::opt_text_at;
 use crate::text::{Text, bytes_of};
 
-// The name of the constant that holds the generation, as the structure's command gives it, and the number.
-#[derive(Clone, Copy)]
-pub enum Generation {
-    NoGeneration,
-    Held(Text, u32),
-}
-
-// The generation that a version constant holds: its number if it is below 2 ^ 32, which a negative one, kept as its 64 bits, is not.
-fn held_by(stream: &[u8], pool: &[u8], index: &[u16], version: OptText) -> Generation
+// The generation that a version constant holds, with the constant's name as the structure's command gives it: its number if it is below
+// 2 ^ 32, which a negative one, kept as its 64 bits, is not.
+fn held_by(stream: &[u8], pool: &[u8], index: &[u16], version: Option<Text>) -> Option<(Text, u32)>
     ensures { HeldBy stream.now pool.now index.now version result }
 {
-    let OptText::Given(name) = version else {
-        return Generation::NoGeneration;
+    let Some(name) = version else {
+        return None;
     };
     let held = first_constant(stream, pool, index, bytes_of(pool, name));
-    let ConstantStep::AConstant(c, _) = held else {
-        return Generation::NoGeneration;
+    let Some((c, _)) = held else {
+        return None;
     };
     if c.is_text {
-        return Generation::NoGeneration;
+        return None;
     }
-    if 4294967296 <= c.integer {
-        return Generation::NoGeneration;
-    }
-    Generation::Held(name, c.integer as u32)
+    let Ok(number) = u32::try_from(c.integer) else {
+        return None;
+    };
+    Some((name, number))
 }
 
 // The generation of the first structure of a name.
-pub fn generation_constant(stream: &[u8], pool: &[u8], index: &[u16], name: &[u8]) -> Generation
+pub fn generation_constant(
+    stream: &[u8],
+    pool: &[u8],
+    index: &[u16],
+    name: &[u8],
+) -> Option<(Text, u32)>
     ensures { HoldsGeneration stream.now pool.now index.now name.now result }
 {
-    let Sought::At(place, _) = find_declared(stream, pool, index, 8, name) else {
-        return Generation::NoGeneration;
+    let Some((place, _)) = find_declared(stream, pool, index, 8, name) else {
+        return None;
     };
     held_by(
         stream,

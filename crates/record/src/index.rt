@@ -10,14 +10,14 @@ ghost use Rattle.record.specs.Index.{FirstNamed, PlaceNamed, Declared, is_flagge
 use crate::cut;
 use crate::le::{byte_at, u32_at};
 use crate::operands::{flag_at, text_at};
-use crate::seek::{Between, Sought, after_at, seek};
+use crate::seek::{Between, after_at, seek};
 use crate::text::{bytes_of, same};
 
 // A byte of a text as a larger number; 0 past its end.
 fn size_at(name: &[u8], at: usize) -> usize
     ensures { (result ≡ get_or name.now at 0) × (result < 256) }
 {
-    byte_at(name, at) as usize
+    usize::from(byte_at(name, at))
 }
 
 // Four bytes of a text as one number that each of them changes much.
@@ -50,45 +50,18 @@ fn declared_name<'a>(stream: &[u8], pool: &'a [u8], place: usize) -> &'a [u8]
 }
 
 // Whether a command declares a name that look-ups ask for: a constant, an alias, an enum, a bit field, a structure, a family or an unstored key.
+#[tactic(auto, unfolding(crate::specs::Index::declares))]
 fn declares(byte: u8) -> bool
     ensures { result ≡ declares byte }
 {
-    if byte == 8 {
-        return true;
-    }
-    if byte == 9 {
-        return true;
-    }
-    if byte == 3 {
-        return true;
-    }
-    if byte == 4 {
-        return true;
-    }
-    if byte == 2 {
-        return true;
-    }
-    if byte == 13 {
-        return true;
-    }
-    byte == 6
-}
-
-// A number of the index as a place.
-fn wide(x: u16) -> usize
-    ensures { result ≡ x }
-{
-    x as usize
+    matches!(byte, 2 | 3 | 4 | 6 | 8 | 9 | 13)
 }
 
 // A number of the index; 0 past its end.
 pub(crate) fn link_at(index: &[u16], i: usize) -> usize
     ensures { result ≡ get_or index.now i 0 }
 {
-    if index.len() <= i {
-        return 0;
-    }
-    wide(index[i])
+    index.get(i).copied().map_or(0, usize::from)
 }
 
 // The command before the one at a place; none where the entry leads to no place before.
@@ -107,11 +80,7 @@ pub(crate) fn clear(index: &mut [u16])
     requires { 256 ≤ length index.old }
     ensures { Headless index.old index.new }
 {
-    let mut i = 0;
-    while i < 256 {
-        index[i] = 0;
-        i += 1;
-    }
+    index[..256].fill(0);
 }
 
 // Puts a command at the front of those of its number.
@@ -166,13 +135,11 @@ pub fn fill_index(stream: &[u8], pool: &[u8], index: &mut [u16])
 }
 
 // Whether the command at a place has this number and name.
+#[tactic(auto, unfolding(crate::specs::Index::is_named))]
 fn is_named(stream: &[u8], pool: &[u8], number: u8, name: &[u8], place: usize) -> bool
     ensures { result ≡ is_named stream.now pool.now number name.now place }
 {
-    if byte_at(stream, place) != number {
-        return false;
-    }
-    same(declared_name(stream, pool, place), name)
+    byte_at(stream, place) == number && same(declared_name(stream, pool, place), name)
 }
 
 // The first command of a number and a name, one more than its place; 0 where there is none. What is seen last on the way from the last command to
@@ -192,44 +159,54 @@ pub(crate) fn first_named(
         let place = link - 1;
         if is_named(stream, pool, number, name, place) {
             found = link;
-            link = link_before(index, place);
-        } else {
-            link = link_before(index, place);
         }
+        link = link_before(index, place);
     }
     found
 }
 
 // The place of the first command of a number and a name, and the place after it.
-pub fn find_declared(stream: &[u8], pool: &[u8], index: &[u16], number: u8, name: &[u8]) -> Sought
+pub fn find_declared(
+    stream: &[u8],
+    pool: &[u8],
+    index: &[u16],
+    number: u8,
+    name: &[u8],
+) -> Option<(usize, usize)>
     ensures { Declared stream.now pool.now index.now number name.now result }
 {
     let found = first_named(stream, pool, index, number, name);
     if found == 0 {
-        return Sought::Nowhere;
+        return None;
     }
     let place = found - 1;
-    Sought::At(place, after_at(stream, place))
+    Some((place, after_at(stream, place)))
 }
 
 // The place of the first command of a number and a name, and the place after it, by a look at every command of the number.
-fn scan_declared(stream: &[u8], pool: &[u8], number: u8, name: &[u8]) -> Sought
+fn scan_declared(stream: &[u8], pool: &[u8], number: u8, name: &[u8]) -> Option<(usize, usize)>
     ensures { PlaceNamed stream.now pool.now name.now number result }
 {
     let mut at = 0;
     loop {
-        let Sought::At(place, after) = seek(stream, at, number, Between::Anything) else {
-            return Sought::Nowhere;
+        let Some((place, after)) = seek(stream, at, number, Between::Anything) else {
+            return None;
         };
         if same(declared_name(stream, pool, place), name) {
-            return Sought::At(place, after);
+            return Some((place, after));
         }
         at = after;
     }
 }
 
 // By the index, and without it where it is empty: what is read before an index is filled has none.
-pub(crate) fn look_up(stream: &[u8], pool: &[u8], index: &[u16], number: u8, name: &[u8]) -> Sought
+pub(crate) fn look_up(
+    stream: &[u8],
+    pool: &[u8],
+    index: &[u16],
+    number: u8,
+    name: &[u8],
+) -> Option<(usize, usize)>
     ensures { Looked stream.now pool.now index.now number name.now result }
 {
     if index.len() == 0 {
@@ -239,23 +216,19 @@ pub(crate) fn look_up(stream: &[u8], pool: &[u8], index: &[u16], number: u8, nam
 }
 
 // Whether the flag at this place of a command is set; any is where the place is 0.
+#[tactic(auto, unfolding(crate::specs::Index::is_flagged))]
 fn is_flagged(stream: &[u8], flag: usize, place: usize) -> bool
     ensures { result ≡ is_flagged stream.now flag place }
 {
-    if flag == 0 {
-        return true;
-    }
-    flag_at(cut::from(stream, place), flag)
+    flag == 0 || flag_at(cut::from(stream, place), flag)
 }
 
 // Whether the command at a place has this number and name, and the flag.
+#[tactic(auto, unfolding(crate::specs::Index::counts))]
 fn counts(stream: &[u8], pool: &[u8], number: u8, flag: usize, name: &[u8], place: usize) -> bool
     ensures { result ≡ counts stream.now pool.now number flag name.now place }
 {
-    if is_named(stream, pool, number, name, place) {
-        return is_flagged(stream, flag, place);
-    }
-    false
+    is_named(stream, pool, number, name, place) && is_flagged(stream, flag, place)
 }
 
 // The last command of a number and a name whose flag at a place of the command is set (any, where that place is 0), one more than its place; 0
@@ -289,22 +262,22 @@ pub(crate) fn find_last(
     number: u8,
     flag: usize,
     name: &[u8],
-) -> Sought
+) -> Option<(usize, usize)>
     ensures { LastDeclared stream.now pool.now index.now number flag name.now result }
 {
     let found = last_named(stream, pool, index, number, flag, name);
     if found == 0 {
-        return Sought::Nowhere;
+        return None;
     }
     let place = found - 1;
-    Sought::At(place, after_at(stream, place))
+    Some((place, after_at(stream, place)))
 }
 
 // Whether a family of this name is standalone.
 pub fn stands_alone(stream: &[u8], pool: &[u8], index: &[u16], name: &[u8]) -> bool
     ensures { Alone stream.now pool.now index.now name.now result }
 {
-    let Sought::At(_, _) = find_last(stream, pool, index, 9, 16, name) else {
+    let Some((_, _)) = find_last(stream, pool, index, 9, 16, name) else {
         return false;
     };
     true

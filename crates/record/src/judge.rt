@@ -5,18 +5,19 @@ ghost use Rattle.record.specs.Commands.{operands, wide, width_of};
 ghost use Rattle.record.specs.Judge.{worse_of, if_absent, text_fault, flag_fault, operand_fault, faults_from, faults_of};
 ghost use Rattle.record.specs.Judge.{parent_after, follows, is_open, in_family, row_of, row_at, ready, faulted, judged_at};
 
-use crate::command::{Command, Cursor, Parent, command_of};
-use crate::operands::{OptText, flag_at, opt_text, whole_text};
+use crate::command::{Command, Cursor, Parent, Step, command_of};
+use crate::operands::{flag_at, opt_text, whole_text};
 use crate::refusal::{Refusal, Side};
+use crate::text::Text;
 use texts::utf8::at_edge;
 
-// The least refusal among a command's operands, 4 before 5 before 6.
-#[derive(Clone, Copy)]
+// The least refusal among a command's operands, 4 before 5 before 6, and all of them before none.
+#[derive(Clone, Copy, PartialEq, Eq, PartialOrd, Ord)]
 pub enum Fault {
-    Fine,
     Outside,
     Missing,
     Flag,
+    Fine,
 }
 
 // The width of a command, and whether it may stand where it does. No command has the width 0.
@@ -26,33 +27,14 @@ pub struct Row {
     pub stands: bool,
 }
 
-#[derive(Clone, Copy)]
-pub enum Judged {
-    Next(Command, Cursor),
-    Done,
-    Refused(Refusal, usize),
-}
+// The command at a place with the cursor after it, or none at the end command; or why it is refused, and its place.
+pub type Judged = Result<Step<Command>, (Refusal, usize)>;
 
 // The fault with the lesser number.
 fn worse(a: Fault, b: Fault) -> Fault
     ensures { result ≡ worse_of a b }
 {
-    match a {
-        Fault::Fine => b,
-        Fault::Outside => Fault::Outside,
-        Fault::Missing => match b {
-            Fault::Fine => Fault::Missing,
-            Fault::Outside => Fault::Outside,
-            Fault::Missing => Fault::Missing,
-            Fault::Flag => Fault::Missing,
-        },
-        Fault::Flag => match b {
-            Fault::Fine => Fault::Flag,
-            Fault::Outside => Fault::Outside,
-            Fault::Missing => Fault::Missing,
-            Fault::Flag => Fault::Flag,
-        },
-    }
+    a.min(b)
 }
 
 // What an absent text comes to, by the operand's letter.
@@ -77,25 +59,18 @@ fn if_absent(side: Side, s: &[u8], operand: u8) -> Fault
 }
 
 // A text that is there must lie in the pool, which has n bytes.
-fn text_fault(pool: &[u8], absent: Fault, text: OptText) -> Fault
+fn text_fault(pool: &[u8], absent: Fault, text: Option<Text>) -> Fault
     ensures { result ≡ text_fault pool.now absent text }
 {
-    let OptText::Given(t) = text else {
+    let Some(t) = text else {
         return absent;
     };
-    let start = t.start as usize;
-    let len = t.len as usize;
-    let end = start + len;
-    if pool.len() < end {
-        return Fault::Outside;
+    let start = usize::from(t.start);
+    let end = start + usize::from(t.len);
+    if end <= pool.len() && at_edge(pool, start) && at_edge(pool, end) {
+        return Fault::Fine;
     }
-    if !at_edge(pool, start) {
-        return Fault::Outside;
-    }
-    if !at_edge(pool, end) {
-        return Fault::Outside;
-    }
-    Fault::Fine
+    Fault::Outside
 }
 
 fn flag_fault(flag: u8) -> Fault
@@ -348,36 +323,24 @@ impl Cursor {
     }
 
     // Right after a command of one of two numbers.
+    #[tactic(auto, unfolding(crate::specs::Judge::follows))]
     fn after(self, a: u8, b: u8) -> bool
         ensures { result ≡ follows self a b }
     {
-        if self.last == a {
-            return true;
-        }
-        self.last == b
+        self.last == a || self.last == b
     }
 
     // While a structure, a family or a variant is open.
     fn in_type(self) -> bool
         ensures { result ≡ is_open self.parent }
     {
-        let parent = self.parent;
-        match parent {
-            Parent::NoParent => false,
-            Parent::InStruct => true,
-            Parent::InFamily => true,
-        }
+        matches!(self.parent, Parent::InStruct | Parent::InFamily)
     }
 
     fn in_family(self) -> bool
         ensures { result ≡ in_family self.parent }
     {
-        let parent = self.parent;
-        match parent {
-            Parent::NoParent => false,
-            Parent::InStruct => false,
-            Parent::InFamily => true,
-        }
+        matches!(self.parent, Parent::InFamily)
     }
 
     // A command without fault: the end must be the stream's last byte.
@@ -389,19 +352,19 @@ impl Cursor {
         let end = at + width;
         if byte == 15 {
             if end == stream.len() {
-                return Judged::Done;
+                return Ok(None);
             }
-            return Judged::Refused(Refusal::Misplaced, end);
+            return Err((Refusal::Misplaced, end));
         }
         let parent = self.parent;
-        Judged::Next(
+        Ok(Some((
             command_of(byte, &stream[at..]),
             Cursor {
                 at: end,
                 last: byte,
                 parent: parent_after(parent, byte),
             },
-        )
+        )))
     }
 
     // The command byte decides: each number has its fixed width and its rule of place.
@@ -437,9 +400,9 @@ impl Cursor {
     {
         let at = self.at;
         match faults(side, pool, &stream[at..], byte) {
-            Fault::Outside => Judged::Refused(Refusal::Outside, at),
-            Fault::Missing => Judged::Refused(Refusal::Missing, at),
-            Fault::Flag => Judged::Refused(Refusal::Flag, at),
+            Fault::Outside => Err((Refusal::Outside, at)),
+            Fault::Missing => Err((Refusal::Missing, at)),
+            Fault::Flag => Err((Refusal::Flag, at)),
             Fault::Fine => self.ready(stream, byte, width),
         }
     }
@@ -451,20 +414,20 @@ impl Cursor {
     {
         let at = self.at;
         if stream.len() <= at {
-            return Judged::Refused(Refusal::Cut, at);
+            return Err((Refusal::Cut, at));
         }
         let byte = stream[at];
         let row = self.row(byte);
         let width = row.width;
         if width == 0 {
-            return Judged::Refused(Refusal::Unknown, at);
+            return Err((Refusal::Unknown, at));
         }
         if stream.len() - at < width {
-            return Judged::Refused(Refusal::Cut, at);
+            return Err((Refusal::Cut, at));
         }
         if row.stands {
             return self.judge(side, stream, pool, byte, width);
         }
-        Judged::Refused(Refusal::Misplaced, at)
+        Err((Refusal::Misplaced, at))
     }
 }

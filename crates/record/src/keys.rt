@@ -4,8 +4,8 @@ ghost use Rattle.record.specs.declared.keys.KeysAt.TheVariants.{Unstored};
 ghost use Rattle.record.specs.Keys.{AllStored, AllKeys, InFields, StoredFrom, PluginKeysFrom};
 
 use crate::command::{Cursor, PluginKey};
-use crate::lists::{KeyStep, StructStep, UnstoredStep, next_key, next_struct, next_unstored};
-use crate::seek::{Between, Sought, seek};
+use crate::lists::{next_key, next_struct, next_unstored};
+use crate::seek::{Between, seek};
 
 // What is left of the walk over structures' fields: the structures from a cursor on; the fields and then the structures from a cursor on.
 #[derive(Clone, Copy)]
@@ -14,23 +14,11 @@ pub enum StoredAt {
     Fields(Cursor),
 }
 
-#[derive(Clone, Copy)]
-pub enum StoredStep {
-    NoStored,
-    AStored(PluginKey, StoredAt),
-}
-
 // What is left of the walk over all keys: those of structures' fields and then the unstored ones; the unstored ones from a cursor on.
 #[derive(Clone, Copy)]
 pub enum KeysAt {
     Stored(StoredAt),
     Unstored(Cursor),
-}
-
-#[derive(Clone, Copy)]
-pub enum PluginKeyStep {
-    NoPluginKey,
-    APluginKey(PluginKey, KeysAt),
 }
 
 // The whole walk over structures' fields.
@@ -60,11 +48,11 @@ fn next_in_fields(stream: &[u8], from: Cursor) -> FieldKey
 {
     let mut at = from.at;
     loop {
-        let Sought::At(_, after) = seek(stream, at, 11, Between::Keys) else {
+        let Some((_, after)) = seek(stream, at, 11, Between::Keys) else {
             return FieldKey::Ended(Cursor::place(at));
         };
         let here = Cursor::place(after);
-        if let KeyStep::AKey(e, _) = next_key(stream, here) {
+        if let Some((e, _)) = next_key(stream, here) {
             return FieldKey::Keyed(e, here);
         }
         at = after;
@@ -72,28 +60,28 @@ fn next_in_fields(stream: &[u8], from: Cursor) -> FieldKey
 }
 
 // The next unstored key from a cursor on.
-fn next_unstored_key(stream: &[u8], from: Cursor) -> PluginKeyStep
+fn next_unstored_key(stream: &[u8], from: Cursor) -> Option<(PluginKey, KeysAt)>
     ensures { PluginKeysFrom stream.now (Unstored from) result }
 {
-    let UnstoredStep::AnUnstored(e, after) = next_unstored(stream, from) else {
-        return PluginKeyStep::NoPluginKey;
+    let Some((e, after)) = next_unstored(stream, from) else {
+        return None;
     };
-    PluginKeyStep::APluginKey(e, KeysAt::Unstored(after))
+    Some((e, KeysAt::Unstored(after)))
 }
 
 // The next plugin key of the structures from a cursor on.
-fn next_in_structs(stream: &[u8], from: Cursor) -> StoredStep
+fn next_in_structs(stream: &[u8], from: Cursor) -> Option<(PluginKey, StoredAt)>
     ensures { StoredFrom stream.now (Structs from) result }
 {
     let mut cursor = from;
     loop {
-        let StructStep::AStruct(_, after) = next_struct(stream, cursor) else {
-            return StoredStep::NoStored;
+        let Some((_, after)) = next_struct(stream, cursor) else {
+            return None;
         };
         let key = next_in_fields(stream, after);
         match key {
             FieldKey::Keyed(e, inside) => {
-                return StoredStep::AStored(e, StoredAt::Fields(inside));
+                return Some((e, StoredAt::Fields(inside)));
             }
             FieldKey::Ended(end) => {
                 cursor = end;
@@ -103,7 +91,7 @@ fn next_in_structs(stream: &[u8], from: Cursor) -> StoredStep
 }
 
 // The next plugin key of structures' fields, with what is left of the walk after it.
-pub fn next_stored_key(stream: &[u8], at: StoredAt) -> StoredStep
+pub fn next_stored_key(stream: &[u8], at: StoredAt) -> Option<(PluginKey, StoredAt)>
     ensures { StoredFrom stream.now at result }
 {
     match at {
@@ -111,7 +99,7 @@ pub fn next_stored_key(stream: &[u8], at: StoredAt) -> StoredStep
         StoredAt::Fields(from) => {
             let key = next_in_fields(stream, from);
             match key {
-                FieldKey::Keyed(e, inside) => StoredStep::AStored(e, StoredAt::Fields(inside)),
+                FieldKey::Keyed(e, inside) => Some((e, StoredAt::Fields(inside))),
                 FieldKey::Ended(end) => next_in_structs(stream, end),
             }
         }
@@ -119,15 +107,15 @@ pub fn next_stored_key(stream: &[u8], at: StoredAt) -> StoredStep
 }
 
 // The next plugin key, with what is left of the walk after it.
-pub fn next_plugin_key(stream: &[u8], at: KeysAt) -> PluginKeyStep
+pub fn next_plugin_key(stream: &[u8], at: KeysAt) -> Option<(PluginKey, KeysAt)>
     ensures { PluginKeysFrom stream.now at result }
 {
     match at {
         KeysAt::Stored(from) => {
-            let StoredStep::AStored(e, rest) = next_stored_key(stream, from) else {
+            let Some((e, rest)) = next_stored_key(stream, from) else {
                 return next_unstored_key(stream, Cursor::new());
             };
-            PluginKeyStep::APluginKey(e, KeysAt::Stored(rest))
+            Some((e, KeysAt::Stored(rest)))
         }
         KeysAt::Unstored(from) => next_unstored_key(stream, from),
     }

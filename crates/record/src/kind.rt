@@ -1,6 +1,6 @@
 // The kinds of a field.
 ghost use Rattle.std.specs.Prelude.{◌≡◌};
-ghost use Rattle.record.specs.Kind.{words, of_length, kind_among, kind_of};
+ghost use Rattle.record.specs.Kind.{kind_of};
 
 use crate::text::same;
 
@@ -30,144 +30,23 @@ pub enum Kind {
 pub fn kind_of(word: &[u8]) -> Kind
     ensures { result ≡ kind_of word.now }
 {
-    let n = word.len();
-    if n == 6 {
-        return kind_of_six(word);
+    match word.len() {
+        4 if same(word, b"enum") => Kind::Enum,
+        6 if same(word, b"scalar") => Kind::Scalar,
+        6 if same(word, b"fn_ptr") => Kind::FnPtr,
+        6 if same(word, b"string") => Kind::Text,
+        7 if same(word, b"padding") => Kind::Padding,
+        8 if same(word, b"bitfield") => Kind::Bitfield,
+        8 if same(word, b"cstr_ptr") => Kind::CstrPtr,
+        10 if same(word, b"type_alias") => Kind::TypeAlias,
+        10 if same(word, b"struct_ptr") => Kind::StructPtr,
+        10 if same(word, b"opaque_ptr") => Kind::OpaquePtr,
+        12 if same(word, b"inline_array") => Kind::InlineArray,
+        14 if same(word, b"inline_array2d") => Kind::InlineArray2d,
+        14 if same(word, b"tagged_fam_ptr") => Kind::TaggedFamPtr,
+        14 if same(word, b"simple_fam_ptr") => Kind::SimpleFamPtr,
+        16 if same(word, b"struct_array_ptr") => Kind::StructArrayPtr,
+        20 if same(word, b"struct_ptr_array_ptr") => Kind::StructPtrArrayPtr,
+        _ => Kind::Other,
     }
-    if n == 4 {
-        return kind_of_four(word);
-    }
-    if n == 8 {
-        return kind_of_eight(word);
-    }
-    if n == 10 {
-        return kind_of_ten(word);
-    }
-    if n == 12 {
-        return kind_of_twelve(word);
-    }
-    if n == 14 {
-        return kind_of_fourteen(word);
-    }
-    if n == 7 {
-        return kind_of_seven(word);
-    }
-    if n == 16 {
-        return kind_of_sixteen(word);
-    }
-    if n == 20 {
-        return kind_of_twenty(word);
-    }
-    Kind::Other
-}
-
-// The kind that a word of six letters names.
-fn kind_of_six(word: &[u8]) -> Kind
-    ensures { result ≡ kind_among (of_length 6 words) word.now }
-{
-    if same(word, b"scalar") {
-        return Kind::Scalar;
-    }
-    if same(word, b"fn_ptr") {
-        return Kind::FnPtr;
-    }
-    if same(word, b"string") {
-        return Kind::Text;
-    }
-    Kind::Other
-}
-
-// The kind that a word of four letters names.
-fn kind_of_four(word: &[u8]) -> Kind
-    ensures { result ≡ kind_among (of_length 4 words) word.now }
-{
-    if same(word, b"enum") {
-        return Kind::Enum;
-    }
-    Kind::Other
-}
-
-// The kind that a word of eight letters names.
-fn kind_of_eight(word: &[u8]) -> Kind
-    ensures { result ≡ kind_among (of_length 8 words) word.now }
-{
-    if same(word, b"bitfield") {
-        return Kind::Bitfield;
-    }
-    if same(word, b"cstr_ptr") {
-        return Kind::CstrPtr;
-    }
-    Kind::Other
-}
-
-// The kind that a word of ten letters names.
-fn kind_of_ten(word: &[u8]) -> Kind
-    ensures { result ≡ kind_among (of_length 10 words) word.now }
-{
-    if same(word, b"type_alias") {
-        return Kind::TypeAlias;
-    }
-    if same(word, b"struct_ptr") {
-        return Kind::StructPtr;
-    }
-    if same(word, b"opaque_ptr") {
-        return Kind::OpaquePtr;
-    }
-    Kind::Other
-}
-
-// The kind that a word of twelve letters names.
-fn kind_of_twelve(word: &[u8]) -> Kind
-    ensures { result ≡ kind_among (of_length 12 words) word.now }
-{
-    if same(word, b"inline_array") {
-        return Kind::InlineArray;
-    }
-    Kind::Other
-}
-
-// The kind that a word of fourteen letters names.
-fn kind_of_fourteen(word: &[u8]) -> Kind
-    ensures { result ≡ kind_among (of_length 14 words) word.now }
-{
-    if same(word, b"inline_array2d") {
-        return Kind::InlineArray2d;
-    }
-    if same(word, b"tagged_fam_ptr") {
-        return Kind::TaggedFamPtr;
-    }
-    if same(word, b"simple_fam_ptr") {
-        return Kind::SimpleFamPtr;
-    }
-    Kind::Other
-}
-
-// The kind that a word of seven letters names.
-fn kind_of_seven(word: &[u8]) -> Kind
-    ensures { result ≡ kind_among (of_length 7 words) word.now }
-{
-    if same(word, b"padding") {
-        return Kind::Padding;
-    }
-    Kind::Other
-}
-
-// The kind that a word of sixteen letters names.
-fn kind_of_sixteen(word: &[u8]) -> Kind
-    ensures { result ≡ kind_among (of_length 16 words) word.now }
-{
-    if same(word, b"struct_array_ptr") {
-        return Kind::StructArrayPtr;
-    }
-    Kind::Other
-}
-
-// The kind that a word of twenty letters names.
-fn kind_of_twenty(word: &[u8]) -> Kind
-    ensures { result ≡ kind_among (of_length 20 words) word.now }
-{
-    if same(word, b"struct_ptr_array_ptr") {
-        return Kind::StructPtrArrayPtr;
-    }
-    Kind::Other
 }

@@ -14,9 +14,7 @@ pub fn u16_at(s: &[u8], at: usize) -> u16
     ensures { result ≡ u16_at s.now at }
 {
     if at < s.len() {
-        let low = byte_at(s, at) as u16;
-        let high = byte_at(s, at + 1) as u16;
-        low + 256 * high
+        u16::from_le_bytes([s[at], byte_at(s, at + 1)])
     } else {
         0
     }
@@ -29,9 +27,7 @@ pub fn u32_at(s: &[u8], at: usize) -> u32
         if 4 <= s.len() - at {
             return half(s, at) as u32;
         }
-        let low = u16_at(s, at) as u32;
-        let high = u16_at(s, at + 2) as u32;
-        low + 65536 * high
+        u32::from(u16_at(s, at)) + 65536 * u32::from(u16_at(s, at + 2))
     } else {
         0
     }
@@ -44,9 +40,7 @@ pub fn u64_at(s: &[u8], at: usize) -> u64
         if 8 <= s.len() - at {
             return word(s, at);
         }
-        let low = u32_at(s, at) as u64;
-        let high = u32_at(s, at + 4) as u64;
-        low + 4294967296 * high
+        u64::from(u32_at(s, at)) + 4294967296 * u64::from(u32_at(s, at + 4))
     } else {
         0
     }

@@ -9,7 +9,6 @@ ghost use Rattle.record.specs.Leads.{EntryNamed, IsLeast, PutLeast, PutLead, Lea
 use crate::index::{first_named, link_at};
 use crate::le::byte_at;
 use crate::marks::reference_at;
-use crate::operands::OptText;
 use crate::ownership::eight_clear;
 use crate::text::bytes_of;
 
@@ -36,10 +35,7 @@ fn entry_named(stream: &[u8], pool: &[u8], index: &[u16], name: &[u8]) -> usize
 fn is_least(marks: &[u8], entry: usize, place: usize) -> bool
     ensures { IsLeast marks.now entry place result }
 {
-    if entry == 0 {
-        return false;
-    }
-    byte_at(marks, entry - 1) <= byte_at(marks, place)
+    entry != 0 && byte_at(marks, entry - 1) <= byte_at(marks, place)
 }
 
 // Puts a field into an entry, unless one stands there whose mark is as low.
@@ -73,7 +69,7 @@ fn put_lead(
     if byte_at(marks, place) == 0 {
         return;
     }
-    let OptText::Given(name) = reference_at(stream, pool, place) else {
+    let Some(name) = reference_at(stream, pool, place) else {
         return;
     };
     let entry = entry_named(stream, pool, index, bytes_of(pool, name));

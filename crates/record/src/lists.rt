@@ -8,305 +8,221 @@ ghost use Rattle.record.specs.Steps.{values_at, value_in, value_found, members_a
 ghost use Rattle.record.specs.Steps.{families_at, family_in, family_found};
 
 use crate::command::{
-    Bitfield, Constant, Cursor, Enum, Family, Field, Head, Member, PluginKey, Struct, TypeAlias,
-    Value, Variant, Version, alias_at, bitfield_at, constant_at, enum_at, family_at, field_at,
-    head_at, key_at, member_at, struct_at, value_at, variant_at, version_at,
+    Bitfield, Constant, Cursor, Enum, Family, Field, Head, Member, PluginKey, Step, Struct,
+    TypeAlias, Value, Variant, Version, alias_at, bitfield_at, constant_at, enum_at, family_at,
+    field_at, head_at, key_at, member_at, struct_at, value_at, variant_at, version_at,
 };
 use crate::cut;
-use crate::seek::{Between, Sought, seek};
+use crate::seek::{Between, seek};
 use crate::text::{bytes_of, same};
 
-#[derive(Clone, Copy)]
-pub enum HeadStep {
-    NoHead,
-    AHead(Head, Cursor),
-}
-
 // The next head of the record from a cursor on.
-pub fn next_head(stream: &[u8], from: Cursor) -> HeadStep
+pub fn next_head(stream: &[u8], from: Cursor) -> Step<Head>
     ensures { HeadsFrom stream.now from.at result }
 {
-    let Sought::At(at, after) = seek(stream, from.at, 1, Between::Anything) else {
-        return HeadStep::NoHead;
+    let Some((at, after)) = seek(stream, from.at, 1, Between::Anything) else {
+        return None;
     };
-    HeadStep::AHead(head_at(cut::from(stream, at)), Cursor::place(after))
-}
-
-#[derive(Clone, Copy)]
-pub enum ConstantStep {
-    NoConstant,
-    AConstant(Constant, Cursor),
+    Some((head_at(cut::from(stream, at)), Cursor::place(after)))
 }
 
 // The next constant of the record from a cursor on.
-pub fn next_constant(stream: &[u8], from: Cursor) -> ConstantStep
+pub fn next_constant(stream: &[u8], from: Cursor) -> Step<Constant>
     ensures { ConstantsFrom stream.now from.at result }
 {
-    let Sought::At(at, after) = seek(stream, from.at, 2, Between::Anything) else {
-        return ConstantStep::NoConstant;
+    let Some((at, after)) = seek(stream, from.at, 2, Between::Anything) else {
+        return None;
     };
-    ConstantStep::AConstant(constant_at(cut::from(stream, at)), Cursor::place(after))
-}
-
-#[derive(Clone, Copy)]
-pub enum AliasStep {
-    NoAlias,
-    AnAlias(TypeAlias, Cursor),
+    Some((constant_at(cut::from(stream, at)), Cursor::place(after)))
 }
 
 // The next alias of the record from a cursor on.
-pub fn next_alias(stream: &[u8], from: Cursor) -> AliasStep
+pub fn next_alias(stream: &[u8], from: Cursor) -> Step<TypeAlias>
     ensures { AliasesFrom stream.now from.at result }
 {
-    let Sought::At(at, after) = seek(stream, from.at, 3, Between::Anything) else {
-        return AliasStep::NoAlias;
+    let Some((at, after)) = seek(stream, from.at, 3, Between::Anything) else {
+        return None;
     };
-    AliasStep::AnAlias(alias_at(cut::from(stream, at)), Cursor::place(after))
-}
-
-#[derive(Clone, Copy)]
-pub enum ValueStep {
-    NoValue,
-    AValue(Value, Cursor),
+    Some((alias_at(cut::from(stream, at)), Cursor::place(after)))
 }
 
 // The next value of the list that goes on at a cursor.
-pub fn next_value(stream: &[u8], from: Cursor) -> ValueStep
+pub fn next_value(stream: &[u8], from: Cursor) -> Step<Value>
     ensures { ValuesFrom stream.now from.at result }
 {
-    let Sought::At(at, after) = seek(stream, from.at, 5, Between::Nothing) else {
-        return ValueStep::NoValue;
+    let Some((at, after)) = seek(stream, from.at, 5, Between::Nothing) else {
+        return None;
     };
-    ValueStep::AValue(value_at(cut::from(stream, at)), Cursor::place(after))
-}
-
-#[derive(Clone, Copy)]
-pub enum EnumStep {
-    NoEnum,
-    AnEnum(Enum, Cursor),
+    Some((value_at(cut::from(stream, at)), Cursor::place(after)))
 }
 
 // The next enum of the record from a cursor on.
-pub fn next_enum(stream: &[u8], from: Cursor) -> EnumStep
+pub fn next_enum(stream: &[u8], from: Cursor) -> Step<Enum>
     ensures { EnumsFrom stream.now from.at result }
 {
-    let Sought::At(at, after) = seek(stream, from.at, 4, Between::Anything) else {
-        return EnumStep::NoEnum;
+    let Some((at, after)) = seek(stream, from.at, 4, Between::Anything) else {
+        return None;
     };
-    EnumStep::AnEnum(enum_at(cut::from(stream, at)), Cursor::place(after))
-}
-
-#[derive(Clone, Copy)]
-pub enum MemberStep {
-    NoMember,
-    AMember(Member, Cursor),
+    Some((enum_at(cut::from(stream, at)), Cursor::place(after)))
 }
 
 // The next member of the list that goes on at a cursor.
-pub fn next_member(stream: &[u8], from: Cursor) -> MemberStep
+pub fn next_member(stream: &[u8], from: Cursor) -> Step<Member>
     ensures { MembersFrom stream.now from.at result }
 {
-    let Sought::At(at, after) = seek(stream, from.at, 7, Between::Nothing) else {
-        return MemberStep::NoMember;
+    let Some((at, after)) = seek(stream, from.at, 7, Between::Nothing) else {
+        return None;
     };
-    MemberStep::AMember(member_at(cut::from(stream, at)), Cursor::place(after))
-}
-
-#[derive(Clone, Copy)]
-pub enum BitfieldStep {
-    NoBitfield,
-    ABitfield(Bitfield, Cursor),
+    Some((member_at(cut::from(stream, at)), Cursor::place(after)))
 }
 
 // The next bit field of the record from a cursor on.
-pub fn next_bitfield(stream: &[u8], from: Cursor) -> BitfieldStep
+pub fn next_bitfield(stream: &[u8], from: Cursor) -> Step<Bitfield>
     ensures { BitfieldsFrom stream.now from.at result }
 {
-    let Sought::At(at, after) = seek(stream, from.at, 6, Between::Anything) else {
-        return BitfieldStep::NoBitfield;
+    let Some((at, after)) = seek(stream, from.at, 6, Between::Anything) else {
+        return None;
     };
-    BitfieldStep::ABitfield(bitfield_at(cut::from(stream, at)), Cursor::place(after))
-}
-
-#[derive(Clone, Copy)]
-pub enum KeyStep {
-    NoKey,
-    AKey(PluginKey, Cursor),
+    Some((bitfield_at(cut::from(stream, at)), Cursor::place(after)))
 }
 
 // The next plugin key of the list that goes on at a cursor.
-pub fn next_key(stream: &[u8], from: Cursor) -> KeyStep
+pub fn next_key(stream: &[u8], from: Cursor) -> Step<PluginKey>
     ensures { KeysFrom stream.now from.at result }
 {
-    let Sought::At(at, after) = seek(stream, from.at, 12, Between::Nothing) else {
-        return KeyStep::NoKey;
+    let Some((at, after)) = seek(stream, from.at, 12, Between::Nothing) else {
+        return None;
     };
-    KeyStep::AKey(key_at(cut::from(stream, at)), Cursor::place(after))
-}
-
-#[derive(Clone, Copy)]
-pub enum FieldStep {
-    NoField,
-    AField(Field, Cursor),
+    Some((key_at(cut::from(stream, at)), Cursor::place(after)))
 }
 
 // The next field of the list that goes on at a cursor; plugin keys between the fields are passed over.
-pub fn next_field(stream: &[u8], from: Cursor) -> FieldStep
+pub fn next_field(stream: &[u8], from: Cursor) -> Step<Field>
     ensures { FieldsFrom stream.now from.at result }
 {
-    let Sought::At(at, after) = seek(stream, from.at, 11, Between::Keys) else {
-        return FieldStep::NoField;
+    let Some((at, after)) = seek(stream, from.at, 11, Between::Keys) else {
+        return None;
     };
-    FieldStep::AField(field_at(cut::from(stream, at)), Cursor::place(after))
-}
-
-#[derive(Clone, Copy)]
-pub enum StructStep {
-    NoStruct,
-    AStruct(Struct, Cursor),
+    Some((field_at(cut::from(stream, at)), Cursor::place(after)))
 }
 
 // The next structure of the record from a cursor on.
-pub fn next_struct(stream: &[u8], from: Cursor) -> StructStep
+pub fn next_struct(stream: &[u8], from: Cursor) -> Step<Struct>
     ensures { StructsFrom stream.now from.at result }
 {
-    let Sought::At(at, after) = seek(stream, from.at, 8, Between::Anything) else {
-        return StructStep::NoStruct;
+    let Some((at, after)) = seek(stream, from.at, 8, Between::Anything) else {
+        return None;
     };
-    StructStep::AStruct(struct_at(cut::from(stream, at)), Cursor::place(after))
-}
-
-#[derive(Clone, Copy)]
-pub enum VariantStep {
-    NoVariant,
-    AVariant(Variant, Cursor),
+    Some((struct_at(cut::from(stream, at)), Cursor::place(after)))
 }
 
 // The next variant of the list that goes on at a cursor; fields and plugin keys between the variants are passed over.
-pub fn next_variant(stream: &[u8], from: Cursor) -> VariantStep
+pub fn next_variant(stream: &[u8], from: Cursor) -> Step<Variant>
     ensures { VariantsFrom stream.now from.at result }
 {
-    let Sought::At(at, after) = seek(stream, from.at, 10, Between::Fields) else {
-        return VariantStep::NoVariant;
+    let Some((at, after)) = seek(stream, from.at, 10, Between::Fields) else {
+        return None;
     };
-    VariantStep::AVariant(variant_at(cut::from(stream, at)), Cursor::place(after))
-}
-
-#[derive(Clone, Copy)]
-pub enum FamilyStep {
-    NoFamily,
-    AFamily(Family, Cursor),
+    Some((variant_at(cut::from(stream, at)), Cursor::place(after)))
 }
 
 // The next family of the record from a cursor on.
-pub fn next_family(stream: &[u8], from: Cursor) -> FamilyStep
+pub fn next_family(stream: &[u8], from: Cursor) -> Step<Family>
     ensures { FamiliesFrom stream.now from.at result }
 {
-    let Sought::At(at, after) = seek(stream, from.at, 9, Between::Anything) else {
-        return FamilyStep::NoFamily;
+    let Some((at, after)) = seek(stream, from.at, 9, Between::Anything) else {
+        return None;
     };
-    FamilyStep::AFamily(family_at(cut::from(stream, at)), Cursor::place(after))
-}
-
-#[derive(Clone, Copy)]
-pub enum UnstoredStep {
-    NoUnstored,
-    AnUnstored(PluginKey, Cursor),
+    Some((family_at(cut::from(stream, at)), Cursor::place(after)))
 }
 
 // The next unstored plugin key of the record from a cursor on.
-pub fn next_unstored(stream: &[u8], from: Cursor) -> UnstoredStep
+pub fn next_unstored(stream: &[u8], from: Cursor) -> Step<PluginKey>
     ensures { UnstoredFrom stream.now from.at result }
 {
-    let Sought::At(at, after) = seek(stream, from.at, 13, Between::Anything) else {
-        return UnstoredStep::NoUnstored;
+    let Some((at, after)) = seek(stream, from.at, 13, Between::Anything) else {
+        return None;
     };
-    UnstoredStep::AnUnstored(key_at(cut::from(stream, at)), Cursor::place(after))
-}
-
-#[derive(Clone, Copy)]
-pub enum VersionStep {
-    NoVersion,
-    AVersion(Version, Cursor),
+    Some((key_at(cut::from(stream, at)), Cursor::place(after)))
 }
 
 // The next version entry of the record from a cursor on.
-pub fn next_version(stream: &[u8], from: Cursor) -> VersionStep
+pub fn next_version(stream: &[u8], from: Cursor) -> Step<Version>
     ensures { VersionsFrom stream.now from.at result }
 {
-    let Sought::At(at, after) = seek(stream, from.at, 14, Between::Anything) else {
-        return VersionStep::NoVersion;
+    let Some((at, after)) = seek(stream, from.at, 14, Between::Anything) else {
+        return None;
     };
-    VersionStep::AVersion(version_at(cut::from(stream, at)), Cursor::place(after))
+    Some((version_at(cut::from(stream, at)), Cursor::place(after)))
 }
 
 // The first value of that name from a cursor on.
-pub fn find_value(stream: &[u8], pool: &[u8], from: Cursor, name: &[u8]) -> ValueStep
+pub fn find_value(stream: &[u8], pool: &[u8], from: Cursor, name: &[u8]) -> Step<Value>
     ensures { let s : Str = stream.now in
         let p : Str = pool.now in
         value_in name.now (values_at s p from.at) ≡ value_found s p result }
 {
     let mut cursor = from;
     loop {
-        let ValueStep::AValue(e, after) = next_value(stream, cursor) else {
-            return ValueStep::NoValue;
+        let Some((e, after)) = next_value(stream, cursor) else {
+            return None;
         };
         if same(bytes_of(pool, e.name), name) {
-            return ValueStep::AValue(e, after);
+            return Some((e, after));
         }
         cursor = after;
     }
 }
 
 // The first member of that name from a cursor on.
-pub fn find_member(stream: &[u8], pool: &[u8], from: Cursor, name: &[u8]) -> MemberStep
+pub fn find_member(stream: &[u8], pool: &[u8], from: Cursor, name: &[u8]) -> Step<Member>
     ensures { let s : Str = stream.now in
         let p : Str = pool.now in
         member_in name.now (members_at s p from.at) ≡ member_found s p result }
 {
     let mut cursor = from;
     loop {
-        let MemberStep::AMember(e, after) = next_member(stream, cursor) else {
-            return MemberStep::NoMember;
+        let Some((e, after)) = next_member(stream, cursor) else {
+            return None;
         };
         if same(bytes_of(pool, e.name), name) {
-            return MemberStep::AMember(e, after);
+            return Some((e, after));
         }
         cursor = after;
     }
 }
 
 // The first bit field of that name from a cursor on.
-pub fn find_bitfield(stream: &[u8], pool: &[u8], from: Cursor, name: &[u8]) -> BitfieldStep
+pub fn find_bitfield(stream: &[u8], pool: &[u8], from: Cursor, name: &[u8]) -> Step<Bitfield>
     ensures { let s : Str = stream.now in
         let p : Str = pool.now in
         bitfield_in name.now (bitfields_at s p from.at) ≡ bitfield_found s p result }
 {
     let mut cursor = from;
     loop {
-        let BitfieldStep::ABitfield(e, after) = next_bitfield(stream, cursor) else {
-            return BitfieldStep::NoBitfield;
+        let Some((e, after)) = next_bitfield(stream, cursor) else {
+            return None;
         };
         if same(bytes_of(pool, e.name), name) {
-            return BitfieldStep::ABitfield(e, after);
+            return Some((e, after));
         }
         cursor = after;
     }
 }
 
 // The first family of that name from a cursor on.
-pub fn find_family(stream: &[u8], pool: &[u8], from: Cursor, name: &[u8]) -> FamilyStep
+pub fn find_family(stream: &[u8], pool: &[u8], from: Cursor, name: &[u8]) -> Step<Family>
     ensures { let s : Str = stream.now in
         let p : Str = pool.now in
         family_in name.now (families_at s p from.at) ≡ family_found s p result }
 {
     let mut cursor = from;
     loop {
-        let FamilyStep::AFamily(e, after) = next_family(stream, cursor) else {
-            return FamilyStep::NoFamily;
+        let Some((e, after)) = next_family(stream, cursor) else {
+            return None;
         };
         if same(bytes_of(pool, e.name), name) {
-            return FamilyStep::AFamily(e, after);
+            return Some((e, after));
         }
         cursor = after;
     }

@@ -8,15 +8,14 @@ ghost use Rattle.record.specs.Marks.{between, PlacesFrom, reference_at, IsBody, 
 ghost use Rattle.record.specs.Marks.{Clear, Ready, IsVisited, Led, BodyWalked, FieldWalked};
 ghost use Rattle.record.specs.Ownership.{RootWalked, RootsMarked, OwnersMarked};
 
-use crate::command::Cursor;
+use crate::command::{Cursor, Step, Struct};
 use crate::cut;
 use crate::index::find_declared;
 use crate::le::byte_at;
-use crate::lists::StructStep;
-use crate::operands::{OptText, opt_text_at};
+use crate::operands::opt_text_at;
 use crate::references::referenced_type;
-use crate::seek::{Between, Sought, seek};
-use crate::text::bytes_of;
+use crate::seek::{Between, seek};
+use crate::text::{Text, bytes_of};
 use crate::versioned::Versioned;
 
 // The mark of a type that was visited, which no root has.
@@ -34,10 +33,10 @@ struct Body {
 fn family_fields(stream: &[u8], pool: &[u8], index: &[u16], name: &[u8]) -> Body
     ensures { let s : Str = stream.now in
         let p : Str = pool.now in
-        (Indexed s p index.now → Declared s p index.now 8 name.now Sought.Nowhere
+        (Indexed s p index.now → Declared s p index.now 8 name.now None
         → IsBody s p name.now result) }
 {
-    if let Sought::At(place, after) = find_declared(stream, pool, index, 9, name) {
+    if let Some((place, after)) = find_declared(stream, pool, index, 9, name) {
         return Body {
             place,
             from: Cursor::place(after),
@@ -57,7 +56,7 @@ fn type_fields(stream: &[u8], pool: &[u8], index: &[u16], name: &[u8]) -> Body
         let p : Str = pool.now in
         (Indexed s p index.now → IsBody s p name.now result) }
 {
-    let Sought::At(place, after) = find_declared(stream, pool, index, 8, name) else {
+    let Some((place, after)) = find_declared(stream, pool, index, 8, name) else {
         return family_fields(stream, pool, index, name);
     };
     Body {
@@ -65,13 +64,6 @@ fn type_fields(stream: &[u8], pool: &[u8], index: &[u16], name: &[u8]) -> Body
         from: Cursor::place(after),
         family: false,
     }
-}
-
-// The place of a field's command, and the cursor after it.
-#[derive(Clone, Copy)]
-enum PlaceStep {
-    NoPlace,
-    APlace(usize, Cursor),
 }
 
 // What may stand between the fields of a type.
@@ -85,44 +77,37 @@ fn between(family: bool) -> Between
     }
 }
 
-// The place of the next field of a type. Plugin keys are passed over, and in a family its variants.
-fn next_place(stream: &[u8], from: Cursor, family: bool) -> PlaceStep
+// The place of the next field of a type, with the cursor after its command. Plugin keys are passed over, and in a family its variants.
+fn next_place(stream: &[u8], from: Cursor, family: bool) -> Step<usize>
     ensures { PlacesFrom family stream.now from.at result }
 {
-    let Sought::At(place, after) = seek(stream, from.at, 11, between(family)) else {
-        return PlaceStep::NoPlace;
+    let Some((place, after)) = seek(stream, from.at, 11, between(family)) else {
+        return None;
     };
-    PlaceStep::APlace(place, Cursor::place(after))
+    Some((place, Cursor::place(after)))
 }
 
 // The name that the field at a place refers to.
-pub fn reference_at(stream: &[u8], pool: &[u8], place: usize) -> OptText
+pub fn reference_at(stream: &[u8], pool: &[u8], place: usize) -> Option<Text>
     ensures { opt_of pool.now result ≡ reference_at stream.now pool.now place }
 {
     referenced_type(pool, cut::from(stream, place))
 }
 
-// What a reference leads to.
-#[derive(Clone, Copy)]
-enum Target {
-    Nothing,
-    Fields(Body),
-}
-
 // The fields of the type of a name, unless it is a structure with slot text: one look-up tells both.
-fn enter(stream: &[u8], pool: &[u8], index: &[u16], name: &[u8]) -> Target
+fn enter(stream: &[u8], pool: &[u8], index: &[u16], name: &[u8]) -> Option<Body>
     ensures { let s : Str = stream.now in
         let p : Str = pool.now in
         (Indexed s p index.now → Entering s p name.now result) }
 {
-    let Sought::At(place, after) = find_declared(stream, pool, index, 8, name) else {
-        return Target::Fields(family_fields(stream, pool, index, name));
+    let Some((place, after)) = find_declared(stream, pool, index, 8, name) else {
+        return Some(family_fields(stream, pool, index, name));
     };
     let slot = opt_text_at(cut::from(stream, place), 4);
-    if let OptText::Given(_) = slot {
-        return Target::Nothing;
+    if let Some(_) = slot {
+        return None;
     }
-    Target::Fields(Body {
+    Some(Body {
         place,
         from: Cursor::place(after),
         family: false,
@@ -130,13 +115,13 @@ fn enter(stream: &[u8], pool: &[u8], index: &[u16], name: &[u8]) -> Target
 }
 
 // What the field at a place leads to.
-fn target_at(stream: &[u8], pool: &[u8], index: &[u16], place: usize) -> Target
+fn target_at(stream: &[u8], pool: &[u8], index: &[u16], place: usize) -> Option<Body>
     ensures { let s : Str = stream.now in
         let p : Str = pool.now in
         (Indexed s p index.now → LeadsToTarget s p place result) }
 {
-    let OptText::Given(name) = reference_at(stream, pool, place) else {
-        return Target::Nothing;
+    let Some(name) = reference_at(stream, pool, place) else {
+        return None;
     };
     enter(stream, pool, index, bytes_of(pool, name))
 }
@@ -145,10 +130,7 @@ fn target_at(stream: &[u8], pool: &[u8], index: &[u16], place: usize) -> Target
 fn is_visited(stream: &[u8], marks: &[u8], place: usize) -> bool
     ensures { IsVisited stream.now marks.now place result }
 {
-    if stream.len() <= place {
-        return true;
-    }
-    byte_at(marks, place) != 0
+    stream.len() <= place || byte_at(marks, place) != 0
 }
 
 // Visits a field that has no mark: marks it, and visits the type that it leads to.
@@ -164,7 +146,7 @@ fn walk_field(stream: &[u8], pool: &[u8], index: &[u16], marks: &mut [u8], place
         return;
     }
     marks[place] = mark;
-    let Target::Fields(body) = target_at(stream, pool, index, place) else {
+    let Some(body) = target_at(stream, pool, index, place) else {
         return;
     };
     walk_type(stream, pool, index, marks, body, mark);
@@ -187,7 +169,7 @@ fn walk_type(stream: &[u8], pool: &[u8], index: &[u16], marks: &mut [u8], body: 
     let family = body.family;
     let mut cursor = body.from;
     loop {
-        let PlaceStep::APlace(field, after) = next_place(stream, cursor, family) else {
+        let Some((field, after)) = next_place(stream, cursor, family) else {
             return;
         };
         walk_field(stream, pool, index, marks, field, mark);
@@ -199,11 +181,7 @@ fn walk_type(stream: &[u8], pool: &[u8], index: &[u16], marks: &mut [u8], body: 
 fn clear(marks: &mut [u8])
     ensures { Clear marks.new }
 {
-    let mut i = 0;
-    while i < marks.len() {
-        marks[i] = 0;
-        i += 1;
-    }
+    marks.fill(0);
 }
 
 // Marks what the structure in a slot leads to and no earlier root has taken.
@@ -212,13 +190,13 @@ fn mark_root(
     pool: &[u8],
     index: &[u16],
     marks: &mut [u8],
-    root: StructStep,
+    root: Step<Struct>,
     mark: u8,
 )
     requires { Ready stream.now marks.old mark }
     ensures { RootWalked stream.now pool.now index.now mark root marks.old marks.new }
 {
-    let StructStep::AStruct(e, _) = root else {
+    let Some((e, _)) = root else {
         return;
     };
     let name = e.name;

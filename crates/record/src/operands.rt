@@ -5,23 +5,11 @@ ghost use Rattle.record.specs.Operands.{text_at, opt_text, opt_text_at, opt_numb
 use crate::le;
 use crate::text::Text;
 
-#[derive(Clone, Copy)]
-pub enum OptText {
-    Absent,
-    Given(Text),
-}
-
-#[derive(Clone, Copy)]
-pub enum OptNumber {
-    Missing,
-    Number(u32),
-}
-
 // Two bytes as a number, the first the lower.
 fn pair(low: u8, high: u8) -> u16
     ensures { result ≡ low + 256 * high }
 {
-    low as u16 + 256 * (high as u16)
+    u16::from_le_bytes([low, high])
 }
 
 // A text whose three bytes are there.
@@ -52,18 +40,17 @@ pub fn text_at(s: &[u8], at: usize) -> Text
 }
 
 // A text that may be absent, from what it reads as.
-pub(crate) fn opt_text(t: Text) -> OptText
+#[tactic(auto, unfolding(crate::specs::Operands::opt_text))]
+pub(crate) fn opt_text(t: Text) -> Option<Text>
     ensures { result ≡ opt_text t }
 {
-    if t.start == 65535 {
-        if t.len == 0 {
-            return OptText::Absent;
-        }
+    if t.start == 65535 && t.len == 0 {
+        return None;
     }
-    OptText::Given(t)
+    Some(t)
 }
 
-pub fn opt_text_at(s: &[u8], at: usize) -> OptText
+pub fn opt_text_at(s: &[u8], at: usize) -> Option<Text>
     ensures { result ≡ opt_text_at s.now at }
 {
     opt_text(text_at(s, at))
@@ -75,13 +62,11 @@ pub fn flag_at(s: &[u8], at: usize) -> bool
     le::byte_at(s, at) == 1
 }
 
-pub fn opt_number_at(s: &[u8], at: usize) -> OptNumber
+pub fn opt_number_at(s: &[u8], at: usize) -> Option<u32>
     ensures { result ≡ opt_number_at s.now at }
 {
-    if at < s.len() {
-        if le::byte_at(s, at) != 0 {
-            return OptNumber::Number(le::u32_at(s, at + 1));
-        }
+    if at < s.len() && s[at] != 0 {
+        return Some(le::u32_at(s, at + 1));
     }
-    OptNumber::Missing
+    None
 }

@@ -3,7 +3,7 @@
 ghost use Rattle.std.specs.Prelude.{◌≡◌};
 ghost use Rattle.record.specs.Commands.{start, step_at};
 
-use crate::command::{Cursor, Parent, Step};
+use crate::command::{Command, Cursor, Parent, Step};
 
 #[derive(Clone, Copy)]
 pub struct Reader<'a> {
@@ -30,7 +30,7 @@ impl<'a> Reader<'a> {
     }
 
     // The command at its place, unjudged, with the cursor after it.
-    pub fn next(self) -> Step
+    pub fn next(self) -> Step<Command>
         ensures { result ≡ step_at self.entry.stream.now self.entry.at }
     {
         let cursor = Cursor {
@@ -43,7 +43,7 @@ impl<'a> Reader<'a> {
 }
 
 // The command at a place of a stream, unjudged, with the cursor after it.
-pub fn command_at(stream: &[u8], at: usize) -> Step
+pub fn command_at(stream: &[u8], at: usize) -> Step<Command>
     ensures { result ≡ step_at stream.now at }
 {
     Reader::new(stream).moved(at).next()

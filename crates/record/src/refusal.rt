@@ -5,48 +5,35 @@ ghost use Rattle.record.specs.Refusals.{refusal_number, side_number};
 // A record is read as the one about to ship, or as the copy of the last release.
 #[derive(Clone, Copy)]
 pub enum Side {
-    Current,
-    Released,
+    Current = 0,
+    Released = 1,
 }
 
 impl Side {
     pub fn number(self) -> u32
         ensures { result ≡ side_number self }
     {
-        match self {
-            Side::Current => 0,
-            Side::Released => 1,
-        }
+        self as u32
     }
 }
 
 #[derive(Clone, Copy)]
 pub enum Refusal {
-    Cut,
-    Unknown,
-    Misplaced,
-    Outside,
-    Missing,
-    Flag,
-    Letter,
-    Long,
-    Vast,
+    Cut = 1,
+    Unknown = 2,
+    Misplaced = 3,
+    Outside = 4,
+    Missing = 5,
+    Flag = 6,
+    Letter = 7,
+    Long = 8,
+    Vast = 9,
 }
 
 impl Refusal {
     pub fn number(self) -> u32
         ensures { result ≡ refusal_number self }
     {
-        match self {
-            Refusal::Cut => 1,
-            Refusal::Unknown => 2,
-            Refusal::Misplaced => 3,
-            Refusal::Outside => 4,
-            Refusal::Missing => 5,
-            Refusal::Flag => 6,
-            Refusal::Letter => 7,
-            Refusal::Long => 8,
-            Refusal::Vast => 9,
-        }
+        self as u32
     }
 }

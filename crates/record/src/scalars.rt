@@ -6,53 +6,34 @@ ghost use Rattle.record.specs.Scalars.{before_zero, scalars_of, prim_size, built
 use crate::cut::place_of;
 use crate::text::same;
 
-// Whether the word of the row at a place can be of so many bytes, at most eight: a 0 follows them, or the row has no more.
-fn row_ends(rows: &[u8], at: usize, n: usize) -> bool
-    requires { (at + 9 ≤ length rows.now) × (n ≤ 8) }
-    ensures { result ≡ (eqb n 8 || eqb (get_or rows.now (at + n) 0) 0) }
+// Whether the word of a row can be of so many bytes, at most eight: a 0 follows them, or the row has no more.
+fn row_ends(row: &[u8], n: usize) -> bool
+    requires { (9 ≤ length row.now) × (n ≤ 8) }
+    ensures { result ≡ (eqb n 8 || eqb (get_or row.now n 0) 0) }
 {
-    if n == 8 {
-        return true;
-    }
-    rows[at + n] == 0
+    n == 8 || row[n] == 0
 }
 
-// Whether the row at a place is of a word: by the lengths, then the bytes. A word with a 0 in it is no row's.
-fn row_is(rows: &[u8], at: usize, word: &[u8]) -> bool
-    requires { at + 9 ≤ length rows.now }
-    ensures { result ≡ eqs (before_zero (take 8 (drop at rows.now))) word.now }
+// Whether a row is of a word: by the lengths, then the bytes. A word with a 0 in it is no row's.
+fn row_is(row: &[u8], word: &[u8]) -> bool
+    requires { 9 ≤ length row.now }
+    ensures { result ≡ eqs (before_zero (take 8 row.now)) word.now }
 {
     let n = word.len();
-    if 8 < n {
+    if 8 < n || !row_ends(row, n) {
         return false;
     }
-    if !row_ends(rows, at, n) {
-        return false;
-    }
-    let end = at + n;
-    if !same(&rows[at..end], word) {
-        return false;
-    }
-    place_of(word, 0) == n
-}
-
-// A byte as a size. A function, because a cast of a byte in place asks a proof that it fits.
-fn wide(b: u8) -> u32
-    ensures { result ≡ b }
-{
-    b as u32
+    same(&row[..n], word) && place_of(word, 0) == n
 }
 
 // The size of the first row of a word, and 0 where the table has no such row. A last part shorter than nine is no row.
 pub fn prim_size(rows: &[u8], word: &[u8]) -> u32
     ensures { result ≡ prim_size (scalars_of rows.now) word.now }
 {
-    let mut at = 0;
-    while 9 <= rows.len() - at {
-        if row_is(rows, at, word) {
-            return wide(rows[at + 8]);
+    for row in rows.chunks_exact(9) {
+        if row_is(row, word) {
+            return u32::from(row[8]);
         }
-        at += 9;
     }
     0
 }

@@ -14,13 +14,6 @@ pub enum Between {
     Variants,
 }
 
-// The place of a command, and the place after it.
-#[derive(Clone, Copy)]
-pub enum Sought {
-    Nowhere,
-    At(usize, usize),
-}
-
 // The place after the command of this number at a place; 0 where there is none.
 fn end_of(s: &[u8], at: usize, byte: u8) -> usize
     requires { (at < length s.now) × (byte ≡ get_or s.now at 0) }
@@ -57,47 +50,37 @@ pub fn passes(between: Between, byte: u8) -> bool
         Between::Anything => true,
         Between::Nothing => false,
         Between::Keys => byte == 12,
-        Between::Fields => {
-            if byte == 11 {
-                return true;
-            }
-            byte == 12
-        }
-        Between::Variants => {
-            if byte == 10 {
-                return true;
-            }
-            byte == 12
-        }
+        Between::Fields => matches!(byte, 11 | 12),
+        Between::Variants => matches!(byte, 10 | 12),
     }
 }
 
-// The next element of a list from a place on, by the number of its command. The width of a command that is found is taken from the number that is
-// sought: where a caller's number is a constant the compiler then knows how many bytes are there, and tests no operand for them.
-pub fn seek(s: &[u8], from: usize, number: u8, between: Between) -> Sought
+// The place of the next element of a list from a place on, by the number of its command, and the place after it. The width of a command that is
+// found is taken from the number that is sought: where a caller's number is a constant the compiler then knows how many bytes are there, and tests no operand for them.
+pub fn seek(s: &[u8], from: usize, number: u8, between: Between) -> Option<(usize, usize)>
     ensures { SoughtFrom s.now between number from result }
 {
     let mut at = from;
     loop {
         if s.len() <= at {
-            return Sought::Nowhere;
+            return None;
         }
         let byte = s[at];
         if byte == number {
             let end = end_of(s, at, number);
             if end == 0 {
-                return Sought::Nowhere;
+                return None;
             }
-            return Sought::At(at, end);
+            return Some((at, end));
         }
         let after = end_of(s, at, byte);
         if after == 0 {
-            return Sought::Nowhere;
+            return None;
         }
         if passes(between, byte) {
             at = after;
         } else {
-            return Sought::Nowhere;
+            return None;
         }
     }
 }

@@ -15,11 +15,8 @@ ghost use Rattle.record.specs.Vast.{OpenedFrom, front_end, first_vast, sum_sizes
 
 use crate::command::{Cursor, Family, family_at};
 use crate::le::byte_at;
-use crate::operands::OptText;
-use crate::seek::{Between, Sought, after_at, seek};
-use crate::sizes::{
-    LIMIT, front_bytes, number_at, product, scalar_bytes, size_unindexed, sum, wide,
-};
+use crate::seek::{Between, after_at, seek};
+use crate::sizes::{LIMIT, front_bytes, number_at, product, scalar_bytes, size_unindexed, sum};
 use crate::{cut, le};
 
 // A type as the stream opens it: the place of its command, a family's front, and the cursor at its fields.
@@ -34,10 +31,7 @@ pub(crate) enum TypeStep {
 fn opens_plain(byte: u8) -> bool
     ensures { result ≡ (eqb byte 8 || eqb byte 10) }
 {
-    if byte == 8 {
-        return true;
-    }
-    byte == 10
+    matches!(byte, 8 | 10)
 }
 
 // The next structure, family or variant of the record from a cursor on.
@@ -68,9 +62,9 @@ pub(crate) fn front_end(rows: &[u8], stream: &[u8], pool: &[u8], f: Family) -> u
 {
     let discriminant = f.discriminant_type;
     let length = f.param_len_type;
-    let first = front_bytes(stream, pool, OptText::Given(discriminant));
+    let first = front_bytes(stream, pool, Some(discriminant));
     let second = scalar_bytes(rows, pool, length);
-    sum(wide(first), wide(second))
+    sum(u64::from(first), u64::from(second))
 }
 
 // Whether one of the fields at a cursor, the first of them at this offset, ends past the limit.
@@ -82,7 +76,7 @@ fn ends_past(rows: &[u8], stream: &[u8], pool: &[u8], from: Cursor, start: u64) 
     let mut at = from.at;
     let mut offset = start;
     loop {
-        let Sought::At(place, after) = seek(stream, at, 11, Between::Keys) else {
+        let Some((place, after)) = seek(stream, at, 11, Between::Keys) else {
             return false;
         };
         let size = size_unindexed(rows, stream, pool, cut::from(stream, place));
@@ -95,14 +89,8 @@ fn ends_past(rows: &[u8], stream: &[u8], pool: &[u8], from: Cursor, start: u64) 
     }
 }
 
-#[derive(Clone, Copy)]
-pub enum Vast {
-    NoneVast,
-    VastAt(usize),
-}
-
 // The place of the first type that is vast.
-pub fn first_vast(rows: &[u8], stream: &[u8], pool: &[u8]) -> Vast
+pub fn first_vast(rows: &[u8], stream: &[u8], pool: &[u8]) -> Option<usize>
     ensures { let cur : Rec = rec stream.now pool.now (scalars_of rows.now) in
         result ≡ first_vast cur 0 }
 {
@@ -110,17 +98,17 @@ pub fn first_vast(rows: &[u8], stream: &[u8], pool: &[u8]) -> Vast
     loop {
         match next_type(stream, cursor) {
             TypeStep::NoType => {
-                return Vast::NoneVast;
+                return None;
             }
             TypeStep::Plain(at, after) => {
                 if ends_past(rows, stream, pool, after, 0) {
-                    return Vast::VastAt(at);
+                    return Some(at);
                 }
                 cursor = after;
             }
             TypeStep::Fronted(at, f, after) => {
                 if family_ends_past(rows, stream, pool, f, after) {
-                    return Vast::VastAt(at);
+                    return Some(at);
                 }
                 cursor = after;
             }
@@ -146,13 +134,8 @@ fn scalar_bound(rows: &[u8]) -> u64
     ensures { result ≡ capped (sum_sizes (scalars_of rows.now)) }
 {
     let mut total = 0;
-    let mut at = 0;
-    while 9 <= rows.len() - at {
-        total = sum(total, texts::le::wide(rows[at + 8]));
-        if LIMIT < total {
-            return LIMIT + 1;
-        }
-        at += 9;
+    for row in rows.chunks_exact(9) {
+        total = sum(total, u64::from(row[8]));
     }
     total
 }
@@ -162,8 +145,7 @@ fn add_unit(total: u64, stream: &[u8], at: usize) -> u64
     ensures { capped result ≡ capped (total + unit_at stream.now at) }
 {
     match byte_at(stream, at) {
-        4 => sum(total, wide(le::u32_at(cut::from(stream, at), 4))),
-        6 => sum(total, wide(le::u32_at(cut::from(stream, at), 4))),
+        4 | 6 => sum(total, u64::from(le::u32_at(cut::from(stream, at), 4))),
         _ => total,
     }
 }
@@ -182,12 +164,8 @@ fn add_numbers(total: u64, v: u64, s: &[u8]) -> u64
     requires { 33 ≤ length s.now }
     ensures { capped result ≡ capped (total + numbers_of v (field_at s.now)) }
 {
-    if s[13] == 0 {
-        if s[18] == 0 {
-            if s[28] == 0 {
-                return total;
-            }
-        }
+    if s[13] == 0 && s[18] == 0 && s[28] == 0 {
+        return total;
     }
     sum(total, numbers(v, s))
 }
@@ -224,12 +202,12 @@ fn within(v: u64, stream: &[u8]) -> bool
 }
 
 // The place of the first type that is vast, sought only where the bound does not show that there is none.
-pub fn vast_type(rows: &[u8], stream: &[u8], pool: &[u8]) -> Vast
+pub fn vast_type(rows: &[u8], stream: &[u8], pool: &[u8]) -> Option<usize>
     ensures { let cur : Rec = rec stream.now pool.now (scalars_of rows.now) in
         result ≡ first_vast cur 0 }
 {
     if within(scalar_bound(rows), stream) {
-        return Vast::NoneVast;
+        return None;
     }
     first_vast(rows, stream, pool)
 }

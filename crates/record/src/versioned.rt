@@ -2,39 +2,38 @@
 ghost use Rattle.std.specs.Prelude.{◌≡◌};
 ghost use Rattle.record.specs.Versioned.{InSlots, first_slotted, filled_by};
 
-use crate::command::{Cursor, Struct, struct_at};
+use crate::command::{Cursor, Step, Struct, struct_at};
 use crate::cut;
-use crate::lists::StructStep;
-use crate::operands::{OptText, opt_text_at};
+use crate::operands::opt_text_at;
 use crate::references::is_text;
-use crate::seek::{Between, Sought, seek};
+use crate::seek::{Between, seek};
 
 // What fills each slot, in the order of the Rust's SLOT_ORDER.
 #[derive(Clone, Copy)]
 pub struct Versioned {
-    pub info: StructStep,
-    pub metadata: StructStep,
-    pub runtime: StructStep,
+    pub info: Step<Struct>,
+    pub metadata: Step<Struct>,
+    pub runtime: Step<Struct>,
 }
 
 // What fills a slot once one more structure is seen: the first with the slot text.
 fn first_slotted(
     pool: &[u8],
     slot: &[u8],
-    filled: StructStep,
+    filled: Step<Struct>,
     e: Struct,
     after: usize,
-) -> StructStep
+) -> Step<Struct>
     ensures { result ≡ first_slotted pool.now slot.now filled e after }
 {
-    if let StructStep::AStruct(first, from) = filled {
-        return StructStep::AStruct(first, from);
+    if let Some((first, from)) = filled {
+        return Some((first, from));
     }
     let given = e.generation_slot;
     if is_text(pool, given, slot) {
-        return StructStep::AStruct(e, Cursor::place(after));
+        return Some((e, Cursor::place(after)));
     }
-    StructStep::NoStruct
+    None
 }
 
 // What fills the slots once one more structure is seen.
@@ -56,18 +55,18 @@ pub fn versioned_structs(stream: &[u8], pool: &[u8]) -> Versioned
     ensures { InSlots stream.now pool.now result }
 {
     let mut filled = Versioned {
-        info: StructStep::NoStruct,
-        metadata: StructStep::NoStruct,
-        runtime: StructStep::NoStruct,
+        info: None,
+        metadata: None,
+        runtime: None,
     };
     let mut at = 0;
     loop {
-        let Sought::At(place, after) = seek(stream, at, 8, Between::Anything) else {
+        let Some((place, after)) = seek(stream, at, 8, Between::Anything) else {
             return filled;
         };
         at = after;
         let bytes = cut::from(stream, place);
-        if let OptText::Given(_) = opt_text_at(bytes, 4) {
+        if let Some(_) = opt_text_at(bytes, 4) {
             filled = filled_by(pool, filled, struct_at(bytes), after);
         }
     }

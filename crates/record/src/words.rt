@@ -4,19 +4,13 @@ ghost use Rattle.record.specs.Base.{before};
 ghost use Rattle.record.specs.Words.{Fronted, Skipped};
 
 use crate::le::byte_at;
-use texts::le::{wide, word};
-
-fn lesser(a: usize, b: usize) -> usize
-    ensures { (result ≤ a) × (result ≤ b) }
-{
-    if a < b { a } else { b }
-}
+use texts::le::word;
 
 // A number of bytes at the front in which both agree, found by words.
 pub fn skip(a: &[u8], b: &[u8]) -> usize
     ensures { Skipped a.now b.now result }
 {
-    let n = lesser(a.len(), b.len());
+    let n = a.len().min(b.len());
     let mut i = 0;
     while 8 <= n - i {
         if word(a, i) != word(b, i) {
@@ -40,30 +34,7 @@ pub fn front_of(s: &[u8]) -> u64
 fn big_endian(a: u8, b: u8, c: u8, d: u8) -> u64
     ensures { (result ≡ 16777216 * a + 65536 * b + 256 * c + d) × (a < 256) × (b < 256) × (c < 256) × (d < 256) }
 {
-    16777216 * wide(a) + 65536 * wide(b) + 256 * wide(c) + wide(d)
-}
-
-// Whether one text goes before another, found by bytes after what both begin with.
-fn text_before_by_bytes(a: &[u8], b: &[u8]) -> bool
-    ensures { result ≡ before a.now b.now }
-{
-    let mut i = skip(a, b);
-    while i < a.len() {
-        if b.len() <= i {
-            return false;
-        }
-        if a[i] < b[i] {
-            return true;
-        }
-        if b[i] < a[i] {
-            return false;
-        }
-        i += 1;
-    }
-    if i < b.len() {
-        return true;
-    }
-    false
+    u64::from(u32::from_be_bytes([a, b, c, d]))
 }
 
 // Whether one text goes before another in byte order; most that differ do so in their first four bytes.
@@ -72,11 +43,5 @@ pub fn text_before(a: &[u8], b: &[u8]) -> bool
 {
     let x = front_of(a);
     let y = front_of(b);
-    if x < y {
-        return true;
-    }
-    if y < x {
-        return false;
-    }
-    text_before_by_bytes(a, b)
+    if x == y { a.cmp(&b).is_lt() } else { x < y }
 }

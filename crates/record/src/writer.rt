@@ -9,13 +9,11 @@ use crate::cut::from;
 use crate::text::{Text, bytes_of};
 
 // The place n bytes after another, and the largest number there is where that is larger.
+#[tactic(auto, unfolding(crate::specs::Write::saturated))]
 pub fn after(at: usize, n: usize) -> usize
     ensures { result ≡ saturated (at + n) }
 {
-    if 0xffff_ffff_ffff_ffff - at < n {
-        return 0xffff_ffff_ffff_ffff;
-    }
-    at + n
+    at.saturating_add(n)
 }
 
 // Copies src into out at index at.
@@ -23,13 +21,7 @@ fn copy(out: &mut [u8], at: usize, src: &[u8])
     requires { at + length src.now ≤ length out.old }
     ensures { out.new ≡ placed out.old at src.now }
 {
-    let mut j = 0;
-    let mut o = at;
-    while j < src.len() {
-        out[o] = src[j];
-        o += 1;
-        j += 1;
-    }
+    out[at..at + src.len()].copy_from_slice(src);
 }
 
 // Puts src into out at index at, if it fits; answers the place after it.
@@ -102,13 +94,10 @@ fn signed(v: u64) -> Digits
 pub fn number_len(n: u64) -> usize
     ensures { (result ≡ length (decimal n)) × (result ≤ 20) }
 {
-    let mut len: usize = 1;
-    let mut rest = n;
-    while 10 <= rest {
-        len += 1;
-        rest /= 10;
+    match n.checked_ilog10() {
+        Some(k) => k as usize + 1,
+        None => 1,
     }
-    len
 }
 
 // Puts a number's text.

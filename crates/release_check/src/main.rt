@@ -3,7 +3,7 @@
 #![tactic(auto)]
 
 use compare::check::check;
-use parts::{lent_len, print_refusal};
+use parts::{lent_part, print_refusal};
 use std::io;
 use std::io::Write;
 
@@ -24,15 +24,14 @@ fn print_check(
 ) -> io::Result<()> {
     let mut out = [0u8; 65536];
     let a = check(stream, pool, past, old, &mut out);
-    if a.number == 0 {
-        return println!(rt; "0");
-    }
-    if a.number <= 10 {
-        return print_refusal(rt, a.number, a.side, a.place);
-    }
-    let n = a.len;
-    if n <= 65536 {
-        print_verdict(rt, a.number, &out[..n])?;
+    match a.number {
+        0 => println!(rt; "0")?,
+        1..=10 => print_refusal(rt, a.number, a.side, a.place)?,
+        _ => {
+            if let Some(message) = out.get(..a.len) {
+                print_verdict(rt, a.number, message)?;
+            }
+        }
     }
     Ok(())
 }
@@ -43,9 +42,9 @@ fn main(rt: HostRuntime) -> io::Result<()> {
     let mut past = [0u8; 32769];
     let mut old = [0u8; 16385];
     let mut input = rt.stdin();
-    let n = lent_len(&mut input, &mut stream);
-    let m = lent_len(&mut input, &mut pool);
-    let k = lent_len(&mut input, &mut past);
-    let l = lent_len(&mut input, &mut old);
-    print_check(&rt, &stream[..n], &pool[..m], &past[..k], &old[..l])
+    let stream = lent_part(&mut input, &mut stream);
+    let pool = lent_part(&mut input, &mut pool);
+    let past = lent_part(&mut input, &mut past);
+    let old = lent_part(&mut input, &mut old);
+    print_check(&rt, stream, pool, past, old)
 }

@@ -1,5 +1,5 @@
 -- Texts compared from the back, some bytes at a time. Assumes nothing.
-use Prim.Native.Nat.{ℕ, zero, suc, ◌+◌, ◌-◌, ◌/◌, ◌≤◌, ◌<◌}
+use Prim.Native.Nat.{ℕ, zero, suc, ◌+◌, ◌-◌, ◌≤◌, ◌<◌}
 use mathlib.Core.Bool.{Bool, true, false, not}
 use mathlib.Core.List.{[], ◌∷◌, reverse, reverse-cons}
 use mathlib.Core.Logic.{◌⊎◌, inl, inr}
@@ -76,18 +76,6 @@ module _ (a b : Str) where
   pub byte-out : (at : ℕ) → (get_or a at 0 ≡ get_or b at 0 → ⊥) → AgreedFrom a b (length a)
   byte-out at d = record { agreed = agreed-none; differ = λ p. differs (λ (s : Str). get_or s at 0) a b d }
 
-  pub bytes-out : (n : ℕ) → n ≡ length a → get_or a (n - 1) 0 ≡ get_or b (n - 1) 0 → get_or a (n / 2) 0 ≡ get_or b (n / 2) 0 → get_or a 0 0 ≡ get_or b 0 0 → 1 ≤ n → n ≤ 3
-      → AgreedFrom a b 0
-  bytes-out n e p q r l h = all-out (record { within = omega arith; equal = λ k t u. go k u (below_or k 1) (below_or k (n - 1)) })
-    where
-      there : (i k : ℕ) → i ≡ k → get_or a i 0 ≡ get_or b i 0 → get_or a k 0 ≡ get_or b k 0
-      there i k j x = subst (λ (v : ℕ). get_or a v 0 ≡ get_or b v 0) j x
-
-      go : (k : ℕ) → k < length a → (k < 1) ⊎ (1 ≤ k) → (k < n - 1) ⊎ (n - 1 ≤ k) → get_or a k 0 ≡ get_or b k 0
-      go k t (inl u) v = there 0 k (omega arith) r
-      go k t (inr u) (inl v) = there (n / 2) k (omega arith) q
-      go k t (inr u) (inr v) = there (n - 1) k (omega arith) p
-
   pub none_out : length a ≡ 0 → AgreedFrom a b 0
   none_out e = all-out (record { within = omega arith; equal = λ k p q. absurd (omega arith) })
 
@@ -95,6 +83,9 @@ module _ (a b : Str) where
 
   pub same_length : (length a ≡ length b → ⊥) → false ≡ eqs a b
   same_length d = sym (differs (λ (s : Str). length s) a b d)
+
+  pub unlike_lengths : (length a ≡ length b → ⊥) → eqb (length a) (length b) ≡ eqs a b
+  unlike_lengths d = ne_eqb (length a) (length b) d ∙ same_length d
 
   pub same-is : (left : ℕ) → length a ≡ length b → AgreedFrom a b left → eqb left 0 ≡ eqs a b
   same-is zero e g = eq-eqb 0 0 refl ∙ sym (ap (eqs a) (sym (same_bytes a b e (λ k p. g.agreed.equal k (omega arith) p))) ∙ eqs-refl a)

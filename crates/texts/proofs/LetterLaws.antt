@@ -4,12 +4,11 @@ use mathlib.Core.Bool.{Bool, true, false, ◌&&◌, ◌||◌, not, cond, false�
 use mathlib.Core.List.{[], ◌∷◌, ◌++◌}
 use mathlib.Core.Logic.{◌⊎◌, inl, inr}
 use mathlib.Core.Path.{◌≡◌, refl, sym, ap, subst, ◌∙◌}
-use native.Mathlib.Numerals.{add-one}
 use native.Mathlib.Omega.{arith}
-use lib.Dec.{leb, eqb-suc-zero}
+use lib.Dec.{eqb-suc-zero}
 use lib.ListN.{length, get_or, take, drop, drop_of_length-le, length-drop, take-append-drop}
 use lib.Seq.{drop-cons, drop-drop, get_or-drop, length-take-le}
-use borrow.Author.Tests.{le-leb, not-true}
+use borrow.Author.Tests.{not-true}
 use Rattle.texts.specs.Texts.{Str}
 use Rattle.texts.specs.Utf8.{inside, is_tail, utf82, utf83, utf84, char_of, is_control, no_control, no_tail, char_length, well_after, well_formed, letter_length, odd_after, odd_place}
 use Rattle.texts.specs.Plain.{is_plain, all_plain, Passed}
@@ -19,16 +18,6 @@ use Rattle.texts.proofs.EncodingLaws.{begins, well-step, whole}
 use Rattle.texts.proofs.EdgeLaws.{Tails, tails-follow, text-whole}
 
 -- the code's tests ------------------------------------------------------------------------------------------------------------
-
-module _ (low high b : ℕ) where
-  pub between-low : b < low → false ≡ inside low high b
-  between-low h = sym (inside-below low high b h)
-
-  pub between-high : low ≤ b → leb b high ≡ inside low high b
-  unfolding inside
-  between-high h = rw (le-leb low b h)
-
-pub ruleset between-laws = (between-low, between-high)
 
 module _ (a b c d : ℕ) where
   pub char-one : a ≤ 0x7f → 1 ≡ char_of a b c d
@@ -200,15 +189,14 @@ plain-passed l i n t h e f =
     let r : odd_after 0 (drop n s) ≡ odd_after 0 (drop (i + n) l) = ap (odd_after 0) (drop-drop n i l) in
     record { room = omega arith; same = omega arith }
 
--- all bytes, one more at a time
-module _ (l : Str) (i : ℕ) where
-  pub all-on : (a b g : Bool) → i < length l → b ≡ is_plain (get_or l i 0) → g ≡ (a && b) → (a && all_plain (drop i l)) ≡ (g && all_plain (drop (i + 1) l))
-  unfolding all_plain
-  all-on a b g h e f = rw (drop-cons l i 0, ← e, f, add-one) (sym (and_assoc a b (all_plain (drop (suc i) l))))
+-- all bytes, and one more
+all_plain-push : (s : Str) (b : ℕ) → all_plain (s ++ b ∷ []) ≡ (all_plain s && is_plain b)
+unfolding all_plain
+all_plain-push [] b = and-true (is_plain b)
+all_plain-push (a ∷ s) b = ap (λ t. is_plain a && t) (all_plain-push s b) ∙ sym (and_assoc (is_plain a) (all_plain s) (is_plain b))
 
-  pub all_end : (a : Bool) → length l ≤ i → (a && all_plain (drop i l)) ≡ a
-  unfolding all_plain
-  all_end a h = rw (drop_of_length-le l {i = i} h) (and-true a)
+pub plain_push : (s : Str) (b : ℕ) (good plain both : Bool) → good ≡ all_plain s → plain ≡ is_plain b → both ≡ (good && plain) → both ≡ all_plain (s ++ b ∷ [])
+plain_push s b good plain both e f g = rw (all_plain-push s b, ← e, ← f) g
 
 -- a pool that has nothing odd is well-formed
 fine-after : (k : ℕ) (s : Str) → odd_after k s ≡ length s → well_after k s ≡ true
@@ -263,13 +251,6 @@ pub accepted-text : (s : Str) (at n : ℕ) → odd_place s ≡ length s → no_t
 accepted-text s at n h p q = text-whole s at n (fine-well s h) p q
 
 -- the code's answers ----------------------------------------------------------------------------------------------------------
-
-module _ (p q r x y : Bool) where
-  pub and_is : r ≡ (p && q) → p ≡ x → q ≡ y → r ≡ (x && y)
-  and_is e f g = rw (← f, ← g) e
-
-  pub or_is : r ≡ (p || q) → p ≡ x → q ≡ y → r ≡ (x || y)
-  or_is e f g = rw (← f, ← g) e
 
 pub tail-test : (l : Str) (at b : ℕ) (t : Bool) → b ≡ get_or l at 0 → t ≡ is_tail b → not t ≡ no_tail l at
 unfolding no_tail

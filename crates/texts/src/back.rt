@@ -64,17 +64,12 @@ fn agreed_by_bytes(a: &[u8], b: &[u8]) -> usize
 {
     let n = a.len();
     let last = n - 1;
-    if a[last] != b[last] {
-        return n;
-    }
     let middle = n / 2;
-    if a[middle] != b[middle] {
-        return n;
+    if a[last] == b[last] && a[middle] == b[middle] && a[0] == b[0] {
+        0
+    } else {
+        n
     }
-    if a[0] != b[0] {
-        return n;
-    }
-    0
 }
 
 // From where on two texts of one length agree: 0 exactly if they are the same. Of bytes that are read together and differ none counts as agreed.
@@ -99,10 +94,7 @@ fn agreed_from(a: &[u8], b: &[u8]) -> usize
 pub fn same(a: &[u8], b: &[u8]) -> bool
     ensures { result ≡ eqs a.now b.now }
 {
-    if a.len() != b.len() {
-        return false;
-    }
-    agreed_from(a, b) == 0
+    a.len() == b.len() && agreed_from(a, b) == 0
 }
 
 // How many pairs of bytes are compared. What was read together and differs is gone through byte by byte, from its last one.
@@ -113,13 +105,11 @@ pub fn pairs_compared(a: &[u8], b: &[u8]) -> usize
     if n != b.len() {
         return 0;
     }
-    let mut left = agreed_from(a, b);
-    while 0 < left {
-        let next = left - 1;
+    let left = agreed_from(a, b);
+    for next in (0..left).rev() {
         if a[next] != b[next] {
             return n - next;
         }
-        left = next;
     }
     n
 }

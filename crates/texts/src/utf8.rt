@@ -1,76 +1,48 @@
 // Pools in UTF-8 (02, W-206).
-ghost use Rattle.std.specs.Prelude.{◌+◌, ◌≤◌, ◌<◌, ◌≡◌, ◌&&◌, ◌||◌, length, drop};
-ghost use Rattle.texts.specs.Utf8.{inside, is_tail, utf82, utf83, utf84, char_of, letter_length, odd_place, no_tail};
+ghost use Rattle.std.specs.Prelude.{◌+◌, ◌≤◌, ◌<◌, ◌≡◌, length, drop};
+ghost use Rattle.texts.specs.Utf8.{is_tail, utf82, utf83, utf84, char_of, letter_length, odd_place, no_tail};
 ghost use Rattle.texts.specs.Plain.{is_plain, all_plain, Passed};
 
 use crate::le::byte_at;
 
-fn both(a: bool, b: bool) -> bool
-    ensures { result ≡ (a && b) }
-{
-    if a { b } else { false }
-}
-
-fn either(a: bool, b: bool) -> bool
-    ensures { result ≡ (a || b) }
-{
-    if a { true } else { b }
-}
-
-fn between(low: u8, high: u8, b: u8) -> bool
-    ensures { result ≡ inside low high b }
-{
-    if b < low {
-        return false;
-    }
-    b <= high
-}
-
+#[tactic(auto, unfolding(crate::specs::Utf8::is_tail, crate::specs::Utf8::inside))]
 fn is_tail(b: u8) -> bool
     ensures { result ≡ is_tail b }
 {
-    between(0x80, 0xbf, b)
+    matches!(b, 0x80..=0xbf)
 }
 
-// The rows of RFC 3629's grammar, byte for byte as it has them.
+// The rows of RFC 3629's grammar.
+#[tactic(auto, unfolding(crate::specs::Utf8::utf82, crate::specs::Utf8::inside))]
 fn is_two(a: u8, b: u8) -> bool
     ensures { result ≡ utf82 a b }
 {
-    both(between(0xc2, 0xdf, a), is_tail(b))
+    matches!(a, 0xc2..=0xdf) && is_tail(b)
 }
 
-fn row_three(low: u8, high: u8, from: u8, to: u8, a: u8, b: u8, c: u8) -> bool
-    ensures { result ≡ ((inside low high a && inside from to b) && is_tail c) }
-{
-    both(
-        both(between(low, high, a), between(from, to, b)),
-        is_tail(c),
-    )
-}
-
+#[tactic(auto, unfolding(crate::specs::Utf8::utf83, crate::specs::Utf8::is_tail, crate::specs::Utf8::inside))]
 fn is_three(a: u8, b: u8, c: u8) -> bool
     ensures { result ≡ utf83 a b c }
 {
-    let first = row_three(0xe0, 0xe0, 0xa0, 0xbf, a, b, c);
-    let second = row_three(0xe1, 0xec, 0x80, 0xbf, a, b, c);
-    let third = row_three(0xed, 0xed, 0x80, 0x9f, a, b, c);
-    let fourth = row_three(0xee, 0xef, 0x80, 0xbf, a, b, c);
-    either(first, either(second, either(third, fourth)))
+    match (a, b) {
+        (0xe0, 0xa0..=0xbf)
+        | (0xe1..=0xec, 0x80..=0xbf)
+        | (0xed, 0x80..=0x9f)
+        | (0xee..=0xef, 0x80..=0xbf) => is_tail(c),
+        _ => false,
+    }
 }
 
-fn row_four(low: u8, high: u8, from: u8, to: u8, a: u8, b: u8, c: u8, d: u8) -> bool
-    ensures { result ≡ (((inside low high a && inside from to b) && is_tail c) && is_tail d) }
-{
-    both(row_three(low, high, from, to, a, b, c), is_tail(d))
-}
-
+#[tactic(auto, unfolding(crate::specs::Utf8::utf84, crate::specs::Utf8::is_tail, crate::specs::Utf8::inside))]
 fn is_four(a: u8, b: u8, c: u8, d: u8) -> bool
     ensures { result ≡ utf84 a b c d }
 {
-    let first = row_four(0xf0, 0xf0, 0x90, 0xbf, a, b, c, d);
-    let second = row_four(0xf1, 0xf3, 0x80, 0xbf, a, b, c, d);
-    let third = row_four(0xf4, 0xf4, 0x80, 0x8f, a, b, c, d);
-    either(first, either(second, third))
+    match (a, b) {
+        (0xf0, 0x90..=0xbf) | (0xf1..=0xf3, 0x80..=0xbf) | (0xf4, 0x80..=0x8f) => {
+            is_tail(c) && is_tail(d)
+        }
+        _ => false,
+    }
 }
 
 // The length of the sequence that four bytes begin with, 0 if none does.
@@ -93,10 +65,11 @@ fn char_of(a: u8, b: u8, c: u8, d: u8) -> usize
 }
 
 // A letter of one byte: 20 to 7E hex.
+#[tactic(auto, unfolding(crate::specs::Plain::is_plain, crate::specs::Utf8::inside))]
 fn is_plain(b: u8) -> bool
     ensures { result ≡ is_plain b }
 {
-    between(0x20, 0x7e, b)
+    matches!(b, 0x20..=0x7e)
 }
 
 // The length of the letter at a place, 0 if none begins there.
@@ -121,17 +94,11 @@ pub fn letter_length(s: &[u8], at: usize) -> usize
     )
 }
 
-// Whether all bytes are plain. The loop goes on after one that is not, so that the machine may take many bytes at a time.
+// Whether all bytes are plain. The fold goes on after one that is not, so that the machine may take many bytes at a time.
 fn all_plain(pool: &[u8]) -> bool
     ensures { result ≡ all_plain pool.now }
 {
-    let mut good = true;
-    let mut i = 0;
-    while i < pool.len() {
-        good = both(good, is_plain(pool[i]));
-        i += 1;
-    }
-    good
+    pool.iter().fold(true, |good, b| good & is_plain(*b))
 }
 
 // Letter by letter from a place until one is odd or begins no more before an end.

@@ -3,6 +3,8 @@
 // unequal too, and the count of a text with its own back.
 #![tactic(auto)]
 
+ghost use Rattle.std.specs.Prelude.{◌≤◌};
+
 use menqachu::menqachu_pairs_compared;
 use std::io;
 
@@ -10,10 +12,8 @@ const MOST: usize = 300;
 
 // Bytes that repeat only after 251 places.
 fn fill(out: &mut [u8]) {
-    let mut i = 0;
-    while i < out.len() {
-        out[i] = (i % 251) as u8;
-        i += 1;
+    for (i, byte) in out.iter_mut().enumerate() {
+        *byte = (i % 251) as u8;
     }
 }
 
@@ -30,13 +30,11 @@ fn mixed(sum: u32, count: usize) -> u32 {
 // The sum over one unequal pair at each place.
 fn one_unequal(a: &[u8], b: &mut [u8]) -> u32 {
     let mut sum = 0;
-    let mut i = 0;
-    while i < b.len() {
+    for i in 0..b.len() {
         let kept = b[i];
         b[i] = other(kept);
         sum = mixed(sum, menqachu_pairs_compared(a, b));
         b[i] = kept;
-        i += 1;
     }
     sum
 }
@@ -44,54 +42,36 @@ fn one_unequal(a: &[u8], b: &mut [u8]) -> u32 {
 // The sum over an unequal pair at each place with all in front of it. The bytes stay changed.
 fn front_unequal(a: &[u8], b: &mut [u8]) -> u32 {
     let mut sum = 0;
-    let mut i = 0;
-    while i < b.len() {
+    for i in 0..b.len() {
         b[i] = other(b[i]);
         sum = mixed(sum, menqachu_pairs_compared(a, b));
-        i += 1;
     }
     sum
-}
-
-// A text without its first byte.
-fn back(a: &[u8]) -> &[u8] {
-    if a.len() == 0 {
-        return a;
-    }
-    &a[1..]
-}
-
-fn print_number(rt: &impl Print, n: u64) -> io::Result<()> {
-    print!(rt; " {n}")
 }
 
 // The counts of a text and another that is the same.
 fn print_counts(rt: &impl Print, a: &[u8], b: &mut [u8]) -> io::Result<()> {
     let length = a.len();
-    print!(rt; "{length}")?;
-    print_number(rt, menqachu_pairs_compared(a, b) as u64)?;
-    print_number(rt, one_unequal(a, b) as u64)?;
-    print_number(rt, front_unequal(a, b) as u64)?;
-    print_number(rt, menqachu_pairs_compared(a, back(a)) as u64)?;
-    println!(rt; "")
+    let equal = menqachu_pairs_compared(a, b);
+    let one = one_unequal(a, b);
+    let front = front_unequal(a, b);
+    // Its own back is the text without its first byte.
+    let back = menqachu_pairs_compared(a, a.get(1..).unwrap_or(a));
+    println!(rt; "{length} {equal} {one} {front} {back}")
 }
 
-fn print_length(rt: &impl Print, n: usize) -> io::Result<()> {
+fn print_length(rt: &impl Print, n: usize) -> io::Result<()>
+    requires { n ≤ MOST }
+{
     let mut a = [0u8; MOST];
-    let mut b = [0u8; MOST];
     fill(&mut a);
-    fill(&mut b);
-    if MOST < n {
-        return Ok(());
-    }
+    let mut b = a;
     print_counts(rt, &a[..n], &mut b[..n])
 }
 
 fn main(rt: HostRuntime) -> io::Result<()> {
-    let mut n = 0;
-    while n <= MOST {
+    for n in 0..=MOST {
         print_length(&rt, n)?;
-        n += 1;
     }
     Ok(())
 }

@@ -1,4 +1,5 @@
 -- The put-together arguments of messages, as the code's branches put them. Assumes nothing.
+use Rattle.std.specs.Prelude.{Option, Some, None}
 use mathlib.Core.Path.{◌≡◌}
 use mathlib.Core.List.{[], ◌++◌}
 use mathlib.Core.Bool.{Bool, true, false}
@@ -9,8 +10,6 @@ use Rattle.record.specs.Lists.{opt_of}
 use Rattle.record.specs.Write.{Puts}
 use Rattle.record.proofs.WriterLaws.{puts_then}
 use Rattle.record.specs.declared.text.Text.{Text}
-use Rattle.record.specs.declared.operands.OptText.{OptText}
-use Rattle.record.specs.declared.operands.OptText.TheVariants.{Absent, Given}
 use Rattle.definition.specs.Verdicts.{item_text, copy_of, standing_of, change_text}
 use Rattle.definition.specs.Constants.{constant_text}
 use Rattle.verdicts.specs.Arguments.{item_of, value_meant}
@@ -42,20 +41,20 @@ module _ (p : Str) {out after : Str} {at r : ℕ} where
     unfolding item_text
     put-within o n e a b = rw e (puts_then a b)
 
-  module _ (o : OptText) where
-    pub copy-none : o ≡ Absent → Puts out at (bytes "a release before 0.8.0") after r → Puts out at (copy_of (opt_of p o)) after r
+  module _ (o : Option Text) where
+    pub copy-none : o ≡ None → Puts out at (bytes "a release before 0.8.0") after r → Puts out at (copy_of (opt_of p o)) after r
     unfolding copy_of
     copy-none e a = rw e a
 
-    pub copy_some : (t : Text) → o ≡ Given t → Puts out at (text_of p t) after r → Puts out at (copy_of (opt_of p o)) after r
+    pub copy_some : (t : Text) → o ≡ Some t → Puts out at (text_of p t) after r → Puts out at (copy_of (opt_of p o)) after r
     unfolding copy_of
     copy_some t e a = rw e a
 
-    pub change-none : o ≡ Absent → Puts out at (bytes "changed") after r → Puts out at (change_text (opt_of p o)) after r
+    pub change-none : o ≡ None → Puts out at (bytes "changed") after r → Puts out at (change_text (opt_of p o)) after r
     unfolding change_text
     change-none e a = rw e a
 
-    pub change-some : (t : Text) → o ≡ Given t → Puts out at (bytes "gained " ++ text_of p t) after r → Puts out at (change_text (opt_of p o)) after r
+    pub change-some : (t : Text) → o ≡ Some t → Puts out at (bytes "gained " ++ text_of p t) after r → Puts out at (change_text (opt_of p o)) after r
     unfolding change_text
     change-some t e a = rw e a
 
@@ -64,11 +63,11 @@ module _ (p : Str) {out after : Str} {at r : ℕ} where
     unfolding constant_text
     value-integer n e a = rw e a
 
-    pub value_none : (o : OptText) → v ≡ Words o → o ≡ Absent → Puts out at [] after r → Puts out at (constant_text (value_meant p v)) after r
+    pub value_none : (o : Option Text) → v ≡ Words o → o ≡ None → Puts out at [] after r → Puts out at (constant_text (value_meant p v)) after r
     unfolding constant_text or_else
     value_none o e f a = rw (e, f) a
 
-    pub value-words : (o : OptText) (t : Text) → v ≡ Words o → o ≡ Given t → Puts out at (text_of p t) after r → Puts out at (constant_text (value_meant p v)) after r
+    pub value-words : (o : Option Text) (t : Text) → v ≡ Words o → o ≡ Some t → Puts out at (text_of p t) after r → Puts out at (constant_text (value_meant p v)) after r
     unfolding constant_text or_else
     value-words o t e f a = rw (e, f) a
 

@@ -1,5 +1,5 @@
 pub mod ArgumentLaws
 pub mod TemplateLaws
 pub mod VerdictLaws
-pub mod Each
 pub mod PassLaws
+pub mod Each

@@ -1,4 +1,5 @@
 -- A template's bytes, one after the other, and what writing a message answers. Assumes nothing.
+use Rattle.std.specs.Prelude.{Ok, Err}
 use mathlib.Core.Path.{◌≡◌, refl, sym, ap, ◌∙◌}
 use mathlib.Core.List.{List, [], ◌∷◌, ◌++◌, append_assoc, append-nil}
 use mathlib.Core.Bool.{true, false}
@@ -17,7 +18,6 @@ use Rattle.record.proofs.WriterLaws.{puts_then, puts-as, puts-exact, puts-front}
 use Rattle.verdicts.specs.Template.{arg_of, pick_of, filled, Writes}
 use Rattle.verdicts.specs.declared.template.Arg.{Arg}
 use Rattle.verdicts.specs.declared.template.Arg.TheVariants.{Nothing, Byte}
-use Rattle.verdicts.specs.declared.template.Written.TheVariants.{Whole, NoRoom}
 
 -- the three kinds of a template's byte
 module _ (args : List Arg) (b : ℕ) where
@@ -67,12 +67,12 @@ module _ (new old : Str) where
 
 -- what writing answers
 module _ (out xs after : Str) (n : ℕ) (e : n ≡ length xs) where
-  pub writes-whole : n ≤ length out → after ≡ fronted out xs → Writes out xs after (Whole n)
+  pub writes-whole : n ≤ length out → after ≡ fronted out xs → Writes out xs after (Ok n)
   writes-whole h w =
       let t : leb (length xs) (length out) ≡ true = le-leb (length xs) (length out) (omega arith) in
       record { answer = rw (t, e); bytes = rw t w }
 
-  pub writes-none : length out < n → after ≡ out → Writes out xs after (NoRoom n)
+  pub writes-none : length out < n → after ≡ out → Writes out xs after (Err n)
   writes-none h w =
       let t : leb (length xs) (length out) ≡ false = lt-leb (length xs) (length out) (omega arith) in
       record { answer = rw (t, e); bytes = rw t w }
@@ -91,11 +91,11 @@ module _ (new old : Str) (args : List Arg) (t x empty : Str) (n : ℕ) (e : x �
   same : (out : Str) → empty ++ out ≡ out
   same out = ap (λ (l : Str). l ++ out) (nothing empty p.long)
 
-  pub write-none : (out : Str) → length (empty ++ out) < n → Writes out (filled new old args (take 1024 t)) (empty ++ out) (NoRoom n)
+  pub write-none : (out : Str) → length (empty ++ out) < n → Writes out (filled new old args (take 1024 t)) (empty ++ out) (Err n)
   write-none out h = writes-none out _ (empty ++ out) n measured (rw (same out) at h) (same out)
 
   pub write-whole : (out after : Str) (m : ℕ) → n ≤ length (empty ++ out) → Puts (empty ++ out) 0 (filled new old args x) after m
-      → Writes out (filled new old args (take 1024 t)) after (Whole n)
+      → Writes out (filled new old args (take 1024 t)) after (Ok n)
   write-whole out after m h q =
       let f : Puts out 0 (filled new old args (take 1024 t)) after m = rw (same out, e) at q in
       let l : n ≤ length out = rw (same out) at h in

@@ -1,6 +1,6 @@
 -- A template with its arguments put in, and what writing it leaves in the buffer and answers: the code's way to the messages in Verdicts of
 -- definition. Assumes nothing.
-use Rattle.std.specs.Prelude.{ℕ, ◌≡◌, Bool, true, false, cond, List, [], ◌∷◌, ◌++◌, length, get_or, leb, ltb}
+use Rattle.std.specs.Prelude.{ℕ, ◌≡◌, Bool, true, false, cond, List, [], ◌∷◌, ◌++◌, length, get_or, leb, ltb, Result, Ok, Err}
 use Rattle.record.specs.Base.{Str, decimal, signed}
 use Rattle.record.specs.Stretch.{text_of}
 use Rattle.record.specs.Lists.{opt_of}
@@ -13,8 +13,6 @@ use Rattle.verdicts.specs.Arguments.{item_of, value_meant}
 use Rattle.verdicts.specs.declared.template.Arg.{Arg}
 use Rattle.verdicts.specs.declared.template.Arg.TheVariants.{Nothing, Byte, Now, Was, Number, Signed, NowItem, WasCopy, NowValue, WasValue}
 use Rattle.verdicts.specs.declared.template.Arg.TheVariants.{NowType, WasType, NowShape, WasShape, Standing, NowChange}
-use Rattle.verdicts.specs.declared.template.Written.{Written}
-use Rattle.verdicts.specs.declared.template.Written.TheVariants.{Whole, NoRoom}
 
 -- an argument's bytes, over the two pools
 abbrev pub arg_of : Str → Str → Arg → Str
@@ -44,12 +42,12 @@ unfoldable pub filled : Str → Str → List Arg → Str → Str
 filled new old args [] = []
 filled new old args (b ∷ t) = arg_of new old (pick_of args b) ++ filled new old args t
 
-abbrev pub answer_if : Bool → ℕ → Written
-answer_if true n = Whole n
-answer_if false n = NoRoom n
+abbrev pub answer_if : Bool → ℕ → Result ℕ ℕ
+answer_if true n = Ok n
+answer_if false n = Err n
 
 -- the buffer before, the message, the buffer afterwards and the answer: a message that fits stands at the front, with the rest as it was; else
 -- nothing is written
-pub record Writes (out xs after : Str) (r : Written) : Type 0 where
+pub record Writes (out xs after : Str) (r : Result ℕ ℕ) : Type 0 where
   pub answer : r ≡ answer_if (leb (length xs) (length out)) (length xs)
   pub bytes : after ≡ cond (leb (length xs) (length out)) (fronted out xs) out

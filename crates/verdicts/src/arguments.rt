@@ -6,7 +6,6 @@ ghost use Rattle.definition.specs.Verdicts.{item_text, copy_of, standing_of, cha
 ghost use Rattle.definition.specs.Constants.{constant_text};
 ghost use Rattle.verdicts.specs.Arguments.{item_of, value_meant};
 
-use record::operands::OptText;
 use record::text::Text;
 use record::writer::{put, put_signed, put_text, put_worded};
 
@@ -25,7 +24,7 @@ pub enum Item {
 #[derive(Clone, Copy)]
 pub enum ConstantValue {
     Integer(u64),
-    Words(OptText),
+    Words(Option<Text>),
 }
 
 // Puts what arrives in a release.
@@ -45,12 +44,12 @@ pub fn put_item(out: &mut [u8], at: usize, pool: &[u8], what: Item) -> usize
 }
 
 // Puts the release that the copy is of.
-pub fn put_copy(out: &mut [u8], at: usize, pool: &[u8], release: OptText) -> usize
+pub fn put_copy(out: &mut [u8], at: usize, pool: &[u8], release: Option<Text>) -> usize
     ensures { Puts out.old at (copy_of (opt_of pool.now release)) out.new result × (result ≤ at + 512) }
 {
     match release {
-        OptText::Absent => put(out, at, b"a release before 0.8.0"),
-        OptText::Given(t) => put_text(out, at, pool, t),
+        None => put(out, at, b"a release before 0.8.0"),
+        Some(t) => put_text(out, at, pool, t),
     }
 }
 
@@ -61,7 +60,7 @@ pub fn put_value(out: &mut [u8], at: usize, pool: &[u8], value: ConstantValue) -
     match value {
         ConstantValue::Integer(n) => put_signed(out, at, n),
         ConstantValue::Words(text) => {
-            let OptText::Given(t) = text else {
+            let Some(t) = text else {
                 return at;
             };
             put_text(out, at, pool, t)
@@ -80,11 +79,11 @@ pub fn put_standing(out: &mut [u8], at: usize, standalone: bool) -> usize
 }
 
 // Puts what became of a layout: the field that it gained, or that it changed.
-pub fn put_change(out: &mut [u8], at: usize, pool: &[u8], gained: OptText) -> usize
+pub fn put_change(out: &mut [u8], at: usize, pool: &[u8], gained: Option<Text>) -> usize
     ensures { Puts out.old at (change_text (opt_of pool.now gained)) out.new result × (result ≤ at + 512) }
 {
     match gained {
-        OptText::Absent => put(out, at, b"changed"),
-        OptText::Given(field) => put_worded(out, at, b"gained ", pool, field),
+        None => put(out, at, b"changed"),
+        Some(field) => put_worded(out, at, b"gained ", pool, field),
     }
 }

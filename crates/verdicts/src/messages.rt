@@ -1,4 +1,4 @@
-// The messages of the verdicts, written from their templates: a byte below 32 is the number of an argument. Written by tools/verdicts.py.
+// The messages of the verdicts, written from their templates: a byte below 32 is the number of an argument. Result<usize, usize> by tools/verdicts.py.
 ghost use Rattle.record.specs.Base.{Str};
 ghost use Rattle.record.specs.Stretch.{text_of};
 ghost use Rattle.record.specs.Lists.{opt_of};
@@ -9,18 +9,17 @@ ghost use Rattle.verdicts.specs.Arguments.{item_of, value_meant};
 ghost use Rattle.definition.specs.Verdicts as D;
 ghost use Rattle.definition.specs.Verdicts.{message_of, described, now_unreadable, before_naming, was_unreadable, not_later, value_undated, late, redated, backdated, constant_gone, constant_changed, enum_gone, renumbered, renamed, value_gone, bit_field_gone, member_renamed, member_gone, bit_moved, width_changed, bits_late, bits_redated, type_gone, field_gone, moved, resized, redescribed, standing_changed, shipped_family_changed, uncovered, no_constant, no_generation, unraised, unlisted, leapt, fell};
 ghost use Rattle.verdicts.specs.Template.{Writes};
-ghost use Rattle.verdicts.specs.Meaning.{meaning};
+ghost use Rattle.verdicts.specs.Meaning.{violation, meaning};
 
 use crate::arguments::{ConstantValue, Item};
-use crate::template::{Arg, Written, write, write_four, write_one, write_three, write_two};
+use crate::template::{Arg, write, write_four, write_one, write_three, write_two};
 use crate::verdict::Verdict;
 use layout::names::TypeName;
 use record::describe::Description;
-use record::operands::OptText;
 use record::text::Text;
 
 // 11
-fn write_described(out: &mut [u8], pool: &[u8], old: &[u8]) -> Written
+fn write_described(out: &mut [u8], pool: &[u8], old: &[u8]) -> Result<usize, usize>
     ensures { let said : D.Verdict = described in
         Writes out.old (message_of said) out.new result }
 {
@@ -34,7 +33,12 @@ fn write_described(out: &mut [u8], pool: &[u8], old: &[u8]) -> Written
 }
 
 // 12
-fn write_now_unreadable(out: &mut [u8], current: Text, pool: &[u8], old: &[u8]) -> Written
+fn write_now_unreadable(
+    out: &mut [u8],
+    current: Text,
+    pool: &[u8],
+    old: &[u8],
+) -> Result<usize, usize>
     ensures { let pool : Str = pool.entry.now in
         let said : D.Verdict = now_unreadable (text_of pool current) in
         Writes out.old (message_of said) out.new result }
@@ -49,7 +53,12 @@ fn write_now_unreadable(out: &mut [u8], current: Text, pool: &[u8], old: &[u8]) 
 }
 
 // 13
-fn write_before_naming(out: &mut [u8], current: Text, pool: &[u8], old: &[u8]) -> Written
+fn write_before_naming(
+    out: &mut [u8],
+    current: Text,
+    pool: &[u8],
+    old: &[u8],
+) -> Result<usize, usize>
     ensures { let pool : Str = pool.entry.now in
         let said : D.Verdict = before_naming (text_of pool current) in
         Writes out.old (message_of said) out.new result }
@@ -64,7 +73,7 @@ fn write_before_naming(out: &mut [u8], current: Text, pool: &[u8], old: &[u8]) -
 }
 
 // 14
-fn write_was_unreadable(out: &mut [u8], was: Text, pool: &[u8], old: &[u8]) -> Written
+fn write_was_unreadable(out: &mut [u8], was: Text, pool: &[u8], old: &[u8]) -> Result<usize, usize>
     ensures { let old : Str = old.entry.now in
         let said : D.Verdict = was_unreadable (text_of old was) in
         Writes out.old (message_of said) out.new result }
@@ -79,7 +88,13 @@ fn write_was_unreadable(out: &mut [u8], was: Text, pool: &[u8], old: &[u8]) -> W
 }
 
 // 15
-fn write_not_later(out: &mut [u8], was: Text, current: Text, pool: &[u8], old: &[u8]) -> Written
+fn write_not_later(
+    out: &mut [u8],
+    was: Text,
+    current: Text,
+    pool: &[u8],
+    old: &[u8],
+) -> Result<usize, usize>
     ensures { let pool : Str = pool.entry.now in
         let old : Str = old.entry.now in
         let said : D.Verdict = not_later (text_of old was) (text_of pool current) in
@@ -104,7 +119,7 @@ fn write_value_undated(
     release: Text,
     pool: &[u8],
     old: &[u8],
-) -> Written
+) -> Result<usize, usize>
     ensures { let pool : Str = pool.entry.now in
         let said : D.Verdict = value_undated (text_of pool owner) (text_of pool name) (text_of pool current) (text_of pool release) in
         Writes out.old (message_of said) out.new result }
@@ -129,7 +144,7 @@ fn write_late(
     names: Text,
     pool: &[u8],
     old: &[u8],
-) -> Written
+) -> Result<usize, usize>
     ensures { let pool : Str = pool.entry.now in
         let said : D.Verdict = late (item_of pool what) (text_of pool current) (text_of pool names) in
         Writes out.old (message_of said) out.new result }
@@ -153,7 +168,7 @@ fn write_redated(
     names: Text,
     pool: &[u8],
     old: &[u8],
-) -> Written
+) -> Result<usize, usize>
     ensures { let pool : Str = pool.entry.now in
         let old : Str = old.entry.now in
         let said : D.Verdict = redated (item_of pool what) (text_of old was) (text_of pool names) in
@@ -174,11 +189,11 @@ fn write_redated(
 fn write_backdated(
     out: &mut [u8],
     what: Item,
-    copy: OptText,
+    copy: Option<Text>,
     current: Text,
     pool: &[u8],
     old: &[u8],
-) -> Written
+) -> Result<usize, usize>
     ensures { let pool : Str = pool.entry.now in
         let old : Str = old.entry.now in
         let said : D.Verdict = backdated (item_of pool what) (opt_of old copy) (text_of pool current) in
@@ -196,7 +211,7 @@ fn write_backdated(
 }
 
 // 20
-fn write_constant_gone(out: &mut [u8], name: Text, pool: &[u8], old: &[u8]) -> Written
+fn write_constant_gone(out: &mut [u8], name: Text, pool: &[u8], old: &[u8]) -> Result<usize, usize>
     ensures { let old : Str = old.entry.now in
         let said : D.Verdict = constant_gone (text_of old name) in
         Writes out.old (message_of said) out.new result }
@@ -218,7 +233,7 @@ fn write_constant_changed(
     is: ConstantValue,
     pool: &[u8],
     old: &[u8],
-) -> Written
+) -> Result<usize, usize>
     ensures { let pool : Str = pool.entry.now in
         let old : Str = old.entry.now in
         let said : D.Verdict = constant_changed (text_of old name) (constant_text (value_meant old was)) (constant_text (value_meant pool is)) in
@@ -236,7 +251,7 @@ fn write_constant_changed(
 }
 
 // 22
-fn write_enum_gone(out: &mut [u8], name: Text, pool: &[u8], old: &[u8]) -> Written
+fn write_enum_gone(out: &mut [u8], name: Text, pool: &[u8], old: &[u8]) -> Result<usize, usize>
     ensures { let old : Str = old.entry.now in
         let said : D.Verdict = enum_gone (text_of old name) in
         Writes out.old (message_of said) out.new result }
@@ -259,7 +274,7 @@ fn write_renumbered(
     is: u64,
     pool: &[u8],
     old: &[u8],
-) -> Written
+) -> Result<usize, usize>
     ensures { let old : Str = old.entry.now in
         let said : D.Verdict = renumbered (text_of old owner) (text_of old name) was is in
         Writes out.old (message_of said) out.new result }
@@ -284,7 +299,7 @@ fn write_renamed(
     is: Text,
     pool: &[u8],
     old: &[u8],
-) -> Written
+) -> Result<usize, usize>
     ensures { let pool : Str = pool.entry.now in
         let old : Str = old.entry.now in
         let said : D.Verdict = renamed (text_of old owner) (text_of old name) (text_of pool is) in
@@ -302,7 +317,13 @@ fn write_renamed(
 }
 
 // 25
-fn write_value_gone(out: &mut [u8], owner: Text, name: Text, pool: &[u8], old: &[u8]) -> Written
+fn write_value_gone(
+    out: &mut [u8],
+    owner: Text,
+    name: Text,
+    pool: &[u8],
+    old: &[u8],
+) -> Result<usize, usize>
     ensures { let old : Str = old.entry.now in
         let said : D.Verdict = value_gone (text_of old owner) (text_of old name) in
         Writes out.old (message_of said) out.new result }
@@ -318,7 +339,7 @@ fn write_value_gone(out: &mut [u8], owner: Text, name: Text, pool: &[u8], old: &
 }
 
 // 26
-fn write_bit_field_gone(out: &mut [u8], name: Text, pool: &[u8], old: &[u8]) -> Written
+fn write_bit_field_gone(out: &mut [u8], name: Text, pool: &[u8], old: &[u8]) -> Result<usize, usize>
     ensures { let old : Str = old.entry.now in
         let said : D.Verdict = bit_field_gone (text_of old name) in
         Writes out.old (message_of said) out.new result }
@@ -340,7 +361,7 @@ fn write_member_renamed(
     is: Text,
     pool: &[u8],
     old: &[u8],
-) -> Written
+) -> Result<usize, usize>
     ensures { let pool : Str = pool.entry.now in
         let old : Str = old.entry.now in
         let said : D.Verdict = member_renamed (text_of old owner) (text_of old name) (text_of pool is) in
@@ -358,7 +379,13 @@ fn write_member_renamed(
 }
 
 // 28
-fn write_member_gone(out: &mut [u8], owner: Text, name: Text, pool: &[u8], old: &[u8]) -> Written
+fn write_member_gone(
+    out: &mut [u8],
+    owner: Text,
+    name: Text,
+    pool: &[u8],
+    old: &[u8],
+) -> Result<usize, usize>
     ensures { let old : Str = old.entry.now in
         let said : D.Verdict = member_gone (text_of old owner) (text_of old name) in
         Writes out.old (message_of said) out.new result }
@@ -382,7 +409,7 @@ fn write_bit_moved(
     is: u32,
     pool: &[u8],
     old: &[u8],
-) -> Written
+) -> Result<usize, usize>
     ensures { let old : Str = old.entry.now in
         let said : D.Verdict = bit_moved (text_of old owner) (text_of old name) was is in
         Writes out.old (message_of said) out.new result }
@@ -408,7 +435,7 @@ fn write_width_changed(
     is: u32,
     pool: &[u8],
     old: &[u8],
-) -> Written
+) -> Result<usize, usize>
     ensures { let old : Str = old.entry.now in
         let said : D.Verdict = width_changed (text_of old owner) (text_of old name) was is in
         Writes out.old (message_of said) out.new result }
@@ -433,7 +460,7 @@ fn write_bits_late(
     release: Text,
     pool: &[u8],
     old: &[u8],
-) -> Written
+) -> Result<usize, usize>
     ensures { let pool : Str = pool.entry.now in
         let said : D.Verdict = bits_late (item_of pool what) (text_of pool current) (text_of pool release) in
         Writes out.old (message_of said) out.new result }
@@ -457,7 +484,7 @@ fn write_bits_redated(
     release: Text,
     pool: &[u8],
     old: &[u8],
-) -> Written
+) -> Result<usize, usize>
     ensures { let pool : Str = pool.entry.now in
         let old : Str = old.entry.now in
         let said : D.Verdict = bits_redated (item_of pool what) (text_of old was) (text_of pool release) in
@@ -475,7 +502,7 @@ fn write_bits_redated(
 }
 
 // 33
-fn write_type_gone(out: &mut [u8], name: TypeName, pool: &[u8], old: &[u8]) -> Written
+fn write_type_gone(out: &mut [u8], name: TypeName, pool: &[u8], old: &[u8]) -> Result<usize, usize>
     ensures { let old : Str = old.entry.now in
         let said : D.Verdict = type_gone (name_of old name) in
         Writes out.old (message_of said) out.new result }
@@ -490,7 +517,13 @@ fn write_type_gone(out: &mut [u8], name: TypeName, pool: &[u8], old: &[u8]) -> W
 }
 
 // 34
-fn write_field_gone(out: &mut [u8], owner: TypeName, name: Text, pool: &[u8], old: &[u8]) -> Written
+fn write_field_gone(
+    out: &mut [u8],
+    owner: TypeName,
+    name: Text,
+    pool: &[u8],
+    old: &[u8],
+) -> Result<usize, usize>
     ensures { let old : Str = old.entry.now in
         let said : D.Verdict = field_gone (name_of old owner) (text_of old name) in
         Writes out.old (message_of said) out.new result }
@@ -514,7 +547,7 @@ fn write_moved(
     is: u64,
     pool: &[u8],
     old: &[u8],
-) -> Written
+) -> Result<usize, usize>
     ensures { let old : Str = old.entry.now in
         let said : D.Verdict = moved (name_of old owner) (text_of old name) was is in
         Writes out.old (message_of said) out.new result }
@@ -540,7 +573,7 @@ fn write_resized(
     is: u64,
     pool: &[u8],
     old: &[u8],
-) -> Written
+) -> Result<usize, usize>
     ensures { let old : Str = old.entry.now in
         let said : D.Verdict = resized (name_of old owner) (text_of old name) was is in
         Writes out.old (message_of said) out.new result }
@@ -566,7 +599,7 @@ fn write_redescribed(
     is: Description,
     pool: &[u8],
     old: &[u8],
-) -> Written
+) -> Result<usize, usize>
     ensures { let pool : Str = pool.entry.now in
         let old : Str = old.entry.now in
         let said : D.Verdict = redescribed (name_of old owner) (text_of old name) (described_as old was) (described_as pool is) in
@@ -592,7 +625,7 @@ fn write_standing_changed(
     is: bool,
     pool: &[u8],
     old: &[u8],
-) -> Written
+) -> Result<usize, usize>
     ensures { let pool : Str = pool.entry.now in
         let said : D.Verdict = standing_changed (text_of pool name) was is in
         Writes out.old (message_of said) out.new result }
@@ -612,10 +645,10 @@ fn write_standing_changed(
 fn write_shipped_family_changed(
     out: &mut [u8],
     name: TypeName,
-    change: OptText,
+    change: Option<Text>,
     pool: &[u8],
     old: &[u8],
-) -> Written
+) -> Result<usize, usize>
     ensures { let pool : Str = pool.entry.now in
         let said : D.Verdict = shipped_family_changed (name_of pool name) (opt_of pool change) in
         Writes out.old (message_of said) out.new result }
@@ -631,7 +664,7 @@ fn write_shipped_family_changed(
 }
 
 // 40
-fn write_uncovered(out: &mut [u8], name: TypeName, pool: &[u8], old: &[u8]) -> Written
+fn write_uncovered(out: &mut [u8], name: TypeName, pool: &[u8], old: &[u8]) -> Result<usize, usize>
     ensures { let pool : Str = pool.entry.now in
         let said : D.Verdict = uncovered (name_of pool name) in
         Writes out.old (message_of said) out.new result }
@@ -646,7 +679,7 @@ fn write_uncovered(out: &mut [u8], name: TypeName, pool: &[u8], old: &[u8]) -> W
 }
 
 // 41
-fn write_no_constant(out: &mut [u8], name: Text, pool: &[u8], old: &[u8]) -> Written
+fn write_no_constant(out: &mut [u8], name: Text, pool: &[u8], old: &[u8]) -> Result<usize, usize>
     ensures { let pool : Str = pool.entry.now in
         let said : D.Verdict = no_constant (text_of pool name) in
         Writes out.old (message_of said) out.new result }
@@ -661,7 +694,13 @@ fn write_no_constant(out: &mut [u8], name: Text, pool: &[u8], old: &[u8]) -> Wri
 }
 
 // 42
-fn write_no_generation(out: &mut [u8], constant: Text, was: u64, pool: &[u8], old: &[u8]) -> Written
+fn write_no_generation(
+    out: &mut [u8],
+    constant: Text,
+    was: u64,
+    pool: &[u8],
+    old: &[u8],
+) -> Result<usize, usize>
     ensures { let pool : Str = pool.entry.now in
         let said : D.Verdict = no_generation (text_of pool constant) was in
         Writes out.old (message_of said) out.new result }
@@ -686,7 +725,7 @@ fn write_unraised(
     next: u64,
     pool: &[u8],
     old: &[u8],
-) -> Written
+) -> Result<usize, usize>
     ensures { let pool : Str = pool.entry.now in
         let said : D.Verdict = unraised (text_of pool name) was (name_of pool what) (text_of pool constant) next in
         Writes out.old (message_of said) out.new result }
@@ -714,7 +753,7 @@ fn write_unlisted(
     name: Text,
     pool: &[u8],
     old: &[u8],
-) -> Written
+) -> Result<usize, usize>
     ensures { let pool : Str = pool.entry.now in
         let said : D.Verdict = unlisted (text_of pool constant) is (text_of pool name) in
         Writes out.old (message_of said) out.new result }
@@ -736,11 +775,11 @@ fn write_leapt(
     constant: Text,
     was: u32,
     is: u32,
-    copy: OptText,
+    copy: Option<Text>,
     current: Text,
     pool: &[u8],
     old: &[u8],
-) -> Written
+) -> Result<usize, usize>
     ensures { let pool : Str = pool.entry.now in
         let old : Str = old.entry.now in
         let said : D.Verdict = leapt (text_of pool constant) was is (opt_of old copy) (text_of pool current) in
@@ -762,7 +801,14 @@ fn write_leapt(
 }
 
 // 46
-fn write_fell(out: &mut [u8], constant: Text, was: u32, is: u32, pool: &[u8], old: &[u8]) -> Written
+fn write_fell(
+    out: &mut [u8],
+    constant: Text,
+    was: u32,
+    is: u32,
+    pool: &[u8],
+    old: &[u8],
+) -> Result<usize, usize>
     ensures { let pool : Str = pool.entry.now in
         let said : D.Verdict = fell (text_of pool constant) was is in
         Writes out.old (message_of said) out.new result }
@@ -778,13 +824,12 @@ fn write_fell(out: &mut [u8], constant: Text, was: u32, is: u32, pool: &[u8], ol
     )
 }
 
-// Puts the message of a verdict at the front of out, if it fits.
-pub fn write_verdict(out: &mut [u8], v: Verdict, pool: &[u8], old: &[u8]) -> Written
-    ensures { let said : D.Verdict = meaning pool.now old.now v in
+// Puts the message of a violation at the front of out, if it fits.
+fn write_violation(out: &mut [u8], v: Verdict, pool: &[u8], old: &[u8]) -> Result<usize, usize>
+    ensures { let said : D.Verdict = violation pool.now old.now v in
         Writes out.old (message_of said) out.new result }
 {
     match v {
-        Verdict::Passed => Written::Whole(0),
         Verdict::Described => write_described(out, pool, old),
         Verdict::NowUnreadable { current } => write_now_unreadable(out, current, pool, old),
         Verdict::BeforeNaming { current } => write_before_naming(out, current, pool, old),
@@ -894,5 +939,21 @@ pub fn write_verdict(out: &mut [u8], v: Verdict, pool: &[u8], old: &[u8]) -> Wri
             current,
         } => write_leapt(out, constant, was, is, copy, current, pool, old),
         Verdict::Fell { constant, was, is } => write_fell(out, constant, was, is, pool, old),
+    }
+}
+
+// Puts the message of what a pass answers at the front of out, if it fits: none has an empty one.
+pub fn write_verdict(
+    out: &mut [u8],
+    found: Result<(), Verdict>,
+    pool: &[u8],
+    old: &[u8],
+) -> Result<usize, usize>
+    ensures { let said : D.Verdict = meaning pool.now old.now found in
+        Writes out.old (message_of said) out.new result }
+{
+    match found {
+        Ok(_) => Ok(0),
+        Err(v) => write_violation(out, v, pool, old),
     }
 }

@@ -11,7 +11,6 @@ use crate::arguments::{
 use layout::names::{TypeName, put_name};
 use record::cut::upto;
 use record::describe::{Description, put_description};
-use record::operands::OptText;
 use record::text::Text;
 use record::writer::{put, put_number, put_signed, put_text};
 
@@ -27,7 +26,7 @@ pub enum Arg {
     Signed(u64),
     NowItem(Item),
     // The release of the copy, if it names one.
-    WasCopy(OptText),
+    WasCopy(Option<Text>),
     NowValue(ConstantValue),
     WasValue(ConstantValue),
     NowType(TypeName),
@@ -37,7 +36,7 @@ pub enum Arg {
     // Whether a family stands alone.
     Standing(bool),
     // The field that a layout gained, if it gained one.
-    NowChange(OptText),
+    NowChange(Option<Text>),
 }
 
 // What a template's byte stands for: below 32 the argument of that number, else itself.
@@ -100,25 +99,21 @@ fn fill(out: &mut [u8], at: usize, template: &[u8], args: [Arg; 5], new: &[u8], 
         Puts out.old at (filled new old args template) out.new result × (result ≤ at + 559 * length template) }
 {
     let mut next = at;
-    let mut i = 0;
-    while i < template.len() {
-        next = put_piece(out, next, template[i], args, new, old);
-        i += 1;
+    for b in template {
+        next = put_piece(out, next, *b, args, new, old);
     }
     next
 }
 
-// What writing a message answers.
-#[derive(Clone, Copy)]
-pub enum Written {
-    // The message's length; it stands at the front of the buffer.
-    Whole(usize),
-    // The message's length, above the buffer's; nothing is written.
-    NoRoom(usize),
-}
-
-// Puts a template, as far as 1,024 bytes, with its arguments at the front of out, if that fits.
-pub fn write(out: &mut [u8], template: &[u8], args: [Arg; 5], new: &[u8], old: &[u8]) -> Written
+// Puts a template, as far as 1,024 bytes, with its arguments at the front of out, and answers the message's length; where that is above the
+// buffer's, nothing is written and the length is the error.
+pub fn write(
+    out: &mut [u8],
+    template: &[u8],
+    args: [Arg; 5],
+    new: &[u8],
+    old: &[u8],
+) -> Result<usize, usize>
     ensures { let new : Str = new.entry.now in
         let old : Str = old.entry.now in
         let said : Str = filled new old args (take 1024 template.now) in
@@ -127,14 +122,20 @@ pub fn write(out: &mut [u8], template: &[u8], args: [Arg; 5], new: &[u8], old: &
     let t = upto(template, 1024);
     let n = fill(&mut out[..0], 0, t, args, new, old);
     if out.len() < n {
-        return Written::NoRoom(n);
+        return Err(n);
     }
     fill(out, 0, t, args, new, old);
-    Written::Whole(n)
+    Ok(n)
 }
 
 // Writes a template with one argument.
-pub fn write_one(out: &mut [u8], template: &[u8], a: Arg, new: &[u8], old: &[u8]) -> Written
+pub fn write_one(
+    out: &mut [u8],
+    template: &[u8],
+    a: Arg,
+    new: &[u8],
+    old: &[u8],
+) -> Result<usize, usize>
     ensures { let new : Str = new.entry.now in
         let old : Str = old.entry.now in
         let said : Str = filled new old (a ∷ Nothing ∷ Nothing ∷ Nothing ∷ Nothing ∷ []) (take 1024 template.now) in
@@ -145,7 +146,14 @@ pub fn write_one(out: &mut [u8], template: &[u8], a: Arg, new: &[u8], old: &[u8]
 }
 
 // Writes a template with two arguments.
-pub fn write_two(out: &mut [u8], template: &[u8], a: Arg, b: Arg, new: &[u8], old: &[u8]) -> Written
+pub fn write_two(
+    out: &mut [u8],
+    template: &[u8],
+    a: Arg,
+    b: Arg,
+    new: &[u8],
+    old: &[u8],
+) -> Result<usize, usize>
     ensures { let new : Str = new.entry.now in
         let old : Str = old.entry.now in
         let said : Str = filled new old (a ∷ b ∷ Nothing ∷ Nothing ∷ Nothing ∷ []) (take 1024 template.now) in
@@ -164,7 +172,7 @@ pub fn write_three(
     c: Arg,
     new: &[u8],
     old: &[u8],
-) -> Written
+) -> Result<usize, usize>
     ensures { let new : Str = new.entry.now in
         let old : Str = old.entry.now in
         let said : Str = filled new old (a ∷ b ∷ c ∷ Nothing ∷ Nothing ∷ []) (take 1024 template.now) in
@@ -184,7 +192,7 @@ pub fn write_four(
     d: Arg,
     new: &[u8],
     old: &[u8],
-) -> Written
+) -> Result<usize, usize>
     ensures { let new : Str = new.entry.now in
         let old : Str = old.entry.now in
         let said : Str = filled new old (a ∷ b ∷ c ∷ d ∷ Nothing ∷ []) (take 1024 template.now) in

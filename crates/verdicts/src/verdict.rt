@@ -1,17 +1,15 @@
-// What a pass answers: nothing, or the first violation with what its message names; a signed number is kept as its 64 bits.
+// A violation with what its message names; a signed number is kept as its 64 bits. A pass answers Ok, or the first violation as its error.
 // Written by tools/verdicts.py.
 ghost use Rattle.std.specs.Prelude.{◌≡◌};
-ghost use Rattle.verdicts.specs.Meaning.{number_for};
+ghost use Rattle.verdicts.specs.Meaning.{number_for, number_found};
 
 use crate::arguments::{ConstantValue, Item};
 use layout::names::TypeName;
 use record::describe::Description;
-use record::operands::OptText;
 use record::text::Text;
 
 #[derive(Clone, Copy)]
 pub enum Verdict {
-    Passed,
     Described,
     NowUnreadable {
         current: Text,
@@ -44,7 +42,7 @@ pub enum Verdict {
     },
     Backdated {
         what: Item,
-        copy: OptText,
+        copy: Option<Text>,
         current: Text,
     },
     ConstantGone {
@@ -139,7 +137,7 @@ pub enum Verdict {
     },
     ShippedFamilyChanged {
         name: TypeName,
-        change: OptText,
+        change: Option<Text>,
     },
     Uncovered {
         name: TypeName,
@@ -167,7 +165,7 @@ pub enum Verdict {
         constant: Text,
         was: u32,
         is: u32,
-        copy: OptText,
+        copy: Option<Text>,
         current: Text,
     },
     Fell {
@@ -178,12 +176,11 @@ pub enum Verdict {
 }
 
 impl Verdict {
-    // 01's number, and 0 for none.
+    // 01's number.
     pub fn number(self) -> u32
         ensures { result ≡ number_for self }
     {
         match self {
-            Verdict::Passed => 0,
             Verdict::Described => 11,
             Verdict::NowUnreadable { current: _ } => 12,
             Verdict::BeforeNaming { current: _ } => 13,
@@ -315,5 +312,15 @@ impl Verdict {
                 is: _,
             } => 46,
         }
+    }
+}
+
+// 01's number of what a pass answers, 0 for no violation.
+pub fn number_found(found: Result<(), Verdict>) -> u32
+    ensures { result ≡ number_found found }
+{
+    match found {
+        Ok(_) => 0,
+        Err(v) => v.number(),
     }
 }

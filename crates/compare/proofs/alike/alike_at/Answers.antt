@@ -1,3 +1,4 @@
+use mathlib.Core.Path.{sym, ◌∙◌}
 use mathlib.Core.Bool.{false≢true}
 use Rattle.compare.proofs.AlikeLaws.{alike-there}
 use Rattle.compare.proofs.alike.alike_at.Goals as goal
@@ -7,5 +8,5 @@ returns-then-alike_numbers c = λ t.
     let a = c.args in
     alike-there a.stream.now a.pool.now a.old_stream.now a.old_pool.now a.a a.b _ _ c.alike_numbers.ensures c.if-alike_numbers.true c.alike_texts.ensures t
 
-pub returns : goal.returns
-returns c = λ t. absurd (false≢true t)
+pub returns-else-alike_numbers : goal.returns-else-alike_numbers
+returns-else-alike_numbers c = λ t. absurd (false≢true (sym c.if-alike_numbers.false ∙ t))

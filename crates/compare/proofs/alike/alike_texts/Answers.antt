@@ -8,11 +8,5 @@ returns-then-alike_words c = λ t.
     c.text_at-then-same.ensures c.text_at-then-same-2.ensures c.bytes_of-then-same.ensures c.bytes_of-then-same-2.ensures c.same-then-same.ensures c.if-same-2.true
     c.opt_text_at.ensures c.opt_text_at-then-same-2.ensures c.alike_words.ensures c.if-alike_words.true c.opt_text_at-then-alike_words.ensures c.opt_text_at-then-alike_words-2.ensures c.alike_words-then-alike_words.ensures t
 
-pub returns-else-alike_words : goal.returns-else-alike_words
-returns-else-alike_words c = λ t. absurd (false≢true t)
-
-pub returns-else-same-2 : goal.returns-else-same-2
-returns-else-same-2 c = λ t. absurd (false≢true t)
-
-pub returns-else-same : goal.returns-else-same
-returns-else-same c = λ t. absurd (false≢true t)
+pub returns : goal.returns
+returns c = λ t. absurd (false≢true t)

@@ -4,8 +4,8 @@ use Rattle.compare.proofs.alike.pass_places.Goals as goal
 pub loop-after-init : goal.loop-after-init
 loop-after-init c = search alike-here
 
-pub returns-in_default : goal.returns-in_default
-returns-in_default c = search alike-so-far
+pub returns : goal.returns
+returns c = search alike-so-far
 
 pub loop-after-smaller : goal.loop-after-smaller
 loop-after-smaller c = search alike-nearer

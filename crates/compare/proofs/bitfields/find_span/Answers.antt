@@ -5,8 +5,8 @@ use Rattle.compare.proofs.bitfields.find_span.Goals as goal
 pub loop-m-init : goal.loop-m-init
 loop-m-init c = search span-here
 
-pub returns-in_default : goal.returns-in_default
-returns-in_default c = search span-laws
+pub returns : goal.returns
+returns c = search span-laws
 
 pub returns-then-spans : goal.returns-then-spans
 returns-then-spans c = search span-laws

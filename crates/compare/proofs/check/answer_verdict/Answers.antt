@@ -1,8 +1,8 @@
 use Rattle.compare.proofs.AnswerLaws.{answer-laws}
 use Rattle.compare.proofs.check.answer_verdict.Goals as goal
 
-pub returns-in-Whole : goal.returns-in-Whole
-returns-in-Whole c = search answer-laws
+pub returns-in-Ok : goal.returns-in-Ok
+returns-in-Ok c = search answer-laws
 
-pub returns-in-NoRoom : goal.returns-in-NoRoom
-returns-in-NoRoom c = search answer-laws
+pub returns-in-Err : goal.returns-in-Err
+returns-in-Err c = search answer-laws

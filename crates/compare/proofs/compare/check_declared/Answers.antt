@@ -1,19 +1,40 @@
-use borrow.Enum.Refused.{opened}
-use Rattle.compare.proofs.CompareLaws.{passes_on, passes-stop, passes-end}
 use borrow.Author.Rules.{rules}
+use Rattle.verdicts.proofs.PassLaws.{handed}
+use Rattle.compare.proofs.CompareLaws.{short_cut, room_cut, second-stops, third-stops, fourth-stops, fifth-stops, sixth-ends}
 use Rattle.compare.proofs.compare.check_declared.Goals as goal
 
-pub loop-pass-init : goal.loop-pass-init
-loop-pass-init c = (search rules, search rules, search rules, search rules, search rules)
+pub returns-in_err-check_first_releases : goal.returns-in_err-check_first_releases
+returns-in_err-check_first_releases c =
+    second-stops _ _ _ _ _ _ _ _ c.requires.fact _ c.check_first_releases.ensures _ (handed _ _ _ c.in_err-check_first_releases.was c.from_residual.ensures)
 
-pub run_declared-verdict-requires : goal.run_declared-verdict-requires
-run_declared-verdict-requires c = record { le_pass = (search rules, search rules, search rules, search rules, search rules); fact = search rules }
+pub check_constants-requires : goal.check_constants-requires
+check_constants-requires c = (search short_cut, search room_cut, search room_cut, search rules)
 
-pub loop-pass-preserved : goal.loop-pass-preserved
-loop-pass-preserved c = (search passes_on, search rules, search rules, search rules, search rules)
+pub returns-in_err-check_constants : goal.returns-in_err-check_constants
+returns-in_err-check_constants c =
+    third-stops _ _ _ _ _ _ _ _ c.requires.fact _ c.check_first_releases.ensures
+    c.in_ok-check_first_releases.was _ _ c.upto-constants.ensures c.check_constants.ensures _
+    (handed _ _ _ c.in_err-check_constants.was c.from_residual-in_err-check_constants.ensures)
 
-pub returns-in_default : goal.returns-in_default
-returns-in_default c = search (passes-stop, opened)
+pub returns-in_err-check_enums : goal.returns-in_err-check_enums
+returns-in_err-check_enums c =
+    fourth-stops _ _ _ _ _ _ _ _ c.requires.fact _ c.check_first_releases.ensures
+    c.in_ok-check_first_releases.was _ _ c.upto-constants.ensures c.check_constants.ensures
+    c.in_ok-check_constants.was _ _ c.upto.ensures c.check_enums.ensures _
+    (handed _ _ _ c.in_err-check_enums.was c.from_residual-in_err-check_enums.ensures)
+
+pub returns-in_err-check_bitfields : goal.returns-in_err-check_bitfields
+returns-in_err-check_bitfields c =
+    fifth-stops _ _ _ _ _ _ _ _ c.requires.fact _ c.check_first_releases.ensures
+    c.in_ok-check_first_releases.was _ _ c.upto-constants.ensures c.check_constants.ensures
+    c.in_ok-check_constants.was _ _ c.upto.ensures c.check_enums.ensures
+    c.in_ok-check_enums.was _ _ _ c.upto-now_bits.ensures c.upto-old_bits.ensures c.check_bitfields.ensures _
+    (handed _ _ _ c.in_err-check_bitfields.was c.from_residual-in_err-check_bitfields.ensures)
 
 pub returns : goal.returns
-returns c = search passes-end
+returns c =
+    sixth-ends _ _ _ _ _ _ _ _ c.requires.fact _ c.check_first_releases.ensures
+    c.in_ok-check_first_releases.was _ _ c.upto-constants.ensures c.check_constants.ensures
+    c.in_ok-check_constants.was _ _ c.upto.ensures c.check_enums.ensures
+    c.in_ok-check_enums.was _ _ _ c.upto-now_bits.ensures c.upto-old_bits.ensures c.check_bitfields.ensures _
+    c.in_ok-check_bitfields.was c.check_bitfield_releases.ensures

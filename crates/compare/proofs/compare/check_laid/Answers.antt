@@ -1,19 +1,19 @@
-use borrow.Enum.Refused.{opened}
-use Rattle.compare.proofs.CompareLaws.{passes_on, passes-stop, passes-end, noted-start, noted-ready, noted-on}
-use borrow.Author.Rules.{rules}
+use Rattle.verdicts.proofs.PassLaws.{handed}
+use Rattle.compare.proofs.CompareLaws.{seventh-stops, eighth-stops, ninth-ends}
 use Rattle.compare.proofs.compare.check_laid.Goals as goal
 
-pub loop-pass-init : goal.loop-pass-init
-loop-pass-init c = (search rules, search noted-start, search rules, search rules, search rules, search rules)
+pub returns-in_err-check_fields : goal.returns-in_err-check_fields
+returns-in_err-check_fields c =
+    seventh-stops _ _ _ _ _ _ _ _ c.requires.fact.0 _ c.check_fields.ensures.0 _ (handed _ _ _ c.in_err-check_fields.was c.from_residual.ensures)
 
-pub run_laid-verdict-requires : goal.run_laid-verdict-requires
-run_laid-verdict-requires c = record { le_pass = (search rules, search rules, search rules, search rules); fact = (search rules, search rules, λ e. search noted-ready) }
-
-pub loop-pass-preserved : goal.loop-pass-preserved
-loop-pass-preserved c = (search passes_on, search noted-on, search rules, search rules, search rules, search rules)
-
-pub returns-in_default : goal.returns-in_default
-returns-in_default c = search (passes-stop, opened)
+pub returns-in_err-check_standalone : goal.returns-in_err-check_standalone
+returns-in_err-check_standalone c =
+    eighth-stops _ _ _ _ _ _ _ _ c.requires.fact.0 _ c.check_fields.ensures.0
+    c.in_ok-check_fields.was _ c.check_standalone.ensures _
+    (handed _ _ _ c.in_err-check_standalone.was c.from_residual-in_err-check_standalone.ensures)
 
 pub returns : goal.returns
-returns c = search passes-end
+returns c =
+    ninth-ends _ _ _ _ _ _ _ _ c.requires.fact.0 _ c.check_fields.ensures.0
+    c.in_ok-check_fields.was _ c.check_standalone.ensures _ _ _
+    c.in_ok-check_standalone.was c.check_fields.ensures.1 c.check_generations.ensures

@@ -1,16 +1,14 @@
-use borrow.Enum.Refused.{opened}
-use Rattle.compare.proofs.CompareLaws.{order-at, order-stop, order-on}
 use borrow.Author.Rules.{rules}
+use Rattle.verdicts.proofs.PassLaws.{handed}
+use Rattle.compare.proofs.CompareLaws.{order-stop, order-on}
 use Rattle.compare.proofs.compare.check_passes.Goals as goal
 
-pub returns-in_default : goal.returns-in_default
-returns-in_default c = search (order-stop, order-at, opened)
-
-pub check_short-requires : goal.check_short-requires
-check_short-requires c = record { stream_len_bound = (search rules, search rules); fact = search rules }
+pub returns-in_err-check_release_order : goal.returns-in_err-check_release_order
+returns-in_err-check_release_order c =
+    order-stop _ _ _ _ _ _ _ c.requires.2 _ c.check_release_order.ensures _ (handed _ _ _ c.in_err-check_release_order.was c.from_residual.ensures)
 
 pub returns-then-old_stream-le2048 : goal.returns-then-old_stream-le2048
-returns-then-old_stream-le2048 c = search (order-on, order-at)
+returns-then-old_stream-le2048 c = order-on _ _ _ _ _ _ _ c.requires.2 _ c.check_release_order.ensures _ c.in_ok-check_release_order.was c.check_sized.ensures
 
 pub returns : goal.returns
-returns c = search (order-on, order-at)
+returns c = order-on _ _ _ _ _ _ _ c.requires.2 _ c.check_release_order.ensures _ c.in_ok-check_release_order.was c.check_sized-2.ensures

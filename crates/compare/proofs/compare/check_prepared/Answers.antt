@@ -1,13 +1,13 @@
-use borrow.Enum.Refused.{opened}
+use Rattle.verdicts.proofs.PassLaws.{handed}
 use Rattle.compare.proofs.CompareLaws.{declared-stop, declared-on}
 use borrow.Author.Rules.{rules}
 use Rattle.compare.proofs.compare.check_prepared.Goals as goal
 
-pub check_declared-declared-requires : goal.check_declared-declared-requires
-check_declared-declared-requires c = record { old_stream_len_bound = (search rules, search rules, search rules); fact = search rules }
+pub check_declared-requires : goal.check_declared-requires
+check_declared-requires c = record { old_stream_len_bound = (search rules, search rules, search rules); fact = search rules }
 
-pub returns-in_default : goal.returns-in_default
-returns-in_default c = search (declared-stop, opened)
+pub returns-in_err-check_declared : goal.returns-in_err-check_declared
+returns-in_err-check_declared c = search (declared-stop, handed, c.in_err-check_declared.was)
 
 pub check_types-requires : goal.check_types-requires
 check_types-requires c = record {
@@ -25,4 +25,4 @@ check_types-requires c = record {
 }
 
 pub returns : goal.returns
-returns c = search declared-on
+returns c = search (declared-on, c.in_ok-check_declared.was)

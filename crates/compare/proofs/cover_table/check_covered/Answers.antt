@@ -1,12 +1,14 @@
-use Rattle.record.proofs.TextLaws.{kept, ended}
-use Rattle.compare.proofs.CoverTableLaws.{uncovered-laws}
+use Rattle.compare.proofs.CoverTableLaws.{uncovered-end, uncovered-here, uncovered-on}
 use Rattle.compare.proofs.cover_table.check_covered.Goals as goal
 
-pub returns-then-entry_at-eq1 : goal.returns-then-entry_at-eq1
-returns-then-entry_at-eq1 c = search (ended, uncovered-laws)
+pub loop-handle-init : goal.loop-handle-init
+loop-handle-init c = rw (c.into_iter-handle-iterator.ensures.into_iter_gives, c.zip-handle-items.ensures.first, c.iter.ensures.rest, c.zip-handle-items.ensures.second.0)
 
-pub loop-i-preserved : goal.loop-i-preserved
-loop-i-preserved c = search (kept, uncovered-laws)
+pub returns-then-entry-eq1 : goal.returns-then-entry-eq1
+returns-then-entry-eq1 c = uncovered-here _ _ _ _ _ c.loop-handle.invariant _ _ _ _ c.in-Some.ensures.steps _ c.if-entry-eq1.true c.type_name-name.ensures
+
+pub loop-handle-preserved : goal.loop-handle-preserved
+loop-handle-preserved c = uncovered-on _ _ _ _ _ c.loop-handle.invariant _ _ _ _ c.in-Some.ensures.steps c.if-entry-eq1.false
 
 pub returns : goal.returns
-returns c = search (ended, uncovered-laws)
+returns c = uncovered-end _ _ _ _ _ c.loop-handle.invariant c.in-None.ensures.steps

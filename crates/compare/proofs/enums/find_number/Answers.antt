@@ -5,8 +5,8 @@ use Rattle.compare.proofs.enums.find_number.Goals as goal
 pub loop-v-init : goal.loop-v-init
 loop-v-init c = search number-here
 
-pub returns-in_default : goal.returns-in_default
-returns-in_default c = search number-laws
+pub returns : goal.returns
+returns c = search number-laws
 
 pub returns-then-v-number : goal.returns-then-v-number
 returns-then-v-number c = search number-laws

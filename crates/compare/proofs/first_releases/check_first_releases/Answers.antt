@@ -1,12 +1,20 @@
-use borrow.Enum.Refused.{opened}
-use Rattle.compare.proofs.FirstReleaseLaws.{constant-arrivals-cut, enum-arrivals-cut, key-arrivals-cut, first-constants, first-enums, first-keys}
+use Rattle.verdicts.proofs.PassLaws.{handed}
+use Rattle.compare.proofs.FirstReleaseLaws.{first-constants, first-enums, first-keys}
 use Rattle.compare.proofs.first_releases.check_first_releases.Goals as goal
 
-pub returns-in_default : goal.returns-in_default
-returns-in_default c = search (first-constants, constant-arrivals-cut, opened)
+pub returns-in_err-check_constant_arrivals : goal.returns-in_err-check_constant_arrivals
+returns-in_err-check_constant_arrivals c =
+    first-constants _ _ _ _ _ _ c.requires.0 _ _ _ _ _ c.upto-first.ensures c.check_constant_arrivals.ensures _
+    (handed _ _ _ c.in_err-check_constant_arrivals.was c.from_residual.ensures)
 
-pub returns-in_default-enums : goal.returns-in_default-enums
-returns-in_default-enums c = search (first-enums, constant-arrivals-cut, enum-arrivals-cut, opened)
+pub returns-in_err-check_enum_arrivals : goal.returns-in_err-check_enum_arrivals
+returns-in_err-check_enum_arrivals c =
+    first-enums _ _ _ _ _ _ c.requires.0 _ _ _ _ _ c.upto-first.ensures c.check_constant_arrivals.ensures
+    c.in_ok-check_constant_arrivals.was _ _ c.upto-second.ensures c.check_enum_arrivals.ensures _
+    (handed _ _ _ c.in_err-check_enum_arrivals.was c.from_residual-in_err-check_enum_arrivals.ensures)
 
 pub returns : goal.returns
-returns c = search (first-keys, constant-arrivals-cut, enum-arrivals-cut, key-arrivals-cut)
+returns c =
+    first-keys _ _ _ _ _ _ c.requires.0 _ _ _ _ _ c.upto-first.ensures c.check_constant_arrivals.ensures
+    c.in_ok-check_constant_arrivals.was _ _ c.upto-second.ensures c.check_enum_arrivals.ensures _ _
+    c.in_ok-check_enum_arrivals.was c.upto-third.ensures c.check_key_arrivals.ensures

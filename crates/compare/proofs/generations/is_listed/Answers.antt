@@ -6,8 +6,8 @@ use Rattle.compare.proofs.generations.is_listed.Goals as goal
 pub loop-v-init : goal.loop-v-init
 loop-v-init c = search listed-begin
 
-pub returns-in_default : goal.returns-in_default
-returns-in_default c = search (ended, listed-laws)
+pub returns : goal.returns
+returns c = search (ended, listed-laws)
 
 pub returns-then-is_entry : goal.returns-then-is_entry
 returns-then-is_entry c = search (ended, listed-laws)

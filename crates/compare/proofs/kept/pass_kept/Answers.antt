@@ -6,8 +6,8 @@ use Rattle.compare.proofs.kept.pass_kept.Goals as goal
 pub returns-in_default : goal.returns-in_default
 returns-in_default c = record { kept = search kept_here; alike = search alike-here }
 
-pub returns-in_default-other : goal.returns-in_default-other
-returns-in_default-other c = record { kept = search kept_here; alike = search alike-here }
+pub returns-in_default-ahead : goal.returns-in_default-ahead
+returns-in_default-ahead c = record { kept = search kept_here; alike = search alike-here }
 
 pub returns-then-is-was : goal.returns-then-is-was
 returns-then-is-was c = record { kept = search kept_here; alike = search alike-here }

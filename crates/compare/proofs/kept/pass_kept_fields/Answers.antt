@@ -4,11 +4,11 @@ use Rattle.compare.proofs.kept.pass_kept_fields.Goals as goal
 pub loop-after-init : goal.loop-after-init
 loop-after-init c = search keeping_start
 
-pub next_kept-step-requires : goal.next_kept-step-requires
-next_kept-step-requires c = (search keeping-noted, search keeping-room)
+pub next_kept-requires : goal.next_kept-requires
+next_kept-requires c = (search keeping-noted, search keeping-room)
 
-pub returns-in_default : goal.returns-in_default
-returns-in_default c = record { kept = search keeping-end; alike = search keeping-alike }
+pub returns : goal.returns
+returns c = record { kept = search keeping-end; alike = search keeping-alike }
 
 pub loop-after-smaller : goal.loop-after-smaller
 loop-after-smaller c = search keeping-nearer

@@ -4,8 +4,8 @@ use Rattle.compare.proofs.layouts.find_spot.Goals as goal
 pub loop-x-init : goal.loop-x-init
 loop-x-init c = search place_here
 
-pub returns-in_default : goal.returns-in_default
-returns-in_default c = search place_none
+pub returns : goal.returns
+returns c = search place_none
 
 pub returns-then-same : goal.returns-then-same
 returns-then-same c = search place-hit

@@ -5,8 +5,8 @@ use Rattle.compare.proofs.near.fill_fields.Goals as goal
 pub loop-here-init : goal.loop-here-init
 loop-here-init c = search nearing-start
 
-pub returns-in_default : goal.returns-in_default
-returns-in_default c = search nearing-end
+pub returns : goal.returns
+returns c = search nearing-end
 
 pub put_near-requires : goal.put_near-requires
 put_near-requires c = search key-inside
@@ -17,5 +17,5 @@ loop-here-smaller c = search sought-nearer
 pub loop-here-preserved : goal.loop-here-preserved
 loop-here-preserved c = search nearing-on
 
-pub returns-else-put_near : goal.returns-else-put_near
-returns-else-put_near c = search nearing-put
+pub returns-then-not-put_near : goal.returns-then-not-put_near
+returns-then-not-put_near c = search nearing-put

@@ -5,8 +5,8 @@ use Rattle.compare.proofs.shipped.stored_release.Goals as goal
 pub loop-k-init : goal.loop-k-init
 loop-k-init c = search key-begin
 
-pub returns-in_default : goal.returns-in_default
-returns-in_default c = search (ended, key-release-laws)
+pub returns : goal.returns
+returns c = search (ended, key-release-laws)
 
 pub loop-k-smaller-then-same : goal.loop-k-smaller-then-same
 loop-k-smaller-then-same c = search stored-nearer

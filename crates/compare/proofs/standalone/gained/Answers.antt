@@ -5,8 +5,8 @@ use Rattle.compare.proofs.standalone.gained.Goals as goal
 pub loop-x-init : goal.loop-x-init
 loop-x-init c = search gained-here
 
-pub returns-in_default : goal.returns-in_default
-returns-in_default c = search gained-none
+pub returns : goal.returns
+returns c = search gained-none
 
 pub returns-in_default-found : goal.returns-in_default-found
 returns-in_default-found c = search gained-new

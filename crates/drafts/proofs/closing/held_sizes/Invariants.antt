@@ -1,4 +1,3 @@
-use Prim.Native.Nat.{◌-◌}
 use mathlib.Core.List.{map}
 use Rattle.drafts.specs.Shelving.{rows_of, held_size}
 use Rattle.drafts.proofs.ClosingLaws.{Filling}
@@ -6,6 +5,3 @@ use Rattle.drafts.proofs.closing.held_sizes.Given as goal
 
 abbrev pub invariant-loop-i : goal.invariant-loop-i
 invariant-loop-i l = Filling (map held_size (rows_of l.shelf)) l.sizes l.i
-
-abbrev pub decreases-loop-i : goal.decreases-loop-i
-decreases-loop-i l = 8 - l.i

@@ -2,8 +2,8 @@ use Rattle.drafts.proofs.SettleLaws.{settle-refused, settle-legible, settle-smal
 use borrow.Author.Rules.{rules}
 use Rattle.drafts.proofs.editing.settle.Goals as goal
 
-pub returns-in-Refused : goal.returns-in-Refused
-returns-in-Refused c = search settle-refused
+pub returns-in-Err : goal.returns-in-Err
+returns-in-Err c = search settle-refused
 
 pub store-requires : goal.store-requires
 store-requires c = (search settle-legible, search rules, search settle-small)

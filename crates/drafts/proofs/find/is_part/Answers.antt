@@ -1,11 +1,12 @@
-use Rattle.drafts.proofs.FindLaws.{part-ten, part-eleven, part-twelve}
+use native.Mathlib.Omega.{arith}
+use Rattle.drafts.proofs.FindLaws.{part-in, part-out}
 use Rattle.drafts.proofs.find.is_part.Goals as goal
 
-pub returns-then-byte-eq10 : goal.returns-then-byte-eq10
-returns-then-byte-eq10 c = search part-ten
+pub returns-in-10 : goal.returns-in-10
+returns-in-10 c = part-in _ (omega arith) (omega arith)
 
-pub returns-then-byte-eq11 : goal.returns-then-byte-eq11
-returns-then-byte-eq11 c = search part-eleven
+pub returns-in_default : goal.returns-in_default
+returns-in_default c = part-out _ (λ e. omega arith) (λ e. omega arith) (λ e. omega arith)
 
-pub returns : goal.returns
-returns c = search part-twelve
+pub returns-in_default-2 : goal.returns-in_default-2
+returns-in_default-2 c = part-out _ (λ e. omega arith) (λ e. omega arith) (λ e. omega arith)

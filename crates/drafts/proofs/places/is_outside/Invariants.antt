@@ -1,5 +1,4 @@
 use mathlib.Core.Path.{◌≡◌}
-use Prim.Native.Nat.{◌-◌}
 use lib.ListN.{drop}
 use Rattle.record.specs.Base.{any}
 use Rattle.drafts.specs.Shelf.{held_rows, outside}
@@ -8,6 +7,3 @@ use Rattle.drafts.proofs.places.is_outside.Given as goal
 
 abbrev pub invariant-loop-i : goal.invariant-loop-i
 invariant-loop-i l = any (outside l.room) (held_rows (rows_of l.shelf)) ≡ any (outside l.room) (held_rows (drop l.i (rows_of l.shelf)))
-
-abbrev pub decreases-loop-i : goal.decreases-loop-i
-decreases-loop-i l = 8 - l.i

@@ -1,5 +1,4 @@
 use mathlib.Core.Path.{◌≡◌}
-use Prim.Native.Nat.{◌-◌}
 use lib.ListN.{drop}
 use Rattle.drafts.specs.Shelf.{held_rows, overlapping}
 use Rattle.drafts.specs.Shelving.{rows_of}
@@ -7,6 +6,3 @@ use Rattle.drafts.proofs.places.is_overlapping.Given as goal
 
 abbrev pub invariant-loop-i : goal.invariant-loop-i
 invariant-loop-i l = overlapping (held_rows (rows_of l.shelf)) ≡ overlapping (held_rows (drop l.i (rows_of l.shelf)))
-
-abbrev pub decreases-loop-i : goal.decreases-loop-i
-decreases-loop-i l = 8 - l.i

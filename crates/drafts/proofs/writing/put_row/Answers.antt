@@ -3,11 +3,11 @@ use Rattle.drafts.proofs.PutLaws.{putting-start, putting-on, putting-end, row_on
 use native.Mathlib.Omega.{arith}
 use Rattle.drafts.proofs.writing.put_row.Goals as goal
 
-pub loop-k-init : goal.loop-k-init
-loop-k-init c = (putting-start (omega arith) (omega arith) refl, omega arith)
+pub loop-letter-init : goal.loop-letter-init
+loop-letter-init c = (putting-start (omega arith) (omega arith) refl, omega arith)
 
-pub loop-k-preserved : goal.loop-k-preserved
-loop-k-preserved c = (search (putting-on, row_on), omega arith)
+pub loop-letter-preserved : goal.loop-letter-preserved
+loop-letter-preserved c = (search (putting-on, row_on), omega arith)
 
 pub returns : goal.returns
 returns c = search (putting-end, row-end)

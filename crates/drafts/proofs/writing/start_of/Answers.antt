@@ -1,9 +1,7 @@
-use native.Mathlib.Omega.{arith}
-use Rattle.drafts.proofs.PutLaws.{start-in, start-over}
+use mathlib.Core.Path.{ap, ◌∙◌}
+use Rattle.drafts.specs.Code.{rank_at}
+use Rattle.drafts.proofs.PutLaws.{start-least}
 use Rattle.drafts.proofs.writing.start_of.Goals as goal
 
-pub returns-then-base-rank : goal.returns-then-base-rank
-returns-then-base-rank c = start-over _ _ _ _ c.rank_at-rank.ensures (omega arith)
-
 pub returns : goal.returns
-returns c = start-in _ _ _ _ c.rank_at-rank.ensures (omega arith)
+returns c = start-least _ _ _ _ (c.rank_at.ensures ∙ ap (rank_at c.args.ranks.now) c.from.ensures) _ c.saturating_add.ensures

@@ -5,8 +5,8 @@ use Rattle.layout.proofs.field_sizes.fill_sizes.Goals as goal
 pub loop-place-init : goal.loop-place-init
 loop-place-init c = search sizing-start
 
-pub returns-in_default : goal.returns-in_default
-returns-in_default c = search sizing-end
+pub returns : goal.returns
+returns c = search sizing-end
 
 pub loop-place-smaller : goal.loop-place-smaller
 loop-place-smaller c = search sought-nearer

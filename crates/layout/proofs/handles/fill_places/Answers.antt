@@ -5,8 +5,8 @@ use Rattle.layout.proofs.handles.fill_places.Goals as goal
 pub loop-place-init : goal.loop-place-init
 loop-place-init c = search (fill_start, places-fit)
 
-pub returns-in_default : goal.returns-in_default
-returns-in_default c = (search (fill-count, places-end), search (fill_end, places-end), search (places-few, places-end))
+pub returns : goal.returns
+returns c = (search (fill-count, places-end), search (fill_end, places-end), search (places-few, places-end))
 
 pub narrow-requires : goal.narrow-requires
 narrow-requires c = search sought-small

@@ -7,8 +7,8 @@ use Rattle.layout.proofs.lines.put_fields.Goals as goal
 pub loop-here-init : goal.loop-here-init
 loop-here-init c = field-lines-start _ _ _ _ _ _ _ (omega arith)
 
-pub returns-in_default : goal.returns-in_default
-returns-in_default c = field-lines-end _ _ _ _ _ _ _ _ _ _ _ c.loop-here.invariant _ c.seek.ensures (search rules) (omega arith)
+pub returns : goal.returns
+returns c = field-lines-end _ _ _ _ _ _ _ _ _ _ _ c.loop-here.invariant _ c.seek.ensures (search rules) (omega arith)
 
 pub loop-here-smaller : goal.loop-here-smaller
 loop-here-smaller c = search sought-nearer

@@ -3,14 +3,14 @@ use Rattle.layout.proofs.LineLaws.{listing_start, listing-next, listing-end, typ
 use borrow.Author.Rules.{rules}
 use Rattle.layout.proofs.lines.put_types.Goals as goal
 
-pub loop-i-init : goal.loop-i-init
-loop-i-init c = search listing_start
+pub loop-handle-init : goal.loop-handle-init
+loop-handle-init c = search listing_start
 
 pub put_type-end-requires : goal.put_type-end-requires
 put_type-end-requires c = type-premise _ _ _ _ c.requires (search rules)
 
-pub loop-i-preserved : goal.loop-i-preserved
-loop-i-preserved c = search listing-next
+pub loop-handle-preserved : goal.loop-handle-preserved
+loop-handle-preserved c = search listing-next
 
 pub returns : goal.returns
-returns c = listing-end _ _ _ c.requires c.loop-i.invariant (omega arith) (omega arith)
+returns c = listing-end _ _ _ c.requires c.loop-handle.invariant (omega arith) (omega arith)

@@ -6,8 +6,8 @@ use Rattle.layout.proofs.measure.measure_fields.Goals as goal
 pub loop-here-init : goal.loop-here-init
 loop-here-init c = measuring-start _ _ _ _ _ _ (omega arith) (omega arith)
 
-pub returns-in_default : goal.returns-in_default
-returns-in_default c = search measuring-end
+pub returns : goal.returns
+returns c = search measuring-end
 
 pub overflow_add-n : goal.overflow_add-n
 overflow_add-n c = omega arith

@@ -5,5 +5,5 @@ use Rattle.layout.proofs.names.colons.Goals as goal
 pub returns-then-family_part-eq0 : goal.returns-then-family_part-eq0
 returns-then-family_part-eq0 c = (search part-laws, search rules)
 
-pub returns : goal.returns
-returns c = (search part-laws, search rules)
+pub returns-else-family_part-eq0 : goal.returns-else-family_part-eq0
+returns-else-family_part-eq0 c = (search part-laws, search rules)

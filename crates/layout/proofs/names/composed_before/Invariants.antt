@@ -1,4 +1,3 @@
-use Prim.Native.Nat.{◌-◌}
 use mathlib.Core.Path.{◌≡◌}
 use lib.ListN.{drop}
 use Rattle.record.specs.Base.{before}
@@ -7,6 +6,3 @@ use Rattle.layout.proofs.names.composed_before.Given as goal
 
 abbrev pub invariant-loop-i : goal.invariant-loop-i
 invariant-loop-i l = before (composed l.f l.k l.b) (composed l.g l.l l.d) ≡ before (drop l.i (composed l.f l.k l.b)) (drop l.i (composed l.g l.l l.d))
-
-abbrev pub decreases-loop-i : goal.decreases-loop-i
-decreases-loop-i l = l.n - l.i

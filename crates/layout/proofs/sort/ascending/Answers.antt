@@ -1,13 +1,12 @@
-use Rattle.record.proofs.TextLaws.{kept, ended}
-use Rattle.layout.proofs.SortLaws.{ascends-laws}
-use borrow.Author.Rules.{rules}
+use Rattle.std.proofs.Common.{rules}
+use Rattle.std.proofs.lemmas.Fn.{always_returns_same}
+use Rattle.record.specs.Base.{before}
+use Rattle.layout.specs.Handles.{type_name}
+use Rattle.layout.proofs.SortLaws.{ascends-asked}
 use Rattle.layout.proofs.sort.ascending.Goals as goal
 
-pub loop-i-preserved : goal.loop-i-preserved
-loop-i-preserved c = (search rules, search (kept, ascends-laws))
-
-pub returns-else-type_before : goal.returns-else-type_before
-returns-else-type_before c = search (ended, ascends-laws)
-
 pub returns : goal.returns
-returns c = search (ended, ascends-laws)
+returns c =
+    let key = type_name c.args.stream.now c.args.pool.now in
+    ascends-asked key c.args.handles.now c.is_sorted_by.result
+    (c.is_sorted_by.ensures.cases (λ x y. before (key x) (key y)) (always_returns_same _ _ _ (λ a r f k. search rules)))

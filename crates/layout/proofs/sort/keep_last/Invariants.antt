@@ -1,11 +1,6 @@
-use Prim.Native.Nat.{◌-◌}
-use lib.ListN.{length}
 use Rattle.layout.specs.Handles.{type_name}
 use Rattle.layout.proofs.SortLaws.{Keeping}
 use Rattle.layout.proofs.sort.keep_last.Given as goal
 
 abbrev pub invariant-loop-i : goal.invariant-loop-i
 invariant-loop-i l = Keeping (type_name l.stream l.pool) l.initial.handles l.handles l.i l.n
-
-abbrev pub decreases-loop-i : goal.decreases-loop-i
-decreases-loop-i l = length l.initial.handles - l.i

@@ -5,11 +5,8 @@ use Rattle.layout.proofs.spots.pass_fields.Goals as goal
 pub loop-here-init : goal.loop-here-init
 loop-here-init c = search others-here
 
-pub returns-in_default : goal.returns-in_default
-returns-in_default c = search others-laws
-
-pub returns-then-same : goal.returns-then-same
-returns-then-same c = search others-laws
+pub returns : goal.returns
+returns c = search others-laws
 
 pub loop-here-smaller : goal.loop-here-smaller
 loop-here-smaller c = search sought-nearer

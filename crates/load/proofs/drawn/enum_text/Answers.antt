@@ -1,11 +1,11 @@
 use Rattle.load.specs.Draws.{enum_text}
-use Rattle.load.proofs.DrawnLaws.{picked, skipped}
+use Rattle.load.proofs.DrawnLaws.{skipped}
 use Rattle.load.proofs.drawn.enum_text.Goals as goal
 
-pub returns-then-n-eq0 : goal.returns-then-n-eq0
+pub returns-in-0 : goal.returns-in-0
 unfolding enum_text
-returns-then-n-eq0 c = search (picked, skipped)
+returns-in-0 c = rw c.in-0.is
 
-pub returns : goal.returns
+pub returns-in_default : goal.returns-in_default
 unfolding enum_text
-returns c = search (picked, skipped)
+returns-in_default c = search skipped

@@ -1,19 +1,19 @@
 use Rattle.load.specs.Draws.{retyped_text}
-use Rattle.load.proofs.DrawnLaws.{picked, skipped}
+use Rattle.load.proofs.DrawnLaws.{skipped}
 use Rattle.load.proofs.drawn.retyped_text.Goals as goal
 
-pub returns-then-n-eq0 : goal.returns-then-n-eq0
+pub returns-in-0 : goal.returns-in-0
 unfolding retyped_text
-returns-then-n-eq0 c = search (picked, skipped)
+returns-in-0 c = rw c.in-0.is
 
-pub returns-then-n-eq1 : goal.returns-then-n-eq1
+pub returns-in-1 : goal.returns-in-1
 unfolding retyped_text
-returns-then-n-eq1 c = search (picked, skipped)
+returns-in-1 c = rw c.in-1.is
 
-pub returns-then-n-eq2 : goal.returns-then-n-eq2
+pub returns-in-2 : goal.returns-in-2
 unfolding retyped_text
-returns-then-n-eq2 c = search (picked, skipped)
+returns-in-2 c = rw c.in-2.is
 
-pub returns : goal.returns
+pub returns-in_default : goal.returns-in_default
 unfolding retyped_text
-returns c = search (picked, skipped)
+returns-in_default c = search skipped

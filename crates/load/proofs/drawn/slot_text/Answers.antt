@@ -1,15 +1,15 @@
 use Rattle.load.specs.Draws.{slot_text}
-use Rattle.load.proofs.DrawnLaws.{picked, skipped}
+use Rattle.load.proofs.DrawnLaws.{skipped}
 use Rattle.load.proofs.drawn.slot_text.Goals as goal
 
-pub returns-then-n-eq0 : goal.returns-then-n-eq0
+pub returns-in-0 : goal.returns-in-0
 unfolding slot_text
-returns-then-n-eq0 c = search (picked, skipped)
+returns-in-0 c = rw c.in-0.is
 
-pub returns-then-n-eq1 : goal.returns-then-n-eq1
+pub returns-in-1 : goal.returns-in-1
 unfolding slot_text
-returns-then-n-eq1 c = search (picked, skipped)
+returns-in-1 c = rw c.in-1.is
 
-pub returns : goal.returns
+pub returns-in_default : goal.returns-in_default
 unfolding slot_text
-returns c = search (picked, skipped)
+returns-in_default c = search skipped

@@ -1,12 +1,14 @@
 use Rattle.load.proofs.SettingLaws.{seed-after-on, seed-after-end}
-use mathlib.Core.Path.{refl}
+use Prim.Native.Nat.{◌-◌}
+use mathlib.Core.Path.{◌≡◌}
+use native.Mathlib.Omega.{arith}
 use Rattle.load.proofs.draws.seed_after.Goals as goal
 
-pub loop-left-init : goal.loop-left-init
-loop-left-init c = refl
+pub loop-init : goal.loop-init
+loop-init c = let n : c.args.k - 0 ≡ c.args.k = omega arith in rw n
 
-pub loop-left-preserved : goal.loop-left-preserved
-loop-left-preserved c = search seed-after-on
+pub loop-preserved : goal.loop-preserved
+loop-preserved c = search seed-after-on
 
 pub returns : goal.returns
 returns c = search seed-after-end

@@ -1,11 +1,5 @@
-use Rattle.load.proofs.RootLaws.{middle-accepted, middle-constant, middle-gone, middle-moved, middle-resized, middle-unraised}
+use Rattle.load.proofs.RootLaws.{middle-gone, middle-moved, middle-resized, middle-same}
 use Rattle.load.proofs.root.put_middle.Goals as goal
-
-pub returns-in-Accepted : goal.returns-in-Accepted
-returns-in-Accepted c = search middle-accepted
-
-pub returns-in-ConstantGone : goal.returns-in-ConstantGone
-returns-in-ConstantGone c = search middle-constant
 
 pub returns-in-FieldGone : goal.returns-in-FieldGone
 returns-in-FieldGone c = search middle-gone
@@ -16,5 +10,5 @@ returns-in-FieldMoved c = search middle-moved
 pub returns-in-FieldResized : goal.returns-in-FieldResized
 returns-in-FieldResized c = search middle-resized
 
-pub returns-in-Unraised : goal.returns-in-Unraised
-returns-in-Unraised c = search middle-unraised
+pub returns-in_default : goal.returns-in_default
+returns-in_default c = search middle-same

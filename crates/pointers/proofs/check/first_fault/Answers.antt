@@ -5,8 +5,8 @@ use Rattle.pointers.proofs.check.first_fault.Goals as goal
 pub returns-in_default : goal.returns-in_default
 returns-in_default c = search faults-end
 
-pub returns-in-Faulty : goal.returns-in-Faulty
-returns-in-Faulty c = search faults-stop
+pub returns-in-Some-field_fault : goal.returns-in-Some-field_fault
+returns-in-Some-field_fault c = search faults-stop
 
 pub loop-place-smaller : goal.loop-place-smaller
 loop-place-smaller c = search sought-nearer

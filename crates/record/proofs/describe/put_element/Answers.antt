@@ -5,9 +5,9 @@ use Rattle.record.specs.Base.{bytes}
 use borrow.Author.Rules.{rules}
 use Rattle.record.proofs.describe.put_element.Goals as goal
 
-pub returns-in-Absent : goal.returns-in-Absent
+pub returns-in-None : goal.returns-in-None
 unfolding bytes
-returns-in-Absent c = (search element-none, omega (arith, puts-near))
+returns-in-None c = (search element-none, omega (arith, puts-near))
 
-pub returns-in-Given : goal.returns-in-Given
-returns-in-Given c = (search element-some, search rules)
+pub returns-in-Some : goal.returns-in-Some
+returns-in-Some c = (search element-some, search rules)

@@ -10,8 +10,8 @@ returns-in_default-held c = search version-laws
 pub returns-then-c : goal.returns-then-c
 returns-then-c c = search version-laws
 
-pub returns-then-c-ge4294967296 : goal.returns-then-c-ge4294967296
-returns-then-c-ge4294967296 c = search version-laws
+pub returns-in_default-try_from : goal.returns-in_default-try_from
+returns-in_default-try_from c = let h = c.in_default-try_from.ensures in search version-laws
 
 pub returns : goal.returns
-returns c = search version-laws
+returns c = rw c.in-Ok.ensures.1 (search (version-laws, c.in-Ok.ensures.0))

@@ -1,15 +1,6 @@
-use Rattle.record.proofs.IndexLaws.{headless-length, headless-laws}
-use borrow.Author.Rules.{rules}
+use Rattle.std.proofs.Common.{rules, length, take}
+use Rattle.record.proofs.IndexLaws.{headless_filled}
 use Rattle.record.proofs.index.clear.Goals as goal
 
-pub loop-i-init : goal.loop-i-init
-loop-i-init c = search headless-laws
-
-pub bounds-index-i : goal.bounds-index-i
-bounds-index-i c = search (headless-length, rules)
-
-pub loop-i-preserved : goal.loop-i-preserved
-loop-i-preserved c = search headless-laws
-
 pub returns : goal.returns
-returns c = search headless-laws
+returns c = headless_filled _ _ (length (take 256 c.args.index.now)) (search rules) c.requires (search rules)

@@ -7,14 +7,14 @@ returns-then-stream-gt-STREAM_LIMIT c = search read-long
 pub returns-then-pool-gt-POOL_LIMIT : goal.returns-then-pool-gt-POOL_LIMIT
 returns-then-pool-gt-POOL_LIMIT c = search read_wide
 
-pub returns-in-Odd : goal.returns-in-Odd
-returns-in-Odd c = search read-letter
+pub returns-in-Some : goal.returns-in-Some
+returns-in-Some c = search read-letter
 
-pub returns-in-Refused : goal.returns-in-Refused
-returns-in-Refused c = search read-refused
+pub returns-in-Err : goal.returns-in-Err
+returns-in-Err c = search read-refused
 
-pub returns-in-VastAt : goal.returns-in-VastAt
-returns-in-VastAt c = search read-vast
+pub returns-in-Some-vast_type : goal.returns-in-Some-vast_type
+returns-in-Some-vast_type c = search read-vast
 
 pub returns : goal.returns
 returns c = search read_whole

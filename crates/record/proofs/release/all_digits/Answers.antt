@@ -1,13 +1,11 @@
-use Rattle.record.proofs.TextLaws.{kept, ended}
-use Rattle.record.proofs.ReleaseLaws.{digits-laws}
-use borrow.Author.Rules.{rules}
+use Rattle.std.proofs.Common.{rules, tests, ◌∙◌}
+use Rattle.std.proofs.lemmas.Iterator.{YieldsList-from_slice}
+use Rattle.std.proofs.lemmas.Iterator.Search.{all_from_yields_List}
+use Rattle.record.specs.Release.{digit}
+use Rattle.record.proofs.ReleaseLaws.{digits_all}
 use Rattle.record.proofs.release.all_digits.Goals as goal
 
-pub returns-then-not-is_digit : goal.returns-then-not-is_digit
-returns-then-not-is_digit c = search (ended, digits-laws)
-
-pub loop-i-preserved : goal.loop-i-preserved
-loop-i-preserved c = (search rules, search (kept, digits-laws))
-
 pub returns : goal.returns
-returns c = search (ended, digits-laws)
+unfolding digit
+returns c =
+    all_from_yields_List digit _ _ _ c.all.ensures.ran (YieldsList-from_slice c.args.part.now cc) (λ x b q k. search (rules, tests)) ∙ digits_all c.args.part.now

@@ -1,11 +1,11 @@
-use Prim.Native.Nat.{◌-◌, ◌≤◌}
 use mathlib.Core.Path.{◌≡◌}
-use lib.ListN.{length}
-use Rattle.record.specs.Scalars.{scalars_of, scalars_at, prim_size}
+use Rattle.std.specs.Slice.Iter.{chunks_exact_rest, chunks_exact_size}
+use Rattle.record.specs.Scalars.{scalars_of, prim_size}
 use Rattle.record.proofs.scalars.prim_size.Given as goal
 
-abbrev pub invariant-loop-at : goal.invariant-loop-at
-invariant-loop-at l = (l.at ≤ length l.rows) × (prim_size (scalars_of l.rows) l.word ≡ prim_size (scalars_at l.rows l.at) l.word)
-
-abbrev pub decreases-loop-at : goal.decreases-loop-at
-decreases-loop-at l = length l.rows - l.at
+abbrev pub invariant-loop-row : goal.invariant-loop-row
+invariant-loop-row l =
+    (goal.iterator-loop-row).can_next l.row-iterator
+    × (goal.iterator-loop-row).is_finite l.row-iterator
+    × (chunks_exact_size l.row-iterator ≡ 9)
+    × (prim_size (scalars_of l.rows) l.word ≡ prim_size (scalars_of (chunks_exact_rest l.row-iterator)) l.word)

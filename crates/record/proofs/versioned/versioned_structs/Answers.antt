@@ -8,11 +8,11 @@ loop-place-init c = search versioned-laws
 pub returns-in_default : goal.returns-in_default
 returns-in_default c = search versioned-laws
 
-pub loop-place-smaller-in-Given : goal.loop-place-smaller-in-Given
-loop-place-smaller-in-Given c = search sought-nearer
+pub loop-place-smaller-in-Some-opt_text_at : goal.loop-place-smaller-in-Some-opt_text_at
+loop-place-smaller-in-Some-opt_text_at c = search sought-nearer
 
-pub loop-place-preserved-in-Given : goal.loop-place-preserved-in-Given
-loop-place-preserved-in-Given c = search versioned-laws
+pub loop-place-preserved-in-Some-opt_text_at : goal.loop-place-preserved-in-Some-opt_text_at
+loop-place-preserved-in-Some-opt_text_at c = search versioned-laws
 
 pub loop-place-smaller : goal.loop-place-smaller
 loop-place-smaller c = search sought-nearer

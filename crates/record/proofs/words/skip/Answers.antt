@@ -8,7 +8,7 @@ loop-i-init c = (skip-none _ _, search rules, search rules, search rules)
 pub loop-i-preserved : goal.loop-i-preserved
 loop-i-preserved c = (
   skip-more _ _ c.shared_slice_known-1.given
-      c.shared_slice_known-2-1.given _ c.lesser-n.result _ _
+      c.shared_slice_known-2-1.given _ c.min-n.result _ _
       c.loop-i.invariant.0 c.word.ensures c.word-in-loop-i.ensures c.if-word.false
       c.loop-i.invariant.1 c.loop-i.invariant.2 c.loop-i.invariant.3 (search rules),
   search rules,

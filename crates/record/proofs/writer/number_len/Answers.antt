@@ -1,18 +1,14 @@
-use native.Mathlib.Omega.{arith}
-use Rattle.record.proofs.WriterLaws.{counting-start, counting-next, counting-end}
+use Rattle.std.proofs.Common.{ℕ, length, arith, sym, ap}
+use Rattle.record.specs.Base.{decimal}
+use Rattle.record.proofs.WriterLaws.{length-digits}
 use Rattle.record.proofs.writer.number_len.Goals as goal
 
-pub loop-rest-init : goal.loop-rest-init
-loop-rest-init c = counting-start _ (omega (arith, c.ranges.n.fits))
+pub returns-in-Some : goal.returns-in-Some
+unfolding decimal
+returns-in-Some c =
+    let b = c.in-Some.ensures.bound in
+    (sym (length-digits c.in-Some.k 20 c.args.n b c.in-Some.ensures.power_le c.in-Some.ensures.next_power_gt), omega arith)
 
-pub overflow_add-len : goal.overflow_add-len
-overflow_add-len c = let f = c.loop-rest.invariant.few in omega arith
-
-pub loop-rest-smaller : goal.loop-rest-smaller
-loop-rest-smaller c = omega arith
-
-pub loop-rest-preserved : goal.loop-rest-preserved
-loop-rest-preserved c = search counting-next
-
-pub returns : goal.returns
-returns c = counting-end _ _ _ c.loop-rest.invariant c.loop-rest-test.false
+pub returns-in-None : goal.returns-in-None
+unfolding decimal
+returns-in-None c = (ap (λ (m : ℕ). length (decimal m)) (sym c.in-None.ensures.none), omega arith)

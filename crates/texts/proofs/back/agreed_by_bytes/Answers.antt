@@ -1,16 +1,10 @@
-use mathlib.Core.Path.{refl}
-use Rattle.texts.proofs.BackLaws.{byte-out, bytes-out}
-use borrow.Author.Rules.{rules}
+use Rattle.texts.proofs.BackLaws.{byte-out}
 use Rattle.texts.proofs.back.agreed_by_bytes.Goals as goal
+use Rattle.texts.proofs.back.agreed_by_bytes.Goals.{else-a-last-via-then-a-last+then-a-middle+else-a-b, else-a-last-via-then-a-last+else-a-middle, else-a-last-via-else-a-last}
 
-pub returns-then-a-last : goal.returns-then-a-last
-returns-then-a-last c = byte-out _ _ _ c.if-a-last.true
-
-pub returns-then-a-middle : goal.returns-then-a-middle
-returns-then-a-middle c = byte-out _ _ _ c.if-a-middle.true
-
-pub returns-then-a-b : goal.returns-then-a-b
-returns-then-a-b c = byte-out _ _ _ c.if-a-b.true
-
-pub returns : goal.returns
-returns c = bytes-out _ _ _ refl c.if-a-last.false c.if-a-middle.false c.if-a-b.false (search rules) (search rules)
+pub returns-else-a-last : goal.returns-else-a-last
+returns-else-a-last c = elim c.else-a-last.branch [
+  | else-a-last-via-then-a-last+then-a-middle+else-a-b w ↦ byte-out _ _ _ w.if-a-b.false
+  | else-a-last-via-then-a-last+else-a-middle w ↦ byte-out _ _ _ w.if-a-middle.false
+  | else-a-last-via-else-a-last w ↦ byte-out _ _ _ w.if-a-last.false
+]

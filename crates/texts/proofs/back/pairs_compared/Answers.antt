@@ -7,8 +7,8 @@ returns-then-n-b c = search pairs-none
 pub returns-then-a-next : goal.returns-then-a-next
 returns-then-a-next c = search pairs-stop
 
-pub loop-left-preserved : goal.loop-left-preserved
-loop-left-preserved c = search byte-on
+pub loop-next-preserved : goal.loop-next-preserved
+loop-next-preserved c = search byte-on
 
 pub returns : goal.returns
 returns c = search pairs-all

@@ -1,8 +1,5 @@
 use Rattle.texts.specs.Agreement.{Agreed}
 use Rattle.texts.proofs.back.pairs_compared.Given as goal
 
-abbrev pub invariant-loop-left : goal.invariant-loop-left
-invariant-loop-left l = Agreed l.a l.b l.left
-
-abbrev pub decreases-loop-left : goal.decreases-loop-left
-decreases-loop-left l = l.left
+abbrev pub invariant-loop-next : goal.invariant-loop-next
+invariant-loop-next l = Agreed l.a l.b l.next

@@ -1,11 +1,10 @@
-use mathlib.Core.Path.{◌∙◌}
-use Rattle.texts.proofs.LetterLaws.{all-on, all_end}
-use Rattle.texts.proofs.TextLaws.{ended}
-use borrow.Author.Rules.{rules}
+use Rattle.std.proofs.Common.{◌≡◌, refl, subst, rules}
+use Rattle.std.proofs.lemmas.Fn.{fold_over, slice_gives, fronts}
+use Rattle.texts.specs.Plain.{all_plain}
+use Rattle.texts.proofs.LetterLaws.{plain_push}
 use Rattle.texts.proofs.utf8.all_plain.Goals as goal
 
-pub loop-i-preserved : goal.loop-i-preserved
-loop-i-preserved c = (search rules, c.loop-i.invariant.1 ∙ all-on c.args.pool.now c.loop-i.i c.loop-i.good _ _ (search rules) c.is_plain.ensures c.both-good.ensures)
-
 pub returns : goal.returns
-returns c = search (ended, all_end)
+unfolding all_plain
+returns c = subst (λ l. c.fold.result ≡ all_plain l) c.iter.ensures.rest
+    (fold_over fronts (λ y. y.now) _ (λ ys r. r ≡ all_plain ys) _ (λ ys a x b f' h k. search (rules, plain_push)) _ _ _ _ (slice_gives c.iter.result) refl c.fold.ensures.ran)

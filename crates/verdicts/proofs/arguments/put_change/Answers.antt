@@ -5,10 +5,10 @@ use Rattle.verdicts.proofs.ArgumentLaws.{change-none, change-some}
 use borrow.Author.Rules.{rules}
 use Rattle.verdicts.proofs.arguments.put_change.Goals as goal
 
-pub returns-in-Absent : goal.returns-in-Absent
+pub returns-in-None : goal.returns-in-None
 unfolding bytes
-returns-in-Absent c = (search change-none, omega (arith, puts-near))
+returns-in-None c = (search change-none, omega (arith, puts-near))
 
-pub returns-in-Given : goal.returns-in-Given
+pub returns-in-Some : goal.returns-in-Some
 unfolding bytes
-returns-in-Given c = (search change-some, search rules)
+returns-in-Some c = (search change-some, search rules)

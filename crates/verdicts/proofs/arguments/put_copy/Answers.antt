@@ -5,9 +5,9 @@ use Rattle.verdicts.proofs.ArgumentLaws.{copy-none, copy_some}
 use borrow.Author.Rules.{rules}
 use Rattle.verdicts.proofs.arguments.put_copy.Goals as goal
 
-pub returns-in-Absent : goal.returns-in-Absent
+pub returns-in-None : goal.returns-in-None
 unfolding bytes
-returns-in-Absent c = (search copy-none, omega (arith, puts-near))
+returns-in-None c = (search copy-none, omega (arith, puts-near))
 
-pub returns-in-Given : goal.returns-in-Given
-returns-in-Given c = (search copy_some, search rules)
+pub returns-in-Some : goal.returns-in-Some
+returns-in-Some c = (search copy_some, search rules)

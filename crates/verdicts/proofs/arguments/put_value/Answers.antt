@@ -10,5 +10,5 @@ returns-in_default c = (value_none _ _ _ c.in-Words.is c.in_default.is (puts_non
 pub returns-in-Integer : goal.returns-in-Integer
 returns-in-Integer c = (search value-integer, search rules)
 
-pub returns-in-Given : goal.returns-in-Given
-returns-in-Given c = (search value-words, search rules)
+pub returns-in-Some : goal.returns-in-Some
+returns-in-Some c = (search value-words, search rules)

@@ -1,8 +1,5 @@
 use Rattle.verdicts.proofs.verdict.Verdict.number.Goals as goal
 
-pub returns-in-Passed : goal.returns-in-Passed
-returns-in-Passed c = rw c.in-Passed.is
-
 pub returns-in-Described : goal.returns-in-Described
 returns-in-Described c = rw c.in-Described.is
 

@@ -1,6 +1,0 @@
-use Rattle.layout.proofs.TableLaws.{kept-ascending}
-use borrow.Author.Rules.{rules}
-use Rattle.layout.proofs.table.arrange_few.Goals as goal
-
-pub returns-then-ascending : goal.returns-then-ascending
-returns-then-ascending c = (search kept-ascending, search rules)

@@ -1,6 +1,0 @@
-use Rattle.record.proofs.MarkLaws.{clear-made}
-use borrow.Author.Rules.{rules}
-use Rattle.layout.proofs.table.arrange_many.Goals as goal
-
-pub arrange_lent-requires : goal.arrange_lent-requires
-arrange_lent-requires c = (search rules, search rules, clear-made 8192)

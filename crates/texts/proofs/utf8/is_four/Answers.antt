@@ -1,7 +1,0 @@
-use Rattle.texts.specs.Utf8.{utf84, is_tail}
-use Rattle.texts.proofs.LetterLaws.{or_is}
-use Rattle.texts.proofs.utf8.is_four.Goals as goal
-
-pub returns : goal.returns
-unfolding utf84 is_tail
-returns c = search or_is
