@@ -1,49 +1,52 @@
 #!/usr/bin/env python3
-"""lists.py: writes the iterators of crate record from the table below: src/lists.rt, specs/Steps.antt, proofs/StepLaws.antt,
-and the answers and invariants of their proofs, proofs/lists. Run from the repository's top; then `rt fmt` in crates/record.
+"""lists.py: writes the lists of crate record from the table below: src/lists.rt, specs/Steps.antt, specs/Listings.antt and
+proofs/StepLaws.antt. Run from the repository's top; then `rt fmt` in crates/record.
 
 A row: the list, one element, the model's type, the command's number and its operands' type, what may stand between
 (Between of src/seek.rt), the lists that follow an element, how it is looked up by name: by a walk along the list, or by the
 index of src/index.rt, as an element or as its place alone.
 A step along the fields also says where the field stands."""
-import answers
-
 ROWS = [
-    # list, one, model, number, struct, between, children, by name, words
-    ('heads', 'head', 'Heading', 1, 'Head', 'Anything', [], None, 'head'),
-    ('constants', 'constant', 'Const', 2, 'Constant', 'Anything', [], 'index', 'constant'),
-    ('aliases', 'alias', 'Alias', 3, 'TypeAlias', 'Anything', [], 'place', 'alias'),
-    ('values', 'value', 'EnumValue', 5, 'Value', 'Nothing', [], 'walk', 'value'),
-    ('enums', 'enum', 'Enum', 4, 'Enum', 'Anything', ['values_at'], 'index', 'enum'),
-    ('members', 'member', 'Member', 7, 'Member', 'Nothing', [], 'walk', 'member'),
-    ('bitfields', 'bitfield', 'BitField', 6, 'Bitfield', 'Anything', ['members_at'], 'walk', 'bit field'),
-    ('keys', 'key', 'Key', 12, 'PluginKey', 'Nothing', [], None, 'plugin key'),
-    ('fields', 'field', 'Field', 11, 'Field', 'Keys', ['field_key_at'], None, 'field'),
-    ('structs', 'struct', 'Struct', 8, 'Struct', 'Anything', ['fields_at'], 'index', 'structure'),
-    ('variants', 'variant', 'Variant', 10, 'Variant', 'Fields', ['fields_at'], None, 'variant'),
-    ('families', 'family', 'Family', 9, 'Family', 'Anything', ['fields_at', 'variants_at'], 'walk', 'family'),
-    ('unstored', 'unstored', 'Key', 13, 'PluginKey', 'Anything', [], None, 'unstored plugin key'),
-    ('versions', 'version', 'Version', 14, 'Version', 'Anything', [], None, 'version entry'),
+    # list, one, model, number, struct, between, children, by name
+    ('heads', 'head', 'Heading', 1, 'Head', 'Anything', [], None),
+    ('constants', 'constant', 'Const', 2, 'Constant', 'Anything', [], 'index'),
+    ('aliases', 'alias', 'Alias', 3, 'TypeAlias', 'Anything', [], 'place'),
+    ('values', 'value', 'EnumValue', 5, 'Value', 'Nothing', [], 'walk'),
+    ('enums', 'enum', 'Enum', 4, 'Enum', 'Anything', ['values_at'], 'index'),
+    ('members', 'member', 'Member', 7, 'Member', 'Nothing', [], 'walk'),
+    ('bitfields', 'bitfield', 'BitField', 6, 'Bitfield', 'Anything', ['members_at'], 'walk'),
+    ('keys', 'key', 'Key', 12, 'PluginKey', 'Nothing', [], None),
+    ('fields', 'field', 'Field', 11, 'Field', 'Keys', ['field_key_at'], None),
+    ('structs', 'struct', 'Struct', 8, 'Struct', 'Anything', ['fields_at'], 'index'),
+    ('variants', 'variant', 'Variant', 10, 'Variant', 'Fields', ['fields_at'], None),
+    ('families', 'family', 'Family', 9, 'Family', 'Anything', ['fields_at', 'variants_at'], 'walk'),
+    ('unstored', 'unstored', 'Key', 13, 'UnstoredKey', 'Anything', [], None),
+    ('versions', 'version', 'Version', 14, 'Version', 'Anything', [], None),
 ]
-KEYS = 'n one model b struct between kids named words'.split()
+KEYS = 'n one model b struct between kids named'.split()
 LISTS = [dict(zip(KEYS, row)) for row in ROWS]
 OF = {'unstored': 'key_of'}
 AT = {'unstored': 'key_at'}
-# the lemmas whose names have no dash
-PLAIN = ['keys-none', 'keys-found', 'variants-laws']
-# heads are looked at once, and plugin keys and unstored keys are gone along by the walk over all keys, which has its own measure
-UNMEASURED = ('heads', 'keys', 'unstored')
+# heads and aliases are looked at once, fields are gone along by their places, and plugin keys and unstored keys by the walk over all keys, which
+# has its own measure
+UNMEASURED = ('heads', 'aliases', 'keys', 'fields', 'unstored')
 R = 'crates/record/'
 for d in LISTS:
-    d['C'], one = d['n'].capitalize(), d['one'].capitalize()
-    d['step'], d['none'], d['some'] = one + 'Step', 'No' + one, ('An' if one[0] in 'AEU' else 'A') + one
+    d['C'] = d['n'].capitalize()
+    # the element, as specs/Steps has it: an unstored key's own type only tells its list from that of the keys after a field
+    d['element'] = 'D.%(struct)s.%(struct)s' % d if d['n'] != 'unstored' else 'D.PluginKey.PluginKey'
     d['of'] = OF.get(d['one'], d['one'] + '_of')
     d['at'] = AT.get(d['one'], d['one'] + '_at')
     d['kid'] = ''.join(' (%s s p k.at)' % k for k in d['kids'])
+    d['kidrest'] = ''.join(' (first (keys s p rest))' if k == 'field_key_at' else ' (%s s p rest)' % k[:-3] for k in d['kids'])
+    d['kidopen'] = ''.join(' ' + ('keys_at' if k == 'field_key_at' else k) for k in d['kids'])
     # the place of a field
     d['standing'] = '  pub placed : FieldPlaced s at r\n' if d['n'] == 'fields' else ''
-    d['stands'] = '; placed = fields-placed' if d['n'] == 'fields' else ''
     d['nowhere'] = '; placed = tt' if d['n'] == 'fields' else ''
+    d['stands'] = ('; placed = record { past = h.past; in-stream = h.in-stream; number = h.number; operands = h.operands }'
+                   if d['n'] == 'fields' else '')
+    d['break'] = '\n      ' if d['n'] == 'fields' else ' '
+    d['widths'] = ' width_of width_with operands widths wide bytes' if d['n'] == 'fields' else ''
 
 FIELD_KEY = '''-- the plugin key of the field before a place
 abbrev pub field_key_at : Str → Str → ℕ → Option Key
@@ -58,18 +61,11 @@ pub record FieldPlace (s : Str) (at : ℕ) (e : D.Field.Field) (k : Cursor) : Ty
   pub number : get_or s (k.at - 33) 0 ≡ 11
   pub operands : e ≡ field_at (drop (k.at - 33) s)
 
-abbrev pub FieldPlaced : Str → ℕ → FieldStep → Type 0
-FieldPlaced s at NoField = Unit
-FieldPlaced s at (AField e k) = FieldPlace s at e k
+abbrev pub FieldPlaced : Str → ℕ → Step D.Field.Field → Type 0
+FieldPlaced s at None = Unit
+FieldPlaced s at (Some (e, k)) = FieldPlace s at e k
 
 '''
-
-
-def plain(text):
-    """The text, the lemmas of PLAIN by their names."""
-    for name in PLAIN:
-        text = text.replace(name, name.replace('-', '_'))
-    return text
 
 
 def imports(path, names):
@@ -83,79 +79,119 @@ def imports(path, names):
 
 
 def code():
-    o = '''// The lists of a record, an element at a time: each function hands out the next element from a cursor on, with the cursor after it.
+    o = '''// The lists of a record, an element at a time: the next element from a cursor on, with the cursor after it.
 // Written by tools/lists.py.
-use crate::command::Cursor;
-use crate::cut;
-use crate::seek::Between;
-use crate::seek::Sought;
-use crate::seek::seek;
+ghost use Rattle.std.specs.Prelude.{◌≡◌, ℕ};
+ghost use Rattle.record.specs.Base.{Str};
+ghost use Rattle.record.specs.Commands.{Step};
+ghost use Rattle.record.specs.Listing.{Listing, Naming};
 '''
-    o += ''.join('use crate::command::%s;\n' % s for s in sorted({d['struct'] for d in LISTS} | {d['at'] for d in LISTS}))
-    o += 'use crate::text::bytes_of;\nuse crate::text::same;\nghost use Rattle.std.specs.Prelude.{◌≡◌};\n'
-    o += 'ghost use Rattle.record.specs.Base.{Str};\n'
-    steps = [d['C'] + 'From' for d in LISTS]
-    walks = [name for d in LISTS if d['named'] == 'walk' for name in (d['n'] + '_at', d['one'] + '_in', d['one'] + '_found')]
-    for names in (steps[:8], steps[8:], walks[:9], walks[9:]):
-        o += 'ghost use Rattle.record.specs.Steps.{%s};\n' % ', '.join(names)
-    for d in LISTS:
-        where = {'Anything': 'of the record from a cursor on', 'Nothing': 'of the list that goes on at a cursor',
-                 'Keys': 'of the list that goes on at a cursor; plugin keys between the fields are passed over',
-                 'Fields': 'of the list that goes on at a cursor; fields and plugin keys between the variants are passed over'}[d['between']]
-        o += '\n#[derive(Clone, Copy)]\npub enum %(step)s {\n    %(none)s,\n    %(some)s(%(struct)s, Cursor),\n}\n' % d
-        o += '\n// The next %s %s.\n' % (d['words'], where)
-        o += '''pub fn next_%(one)s(stream: &[u8], from: Cursor) -> %(step)s
-    ensures { %(C)sFrom stream.now from.at result }
-{
-    let Sought::At(at, after) = seek(stream, from.at, %(b)d, Between::%(between)s) else {
-        return %(step)s::%(none)s;
-    };
-    %(step)s::%(some)s(%(at)s(cut::from(stream, at)), Cursor::place(after))
+    lists = [d['one'] + '_list' for d in LISTS]
+    names = [d['one'] + '_naming' for d in LISTS if d['named'] == 'walk']
+    for those in (lists[:8], lists[8:], names):
+        o += 'ghost use Rattle.record.specs.Listings.{%s};\n' % ', '.join(those)
+    o += '\nuse crate::command::{%s};\n' % ', '.join(
+        sorted({'Cursor', 'PluginKey', 'Step'} | {d[k] for d in LISTS for k in ('struct', 'at')} - {'UnstoredKey'}))
+    o += 'use crate::cut;\nuse crate::seek::{Between, seek};\nuse crate::text::{Text, bytes_of, same};\n'
+    o += '''
+// The element of a list: which command it is, what may stand between, and how its operands are read.
+pub trait Listed: Copy {
+    ghost list: { Listing Self };
+
+    fn sought() -> (u8, Between)
+        ensures { result ≡ (list.elements.number, list.elements.between) };
+
+    fn read(s: &[u8]) -> Self
+        ensures { result ≡ list.elements.read s.now };
 }
-''' % d
+
+// A plugin key of no field that is stored: its list is not that of the keys after a field.
+#[derive(Clone, Copy)]
+pub struct UnstoredKey {
+    pub key: PluginKey,
+}
+
+// The next element of the list that goes on at a cursor.
+pub fn next<E: Listed>(stream: &[u8], from: Cursor) -> Step<E>
+    ensures { E.list.From stream.now from.at result }
+{
+    let (number, between) = E::sought();
+    let Some((at, after)) = seek(stream, from.at, number, between) else {
+        return None;
+    };
+    Some((E::read(cut::from(stream, at)), Cursor::place(after)))
+}
+'''
     for d in LISTS:
-        if d['named'] == 'walk':
-            o += '''
-// The first %(words)s of that name from a cursor on.
-pub fn find_%(one)s(stream: &[u8], pool: &[u8], from: Cursor, name: &[u8]) -> %(step)s
-    ensures { let s : Str = stream.now in
-        let p : Str = pool.now in
-        %(one)s_in name.now (%(n)s_at s p from.at) ≡ %(one)s_found s p result }
+        o += '''
+impl Listed for %(struct)s {
+    ghost list = { %(one)s_list };
+
+    fn sought() -> (u8, Between) {
+        (%(b)d, Between::%(between)s)
+    }
+
+    fn read(s: &[u8]) -> Self {
+        %(code)s
+    }
+}
+''' % dict(d, code='UnstoredKey { key: key_at(s) }' if d['n'] == 'unstored' else d['at'] + '(s)')
+    o += '''
+// The element of a list that is searched by name.
+pub trait Named: Listed {
+    ghost naming: { Naming Self };
+
+    fn name(self) -> Text
+        ensures { result ≡ naming.name self };
+
+    // The list that is searched is the one that a step goes along.
+    ghost along: { (s : Str) (at : ℕ) (r : Step Self) → Self.list.From s at r → naming.list.From s at r };
+}
+
+// The first element of that name from a cursor on.
+pub fn find<E: Named>(stream: &[u8], pool: &[u8], from: Cursor, name: &[u8]) -> Step<E>
+    ensures { E.naming.Found stream.now pool.now from.at name.now result }
 {
     let mut cursor = from;
     loop {
-        let %(step)s::%(some)s(e, after) = next_%(one)s(stream, cursor) else {
-            return %(step)s::%(none)s;
+        let Some((e, after)) = next::<E>(stream, cursor) else {
+            return None;
         };
-        if same(bytes_of(pool, e.name), name) {
-            return %(step)s::%(some)s(e, after);
+        if same(bytes_of(pool, e.name()), name) {
+            return Some((e, after));
         }
         cursor = after;
+    }
+}
+'''
+    for d in LISTS:
+        if d['named'] == 'walk':
+            o += '''
+impl Named for %(struct)s {
+    ghost naming = { %(one)s_naming };
+
+    ghost along = { λ s at r f. f };
+
+    fn name(self) -> Text {
+        self.name
     }
 }
 ''' % d
     open(R + 'src/lists.rt', 'w').write(o)
 
 
-def declared(d):
-    return '''use Rattle.record.specs.declared.lists.%(step)s.{%(step)s}
-use Rattle.record.specs.declared.lists.%(step)s.TheVariants.{%(none)s, %(some)s}
-''' % d
-
-
 def specs():
     o = '''-- The lists of a record (01, Record commands) from a place on, the first of a name in each, and what a step along each answers. Written by
 -- tools/lists.py. Assumes nothing.
-use Rattle.std.specs.Prelude.{◌≡◌, ℕ, suc, ◌-◌, ◌≤◌, length, get_or, drop}
+use Rattle.std.specs.Prelude.{◌≡◌, ℕ, suc, ◌-◌, ◌≤◌, length, get_or, drop, Option, Some, None}
 use mathlib.Core.List.{List, [], ◌∷◌, Memᴰ}
-use Rattle.std.proofs.Math.Option.{Option, none, some}
 use Rattle.record.specs.Base.{Str, eqs, find, first}
 %(schema)suse Rattle.record.specs.Commands.{field_at, commands_at}
 %(lists)suse Rattle.record.specs.declared.command as D
 use Rattle.record.specs.declared.command.Cursor.{Cursor}
+use Rattle.record.specs.Commands.{Step}
 ''' % dict(schema=imports('use Rattle.record.specs.Schema.', sorted({d['model'] for d in LISTS})),
             lists=imports('use Rattle.record.specs.Lists.', sorted({d['of'] for d in LISTS} | {d['n'] for d in LISTS})))
-    o += ''.join(declared(d) for d in LISTS)
     o += '\n-- the lists that begin at a place\n'
     for d in LISTS:
         o += 'unfoldable pub %(n)s_at : Str → Str → ℕ → List %(model)s\n%(n)s_at s p at = %(n)s s p (commands_at s at)\n\n' % d
@@ -165,24 +201,24 @@ use Rattle.record.specs.declared.command.Cursor.{Cursor}
         if d['n'] == 'fields':
             o += FIELD_PLACE
         o += '''-- %(n)s: the list at a step, and one more than the bytes after the element
-abbrev pub %(n)s_of : Str → Str → %(step)s → List %(model)s
-%(n)s_of s p %(none)s = []
-%(n)s_of s p (%(some)s e k) = %(of)s p e%(kid)s ∷ %(n)s_at s p k.at
+abbrev pub %(n)s_of : Str → Str → Step %(element)s → List %(model)s
+%(n)s_of s p None = []
+%(n)s_of s p (Some (e, k)) = %(of)s p e%(kid)s ∷ %(n)s_at s p k.at
 
-abbrev pub %(n)s_left : Str → %(step)s → ℕ
-%(n)s_left s %(none)s = 0
-%(n)s_left s (%(some)s e k) = suc (length s - k.at)
+abbrev pub %(n)s_left : Str → Step %(element)s → ℕ
+%(n)s_left s None = 0
+%(n)s_left s (Some (e, k)) = suc (length s - k.at)
 
-pub record %(C)sFrom (s : Str) (at : ℕ) (r : %(step)s) : Type 0 where
+pub record %(C)sFrom (s : Str) (at : ℕ) (r : Step %(element)s) : Type 0 where
   pub list : (p : Str) → %(n)s_at s p at ≡ %(n)s_of s p r
   pub left : %(n)s_left s r ≤ length s - at
 %(standing)s
 ''' % d
         if d['named'] in ('walk', 'index'):
             o += '''-- the element alone
-abbrev pub %(one)s_found : Str → Str → %(step)s → Option %(model)s
-%(one)s_found s p %(none)s = none
-%(one)s_found s p (%(some)s e k) = some (%(of)s p e%(kid)s)
+abbrev pub %(one)s_found : Str → Str → Step %(element)s → Option %(model)s
+%(one)s_found s p None = None
+%(one)s_found s p (Some (e, k)) = Some (%(of)s p e%(kid)s)
 
 ''' % d
         if d['named']:
@@ -194,139 +230,117 @@ unfoldable pub %(one)s_in : Str → List %(model)s → Option %(model)s
     open(R + 'specs/Steps.antt', 'w').write(o.rstrip() + '\n')
 
 
+def listings():
+    o = '''-- The fourteen lists of a record, as the one function that goes along them takes them. Written by tools/lists.py. Assumes nothing.
+use Rattle.std.specs.Prelude.{◌≡◌, refl, ℕ, Some, None}
+use Rattle.record.specs.Base.{Str, bytes, first}
+%(schema)suse Rattle.record.specs.Commands.{operands, wide, widths, width_with, width_of, Step}
+%(reads)s%(lists)suse Rattle.record.specs.Listing.{Elements, Answering, Listing, Searching, Naming}
+%(steps)suse Rattle.record.specs.declared.command as D
+use Rattle.record.specs.declared.lists.UnstoredKey.{UnstoredKey}
+use Rattle.record.specs.declared.seek.Between.TheVariants.{Anything, Nothing, Keys, Fields}
+
+-- a step along the unstored keys, each as the plugin key that it is
+abbrev pub bare : Step UnstoredKey → Step D.PluginKey.PluginKey
+bare None = None
+bare (Some (e, k)) = Some (e.key, k)
+
+-- what a step along them answers
+abbrev pub UnstoredKeysFrom : Str → ℕ → Step UnstoredKey → Type 0
+UnstoredKeysFrom s at r = UnstoredFrom s at (bare r)
+''' % dict(schema=imports('use Rattle.record.specs.Schema.', sorted({d['model'] for d in LISTS})),
+            reads=imports('use Rattle.record.specs.Commands.', sorted({d['at'] for d in LISTS})),
+            lists=imports('use Rattle.record.specs.Lists.', sorted({d['of'] for d in LISTS} | {d['n'] for d in LISTS})),
+            steps=imports('use Rattle.record.specs.Steps.', [name % d for d in LISTS for name in
+                                                          ['%(n)s_at', '%(C)sFrom'] + ['%(one)s_found', '%(one)s_in'] * (d['named'] == 'walk')]))
+    for d in LISTS:
+        d = dict(d, e='x', E=d['element'], read=d['at'], From=d['C'] + 'From')
+        if d['n'] == 'unstored':
+            d.update(e='x.key', E='UnstoredKey', read='λ y. record { key = key_at y }', From='UnstoredKeysFrom')
+        o += '''
+-- %(n)s
+abbrev pub %(one)s_elements : Elements %(E)s %(model)s
+%(one)s_elements = record { number = %(b)d; between = %(between)s; read = %(read)s; of = λ s p x rest. %(of)s p %(e)s%(kidrest)s }
+
+pub %(n)s_answers : Answering %(one)s_elements %(From)s
+unfolding %(n)s_at %(n)s%(kidopen)s%(widths)s
+%(n)s_answers = record {
+  over = λ s at o. record { list = o.list; left = o.left%(nowhere)s };
+  next = λ s at e k n h.%(break)srecord { list = n.list; left = n.left%(stands)s };
+}
+
+abbrev pub %(one)s_list : Listing %(E)s
+%(one)s_list = record { Model = %(model)s; elements = %(one)s_elements; From = %(From)s; answers = %(n)s_answers }
+''' % d
+        if d['named'] == 'walk':
+            o += '''
+abbrev pub %(one)s_search : Str → Str → ℕ → Str → Step %(E)s → Type 0
+%(one)s_search s p at n r = %(one)s_in n (%(n)s_at s p at) ≡ %(one)s_found s p r
+
+pub %(n)s_search_answers : Searching %(one)s_elements %(From)s (λ e. e.name) (λ x. x.name) %(one)s_search
+unfolding %(n)s_at %(n)s %(one)s_in%(kidopen)s
+%(n)s_search_answers = record {
+  named = λ s p e rest. refl;
+  over = λ s at f. record { list = f.list; left = f.left };
+  next = λ s at e k f. record { list = f.list; left = f.left };
+  none = λ s p at n h. h;
+  some = λ s p at n e k h. h;
+}
+
+abbrev pub %(one)s_naming : Naming %(E)s
+%(one)s_naming = record {
+  list = %(one)s_list;
+  name = λ e. e.name;
+  name_of = λ x. x.name;
+  Found = %(one)s_search;
+  answers = %(n)s_search_answers;
+}
+''' % d
+    open(R + 'specs/Listings.antt', 'w').write(o)
+
+
 def laws():
-    o = '''-- The laws of each list, as the branches of its iterator and of its look-up need them. Written by tools/lists.py. Assumes nothing.
-use mathlib.Core.Path.{◌≡◌, sym, ap, ap₂, subst, ◌∙◌}
+    o = '''-- The laws of each list, as a walk along it needs them. Written by tools/lists.py. Assumes nothing.
+use Rattle.std.specs.Prelude.{Some, None}
+use mathlib.Core.Path.{◌≡◌, ap, subst, ◌∙◌}
 use mathlib.Core.List.{[], ◌∷◌}
-use mathlib.Core.Bool.{Bool, true, false}
-use Prim.Native.Nat.{ℕ, suc, ◌+◌, ◌-◌, ◌≤◌, ◌<◌}
+use Prim.Native.Nat.{ℕ, suc, ◌-◌, ◌≤◌, ◌<◌}
 use native.Mathlib.Omega.{arith}
-use lib.ListN.{length, drop}
-use Rattle.record.specs.Base.{Str, bytes, eqs}
-use Rattle.record.specs.Stretch.{text_of}
-use Rattle.record.specs.Schema.{%s}
-use Rattle.record.specs.Commands.{operands, wide, widths, width_with, width_of, place, %s}
+use lib.ListN.{length}
+use Rattle.record.specs.Base.{Str}
+use Rattle.record.specs.Commands.{Step}
 use Rattle.record.specs.Lists.{%s}
-use Rattle.record.specs.Seek.{SoughtFrom}
 use Rattle.record.specs.Steps.{field_key_at, FieldPlace, FieldPlaced, %s}
 use Rattle.record.specs.declared.command as D
 use Rattle.record.specs.declared.command.Cursor.{Cursor}
-use Rattle.record.specs.declared.seek.Between.TheVariants.{Anything, Nothing, Keys, Fields}
-use Rattle.record.specs.declared.seek.Sought.{Sought}
-use Rattle.record.specs.declared.seek.Sought.TheVariants.{Nowhere, At}
-use Rattle.record.proofs.SeekLaws.{sought-stands, sought-nearer, listed-none, listed-some}
-use Rattle.record.proofs.ListLaws.{find_none, find-hit, find-miss}
-''' % (', '.join(sorted({d['model'] for d in LISTS if d['named'] == 'walk'})), ', '.join(sorted({d['at'] for d in LISTS})),
-       ', '.join(sorted({d['of'] for d in LISTS} | {d['n'] for d in LISTS})),
-       ', '.join(name % d for d in LISTS for name in
-                 ['%(n)s_at', '%(n)s_of'] + ['%(n)s_left'] * (d['n'] not in UNMEASURED) + ['%(C)sFrom']
-                 + ['%(one)s_found', '%(one)s_in'] * (d['named'] == 'walk')))
+''' % (', '.join(sorted({d['of'] for d in LISTS[1:]})),
+       ', '.join(name % d for d in LISTS[1:] for name in
+                 ['%(n)s_at', '%(n)s_of'] + ['%(n)s_left'] * (d['n'] not in UNMEASURED) + ['%(C)sFrom']))
     # of heads only the first is looked at, so that no law goes on along them
-    o += ''.join(declared(d) for d in LISTS).split('\n', 1)[1]
-    for d in LISTS:
-        d = dict(d, kidopen=''.join(' ' + ('keys_at' if k == 'field_key_at' else k) for k in d['kids']),
-                 kidlist=''.join(' (%s s p j)' % k for k in d['kids']))
-        o += '''
--- %(n)s
-module _ (s : Str) (at : ℕ) (r : Sought) (i : SoughtFrom s %(between)s %(b)d at r) where
-  pub %(n)s-none : r ≡ Nowhere → %(C)sFrom s at %(none)s
-  unfolding %(n)s_at %(n)s
-  %(n)s-none m = record { list = λ p. listed-none s %(between)s %(b)d _ at r i m; left = omega arith%(nowhere)s }
-
-  module _ (a k : ℕ) (m : r ≡ At a k) (y : Str) (e : D.%(struct)s.%(struct)s) (c : Cursor) \
-(d : y ≡ drop a s) (f : e ≡ %(at)s y) (g : c ≡ place k) where
-    %(n)s-here : (p : Str) → %(n)s_at s p at ≡ %(n)s_of s p (%(some)s e c)
-    unfolding %(n)s_at %(n)s%(kidopen)s
-    %(n)s-here p =
-        listed-some s %(between)s %(b)d _ at r i a k m
-        ∙ ap₂ (λ (x : D.%(struct)s.%(struct)s) (j : ℕ). %(of)s p x%(kidlist)s ∷ %(n)s_at s p j) \
-(sym (f ∙ ap %(at)s d)) (sym (ap (λ (x : Cursor). x.at) g))
-''' % d
-        o += FIELD_PLACED if d['n'] == 'fields' else ''
-        o += '''
-    pub %(n)s-found : %(C)sFrom s at (%(some)s e c)
-    %(n)s-found =
-        let h = sought-nearer s %(between)s %(b)d at r i a k m in
-        let q : c.at ≡ k = ap (λ (x : Cursor). x.at) g in
-        record { list = %(n)s-here; left = omega arith%(stands)s }
-
-pub ruleset %(n)s-laws = (%(n)s-none, %(n)s-found)
-''' % d
     for d in LISTS[1:]:
         o += '''
-module _ (s : Str) (at : ℕ) (r : %(step)s) (f : %(C)sFrom s at r) where
+module _ (s : Str) (at : ℕ) (r : Step %(element)s) (f : %(C)sFrom s at r) where
   -- the list itself, at the step
-  pub %(n)s-over-now : (p : Str) → r ≡ %(none)s → %(n)s_at s p at ≡ []
+  pub %(n)s-over-now : (p : Str) → r ≡ None → %(n)s_at s p at ≡ []
   %(n)s-over-now p m = f.list p ∙ ap (%(n)s_of s p) m
 
-  pub %(n)s-now : (p : Str) (e : D.%(struct)s.%(struct)s) (k : Cursor) → r ≡ %(some)s e k → %(n)s_at s p at ≡ %(of)s p e%(kid)s ∷ %(n)s_at s p k.at
+  pub %(n)s-now : (p : Str) (e : %(element)s) (k : Cursor) → r ≡ Some (e, k) → %(n)s_at s p at ≡ %(of)s p e%(kid)s ∷ %(n)s_at s p k.at
   %(n)s-now p e k m = f.list p ∙ ap (%(n)s_of s p) m
 ''' % d
         if d['n'] not in UNMEASURED:
             o += '''
-  pub %(n)s-nearer : (e : D.%(struct)s.%(struct)s) (k : Cursor) → r ≡ %(some)s e k → length s - k.at < length s - at
+  pub %(n)s-nearer : (e : %(element)s) (k : Cursor) → r ≡ Some (e, k) → length s - k.at < length s - at
   %(n)s-nearer e k m = let h : suc (length s - k.at) ≤ length s - at = subst (λ x. %(n)s_left s x ≤ length s - at) m f.left in omega arith
 ''' % d
         if d['n'] == 'fields':
             o += '''
-  pub fields-stand : (e : D.Field.Field) (k : Cursor) → r ≡ AField e k → FieldPlace s at e k
+  pub fields-stand : (e : D.Field.Field) (k : Cursor) → r ≡ Some (e, k) → FieldPlace s at e k
   fields-stand e k m = subst (λ x. FieldPlaced s at x) m f.placed
 '''
-        if d['named'] == 'walk':
-            o += '''
-  pub find-%(one)s-none : (p n : Str) → r ≡ %(none)s → %(one)s_in n (%(n)s_at s p at) ≡ %(one)s_found s p %(none)s
-  unfolding %(one)s_in
-  find-%(one)s-none p n m = find_none (λ (e : %(model)s). eqs e.name n) (%(n)s_at s p at) (%(n)s-over-now p m)
-
-  pub find-%(one)s-hit : (p n x : Str) (b : Bool) (e : D.%(struct)s.%(struct)s) (k : Cursor) → r ≡ %(some)s e k → x ≡ text_of p e.name \
-→ b ≡ eqs x n → b ≡ true → %(one)s_in n (%(n)s_at s p at) ≡ %(one)s_found s p (%(some)s e k)
-  unfolding %(one)s_in
-  find-%(one)s-hit p n x b e k m h i j =
-      find-hit (λ (e : %(model)s). eqs e.name n) (%(n)s_at s p at) _ _ (%(n)s-now p e k m) (ap (λ y. eqs y n) (sym h) ∙ sym i ∙ j)
-
-  pub find-%(one)s-miss : (p n x : Str) (b : Bool) (e : D.%(struct)s.%(struct)s) (k : Cursor) → r ≡ %(some)s e k → x ≡ text_of p e.name \
-→ b ≡ eqs x n → b ≡ false → %(one)s_in n (%(n)s_at s p at) ≡ %(one)s_in n (%(n)s_at s p k.at)
-  unfolding %(one)s_in
-  find-%(one)s-miss p n x b e k m h i j =
-      find-miss (λ (e : %(model)s). eqs e.name n) (%(n)s_at s p at) _ _ (%(n)s-now p e k m) (ap (λ y. eqs y n) (sym h) ∙ sym i ∙ j)
-
-pub ruleset find-%(one)s-laws = (find-%(one)s-none, find-%(one)s-hit, find-%(one)s-miss)
-''' % d
-    open(R + 'proofs/StepLaws.antt', 'w').write(plain(o))
-
-
-FIELD_PLACED = '''
-    fields-placed : FieldPlace s at e c
-    unfolding width_of width_with operands widths wide bytes
-    fields-placed =
-        let h = sought-stands s Keys 11 at r i a k m in
-        let w : k ≡ a + 33 = h.after in
-        let q : c.at ≡ k = ap (λ (x : Cursor). x.at) g in
-        let z : c.at - 33 ≡ a = omega arith in
-        record { past = omega arith; in-stream = rw z h.in-stream; number = rw z h.number; operands = rw z (f ∙ ap field_at d) }
-'''
-
-
-def proofs():
-    for d in LISTS:
-        laws = plain('%(n)s-laws' % d)
-        answers.write('record', 'lists/next_%(one)s' % d, ['use Rattle.record.proofs.StepLaws.{%s}' % laws],
-                      [('returns-in_default', 'search ' + laws), ('returns', 'search ' + laws)])
-        if d['named'] == 'walk':
-            function, laws = 'lists/find_%(one)s' % d, 'search (kept, find-%(one)s-laws)' % d
-            answers.write('record', function, [
-                'use Rattle.record.proofs.TextLaws.{kept}', 'use Rattle.record.proofs.StepLaws.{%(n)s-nearer, find-%(one)s-laws}' % d],
-                [('returns-in_default', laws), ('returns-then-same', laws), ('loop-e-smaller', 'search %(n)s-nearer' % d),
-                 ('loop-e-preserved', laws)])
-            answers.write_invariants('record', function, [
-                'use mathlib.Core.Path.{◌≡◌}', 'use Prim.Native.Nat.{◌-◌}', 'use lib.ListN.{length}',
-                'use Rattle.record.specs.Steps.{%(one)s_in, %(n)s_at}' % d],
-                [('invariant-loop-e', '%(one)s_in l.name (%(n)s_at l.stream l.pool l.initial.cursor.at)'
-                  ' ≡ %(one)s_in l.name (%(n)s_at l.stream l.pool l.cursor.at)' % d),
-                 ('decreases-loop-e', 'length l.stream - l.cursor.at')])
+    open(R + 'proofs/StepLaws.antt', 'w').write(o)
 
 
 code()
 specs()
+listings()
 laws()
-proofs()

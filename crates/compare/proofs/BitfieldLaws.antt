@@ -4,7 +4,7 @@ use mathlib.Core.Bool.{Bool, true, false, ◌&&◌}
 use Prim.Native.Nat.{ℕ}
 use lib.Dec.{eqb}
 use borrow.Author.Tests.{eq-eqb, ne_eqb}
-use Rattle.std.specs.Prelude.{Result, Ok, Err, ⊤, Option, Some, None}
+use Rattle.std.specs.Prelude.{Result, Ok, Err, ⊤, Some, None}
 use Rattle.record.specs.Base.{Str, or_else}
 use Rattle.record.specs.Schema as M
 use Rattle.record.specs.Stretch.{text_of}
@@ -28,37 +28,6 @@ use Rattle.verdicts.proofs.PassLaws.{HandedOn}
 use Rattle.verdicts.proofs.Each.{each-end, each_on, each-stop}
 use Rattle.record.specs.Commands.{Step}
 use Rattle.record.specs.declared.command as D
-
--- a member's width
-pub width-none : (g : Option ℕ) → g ≡ None → 1 ≡ or_else g 1
-unfolding or_else
-width-none g e = rw e
-
-pub width-given : (g : Option ℕ) (n : ℕ) → g ≡ Some n → n ≡ or_else g 1
-unfolding or_else
-width-given g n e = rw e
-
-pub ruleset width-laws = (width-none, width-given)
-
--- whether a member has a bit and a width
-and-false : (a : Bool) → a && false ≡ false
-and-false true = refl
-and-false false = refl
-
-and-true : (a : Bool) → a && true ≡ a
-and-true true = refl
-and-true false = refl
-
-module _ (m : Member) (bit wide x : ℕ) (h : x ≡ or_else m.width 1) where
-  pub span-width : (t : Bool) → x ≡ wide → t ≡ eqb m.bit bit → t ≡ spans_of m bit wide
-  unfolding spans_of
-  span-width t g i = i ∙ sym (and-true (eqb m.bit bit)) ∙ ap (λ y. eqb m.bit bit && y) (sym (eq-eqb _ wide (sym h ∙ g)))
-
-  pub span-other : (x ≡ wide → ⊥) → false ≡ spans_of m bit wide
-  unfolding spans_of
-  span-other g = sym (ap (λ y. eqb m.bit bit && y) (ap (λ y. eqb y wide) (sym h) ∙ ne_eqb x wide g) ∙ and-false (eqb m.bit bit))
-
-pub ruleset spans-laws = (span-width, span-other)
 
 -- a member by its bit and width
 pub record SpanOn (bit wide : ℕ) (s : Str) (a b : ℕ) : Type 0 where

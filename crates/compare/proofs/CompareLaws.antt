@@ -46,6 +46,7 @@ use Rattle.compare.specs.Heads.{HeadRelease, HeadUnreleased}
 use Rattle.compare.specs.Sought.{UnreleasedFrom}
 use Rattle.compare.specs.Passes.{Releases, Prepared, LaidOut}
 use Rattle.compare.specs.declared.compare.Facts.{Facts}
+use Rattle.compare.specs.declared.shipped.Dates.{Dates}
 
 -- a stream that is cut off needs no more room ----------------------------------------------------------------------------
 
@@ -61,9 +62,9 @@ module _ (r u : Str) (n : ℕ) (f : u ≡ take n r) where
 
 -- both records made ready --------------------------------------------------------------------------------------------------
 
-pub prepared : (s p b q : Str) (w : List Scalar) (x y : List ℕ) (t : Text) (o : Option Text) (is was : Ends) → Releases (rec s p w) (rec b q w) t o
-    → IndexedTo s p x is → IndexedTo b q y was → Prepared (rec s p w) (rec b q w) x y (record { current = t; copy = o; is = is; was = was })
-prepared s p b q w x y t o is was g f h = record { releases = g; is = f; was = h }
+pub prepared : (s p b q : Str) (w : List Scalar) (x y : List ℕ) (d : Dates) (is was : Ends) → Releases (rec s p w) (rec b q w) d.current d.copy
+    → IndexedTo s p x is → IndexedTo b q y was → Prepared (rec s p w) (rec b q w) x y (record { dates = d; is = is; was = was })
+prepared s p b q w x y d is was g f h = record { releases = g; is = f; was = h }
 
 pub laid_both : (s p b q : Str) (w : List Scalar) (t z u y d : List ℕ) (n m : ℕ) → Tables (rec s p w) (take n t) z → Tables (rec b q w) (take m u) y → n ≤ length t → m ≤ length u → Room s d
     → LaidOut (rec s p w) (rec b q w) t z u y d (record { types = n; shipped = m })
@@ -181,7 +182,7 @@ module _ (s p b q : Str) (w : List Scalar) (x y : List ℕ) (f : Facts) (g : Pre
   module _ (v : Result ⊤ Verdict) where
     first-releases-at :
         meaning p q v
-        ≡ check_first_releases (text_of p f.current) (opt_of q f.copy) (constants_at s p 0) (constants_at b q 0) (enums_at s p 0) (enums_at b q 0) (plugin_keys (structs_at s p 0) (unstored_at s p 0)) (plugin_keys (structs_at b q 0) (unstored_at b q 0))
+        ≡ check_first_releases (text_of p f.dates.current) (opt_of q f.dates.copy) (constants_at s p 0) (constants_at b q 0) (enums_at s p 0) (enums_at b q 0) (plugin_keys (structs_at s p 0) (unstored_at s p 0)) (plugin_keys (structs_at b q 0) (unstored_at b q 0))
         → meaning p q v ≡ pass_at 2 (schema_of (rec s p w)) (schema_of (rec b q w))
     first-releases-at h = first-releases s p b q w _ _ g.releases v h
 
@@ -196,10 +197,10 @@ module _ (s p b q : Str) (w : List Scalar) (x y : List ℕ) (f : Facts) (g : Pre
       bitfields-at : meaning p q v ≡ check_bitfields (bitfields_at t p 0) (bitfields_at u q 0) → meaning p q v ≡ pass_at 5 (schema_of (rec s p w)) (schema_of (rec b q w))
       bitfields-at h = bitfields s p b q w _ _ g.releases v (h ∙ ap₂ check_bitfields (bitfields-front s p t f.is g.is.ends c) (bitfields-front b q u f.was g.was.ends d))
 
-      bitfield-releases-at : meaning p q v ≡ check_bitfield_releases (text_of p f.current) (bitfields_at t p 0) (bitfields_at u q 0) → meaning p q v ≡ pass_at 6 (schema_of (rec s p w)) (schema_of (rec b q w))
+      bitfield-releases-at : meaning p q v ≡ check_bitfield_releases (text_of p f.dates.current) (bitfields_at t p 0) (bitfields_at u q 0) → meaning p q v ≡ pass_at 6 (schema_of (rec s p w)) (schema_of (rec b q w))
       bitfield-releases-at h =
           bitfield-releases s p b q w _ _ g.releases v
-          (h ∙ ap₂ (check_bitfield_releases (text_of p f.current)) (bitfields-front s p t f.is g.is.ends c) (bitfields-front b q u f.was g.was.ends d))
+          (h ∙ ap₂ (check_bitfield_releases (text_of p f.dates.current)) (bitfields-front s p t f.is g.is.ends c) (bitfields-front b q u f.was g.was.ends d))
 
     -- over the types
     fields-at : meaning p q v ≡ check_fields (types_of (rec s p w)) (types_of (rec b q w)) → meaning p q v ≡ pass_at 7 (schema_of (rec s p w)) (schema_of (rec b q w))
@@ -210,14 +211,14 @@ module _ (s p b q : Str) (w : List Scalar) (x y : List ℕ) (f : Facts) (g : Pre
 
     generations-at : (l m : List ℕ) → Changes (rec s p w) (rec b q w) l m
         → ((w₀ : List Scalar) → Changes (rec s p w₀) (rec b q w₀) l m
-        → meaning p q v ≡ check_generations (text_of p f.current) (opt_of q f.copy) (versions_at s p 0) (types_at s p) (constants_at s p 0) (constants_at b q 0) (changed_types (rec s p w₀) (rec b q w₀)))
+        → meaning p q v ≡ check_generations (text_of p f.dates.current) (opt_of q f.dates.copy) (versions_at s p 0) (types_at s p) (constants_at s p 0) (constants_at b q 0) (changed_types (rec s p w₀) (rec b q w₀)))
         → meaning p q v ≡ pass_at 9 (schema_of (rec s p w)) (schema_of (rec b q w))
     generations-at l m c h = generations s p b q w _ _ g.releases v (h w c)
 
 -- the passes over what is declared outside types, one after the other
 module _ (s p b q : Str) (w : List Scalar) (x y : List ℕ) (f : Facts) (g : Prepared (rec s p w) (rec b q w) x y f) (v₂ : Result ⊤ Verdict)
     (h₂ : meaning p q v₂
-    ≡ check_first_releases (text_of p f.current) (opt_of q f.copy) (constants_at s p 0) (constants_at b q 0) (enums_at s p 0) (enums_at b q 0) (plugin_keys (structs_at s p 0) (unstored_at s p 0)) (plugin_keys (structs_at b q 0) (unstored_at b q 0))) where
+    ≡ check_first_releases (text_of p f.dates.current) (opt_of q f.dates.copy) (constants_at s p 0) (constants_at b q 0) (enums_at s p 0) (enums_at b q 0) (plugin_keys (structs_at s p 0) (unstored_at s p 0)) (plugin_keys (structs_at b q 0) (unstored_at b q 0))) where
   second : meaning p q v₂ ≡ pass_at 2 (schema_of (rec s p w)) (schema_of (rec b q w))
   second = first-releases-at s p b q w x y f g v₂ h₂
 
@@ -245,7 +246,7 @@ module _ (s p b q : Str) (w : List Scalar) (x y : List ℕ) (f : Facts) (g : Pre
         pub fifth-stops : (z : Result ⊤ Verdict) → HandedOn v₅ z → meaning p q z ≡ passes 2 7 (schema_of (rec s p w)) (schema_of (rec b q w))
         fifth-stops z e = declared-row _ _ _ (then-on p q _ _ v₂ second z o₂ (then-on p q _ _ v₃ third z o₃ (then-on p q _ _ v₄ fourth z o₄ (then-stop p q _ _ v₅ fifth z e))))
 
-        pub sixth-ends : (v₆ : Result ⊤ Verdict) → v₅ ≡ Ok tt → meaning p q v₆ ≡ check_bitfield_releases (text_of p f.current) (bitfields_at t p 0) (bitfields_at u q 0) → meaning p q v₆ ≡ passes 2 7 (schema_of (rec s p w)) (schema_of (rec b q w))
+        pub sixth-ends : (v₆ : Result ⊤ Verdict) → v₅ ≡ Ok tt → meaning p q v₆ ≡ check_bitfield_releases (text_of p f.dates.current) (bitfields_at t p 0) (bitfields_at u q 0) → meaning p q v₆ ≡ passes 2 7 (schema_of (rec s p w)) (schema_of (rec b q w))
         sixth-ends v₆ o₅ h₆ =
             declared-row _ _ _
             (then-on p q _ _ v₂ second v₆ o₂ (then-on p q _ _ v₃ third v₆ o₃ (then-on p q _ _ v₄ fourth v₆ o₄ (then-on p q _ _ v₅ fifth v₆ o₅ (bitfield-releases-at s p b q w x y f g v₆ t u c₅ d₅ h₆)))))
@@ -268,7 +269,7 @@ module _ (s p b q : Str) (w : List Scalar) (x y : List ℕ) (f : Facts) (g : Pre
 
     pub ninth-ends : (v₉ : Result ⊤ Verdict) (l m : List ℕ) → v₈ ≡ Ok tt → (v₇ ≡ Ok tt → Changes (rec s p w) (rec b q w) l m)
         → ((w₀ : List Scalar) → Changes (rec s p w₀) (rec b q w₀) l m
-        → meaning p q v₉ ≡ check_generations (text_of p f.current) (opt_of q f.copy) (versions_at s p 0) (types_at s p) (constants_at s p 0) (constants_at b q 0) (changed_types (rec s p w₀) (rec b q w₀)))
+        → meaning p q v₉ ≡ check_generations (text_of p f.dates.current) (opt_of q f.dates.copy) (versions_at s p 0) (types_at s p) (constants_at s p 0) (constants_at b q 0) (changed_types (rec s p w₀) (rec b q w₀)))
         → meaning p q v₉ ≡ passes 7 10 (schema_of (rec s p w)) (schema_of (rec b q w))
     ninth-ends v₉ l m o₈ c h₉ = laid-row _ _ _ (then-on p q _ _ v₇ seventh v₉ o₇ (then-on p q _ _ v₈ eighth v₉ o₈ (generations-at s p b q w x y f g v₉ l m (c o₇) h₉)))
 

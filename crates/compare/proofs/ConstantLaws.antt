@@ -8,19 +8,17 @@ use native.Mathlib.Omega.{arith}
 use lib.ListN.{length, take, drop, get_or, drop_of_length-le}
 use lib.Seq.{take_at, drop-cons}
 use Rattle.std.specs.Prelude.{Result, Ok, Err, ⊤, Option, Some, None}
-use Rattle.record.specs.Base.{Str, eqs, signed, any}
-use Rattle.record.specs.Schema.{Struct}
+use Rattle.record.specs.Base.{Str, eqs, signed, any, find_last}
+use Rattle.record.specs.Schema.{Const, Struct}
 use Rattle.record.specs.Stretch.{text_of}
 use Rattle.record.specs.Fill.{fronted}
 use Rattle.record.specs.Write.{Puts}
 use Rattle.record.specs.Commands.{constant_at}
 use Rattle.record.specs.Lists.{constant_of}
 use Rattle.record.specs.Steps.{structs_at, struct_found, constants_at, constant_found}
-use Rattle.record.specs.Index.{Indexed}
-use Rattle.record.specs.Named.{LastConstant}
 use Rattle.record.specs.Owner.{with_name}
 use Rattle.record.specs.Versioned.{InSlots}
-use Rattle.record.specs.Generation.{generation_of, held_as, HoldsGeneration}
+use Rattle.record.specs.Generation.{generation_of, held_as}
 use Rattle.record.specs.declared.text.Text.{Text}
 use Rattle.record.specs.declared.command.Cursor.{Cursor}
 use Rattle.record.specs.declared.command as C
@@ -126,10 +124,11 @@ module _ (s p n : Str) where
     unfolding held_by_any with_name any
     slot-none m = rw m
 
-    module _ (y : List ℕ) (j : Indexed s p y) (e : C.Struct.Struct) (k : Cursor) (x : Str) (g : Option (Text × ℕ)) (m : r ≡ Some (e, k)) (i : x ≡ text_of p e.name) (h : HoldsGeneration s p y x g) where
+    module _ (e : C.Struct.Struct) (k : Cursor) (x : Str) (g : Option (Text × ℕ)) (m : r ≡ Some (e, k)) (i : x ≡ text_of p e.name)
+        (h : held_as p g ≡ generation_of (structs_at s p 0) (constants_at s p 0) x) where
       of-root : held (with_name (struct_found s p r) []) ≡ holds_in n (held_as p g)
       unfolding held_by_any with_name any
-      of-root = rw (m, ← i, ← h.this j) (or-false (holds_in n (held_as p g)))
+      of-root = rw (m, ← i, ← h) (or-false (holds_in n (held_as p g)))
 
       pub slot-without : g ≡ None → false ≡ held (with_name (struct_found s p r) [])
       unfolding holds_in
@@ -169,13 +168,14 @@ pub ruleset generation-laws = (generation-info, generation-metadata, generation-
 
 -- one constant ------------------------------------------------------------------------------------------------------------
 
-module _ (s p q x : Str) (z : List ℕ) (w : C.Constant.Constant) (r : Step C.Constant.Constant) (d : Indexed s p z) (t : x ≡ text_of q w.name) (h : LastConstant s p z x r) where
+module _ (s p q x : Str) (w : C.Constant.Constant) (r : Step C.Constant.Constant) (t : x ≡ text_of q w.name)
+    (h : find_last (λ (c : Const). eqs c.name x) (constants_at s p 0) ≡ constant_found s p r) where
   abbrev asked : D.Verdict
   asked = check_constant (structs_at s p 0) (constants_at s p 0) (constant_of q w)
 
   found : last_constant (text_of q w.name) (constants_at s p 0) ≡ constant_found s p r
   unfolding last_constant
-  found = ap (λ (y : Str). last_constant y (constants_at s p 0)) (sym t) ∙ h.this d
+  found = ap (λ (y : Str). last_constant y (constants_at s p 0)) (sym t) ∙ h
 
   pub constant-gone : r ≡ None → meaning p q (Err (ConstantGone w.name)) ≡ asked
   unfolding meaning violation check_constant on_found

@@ -9,7 +9,7 @@ use native.Mathlib.Omega.{arith}
 use lib.Dec.{eqb}
 use lib.ListN.{length, take, drop, get_or, drop_of_length-le}
 use lib.Seq.{take_all, take-suc, drop-cons, append_snoc}
-use borrow.Author.Tests.{eq-eqb, ne_eqb, eqb-true, not-true, le-ltb}
+use borrow.Author.Tests.{eqb-true, not-true, le-ltb}
 use Rattle.record.specs.Base.{Str, eqs}
 use Rattle.record.specs.Write.{Puts}
 use Rattle.record.specs.Steps.{families_at}
@@ -33,21 +33,6 @@ use Rattle.compare.proofs.LayoutLaws.{read_back}
 use Rattle.record.specs.Lists.{opt_of}
 
 -- the name before its first two colons ------------------------------------------------------------------------------------
-
-module _ (s : Str) (a b : ℕ) where
-  pub colons-other : a ≡ get_or s 0 0 → (a ≡ 58 → ⊥) → false ≡ colons_first s
-  unfolding colons_first
-  colons-other e h = rw (← e, ne_eqb a 58 h)
-
-  pub colons-one : a ≡ get_or s 0 0 → a ≡ 58 → b ≡ get_or s 1 0 → (b ≡ 58 → ⊥) → false ≡ colons_first s
-  unfolding colons_first
-  colons-one e h f k = rw (← e, ← f, eq-eqb a 58 h, ne_eqb b 58 k)
-
-  pub colons-two : a ≡ get_or s 0 0 → a ≡ 58 → b ≡ get_or s 1 0 → b ≡ 58 → true ≡ colons_first s
-  unfolding colons_first
-  colons-two e h f k = rw (← e, ← f, eq-eqb a 58 h, eq-eqb b 58 k)
-
-pub ruleset colons-laws = (colons-other, colons-one, colons-two)
 
 colons-owning : (x : Str) → colons_first x ≡ true → owning x ≡ []
 unfolding colons_first owning
@@ -82,22 +67,6 @@ module _ (s : Str) (i : ℕ) (e : owning s ≡ take i s ++ owning (drop i s)) wh
 pub ruleset cut-laws = (cut-here, cut-end)
 
 -- variants of one family have one such name -------------------------------------------------------------------------------
-
-module _ (g h i j : ℕ) (e : i ≡ family_part g) where
-  pub one_none : i ≡ 0 → false ≡ one_family g h
-  unfolding one_family
-  one_none z = rw (eq-eqb (family_part g) 0 (sym e ∙ z))
-
-  module _ (z : i ≡ 0 → ⊥) (f : j ≡ family_part h) where
-    pub one-other : (i ≡ j → ⊥) → false ≡ one_family g h
-    unfolding one_family
-    one-other k = rw (ne_eqb (family_part g) 0 (λ q. z (e ∙ q)), ne_eqb (family_part g) (family_part h) (λ q. k (e ∙ q ∙ sym f)))
-
-    pub one_same : i ≡ j → true ≡ one_family g h
-    unfolding one_family
-    one_same k = rw (ne_eqb (family_part g) 0 (λ q. z (e ∙ q)), eq-eqb (family_part g) (family_part h) (sym e ∙ k ∙ f))
-
-pub ruleset family-laws = (one_none, one-other, one_same)
 
 variant-owning : (f a b : Str) → owning (variant_name f a) ≡ owning (variant_name f b)
 unfolding owning variant_name

@@ -1,6 +1,5 @@
 -- The cases of the pass over the enums. s and p are the current stream and pool, b and q the released ones. Assumes nothing.
 use mathlib.Core.Path.{◌≡◌, refl, sym, ap, ◌∙◌}
-use mathlib.Core.List.{List}
 use mathlib.Core.Bool.{false}
 use Prim.Native.Nat.{ℕ}
 use lib.Dec.{eqb}
@@ -12,8 +11,6 @@ use Rattle.record.specs.Stretch.{text_of}
 use Rattle.record.specs.Commands.{start}
 use Rattle.record.specs.Lists.{enum_of, value_of}
 use Rattle.record.specs.Steps.{enums_at, values_at, EnumsFrom, ValuesFrom, enum_in, value_in, enum_found, value_found}
-use Rattle.record.specs.Index.{Indexed}
-use Rattle.record.specs.Named.{FirstEnum}
 use Rattle.record.specs.declared.text.Text.{Text}
 use Rattle.record.specs.declared.command.Cursor.{Cursor}
 use Rattle.record.specs.declared.command.Enum.{Enum}
@@ -102,9 +99,9 @@ module _ (s p b q : Str) (w : Enum) (at : ℕ) (r : Step D.Value.Value) (f : Val
   unfolding meaning check_enum empty ensure
   enum-empty m = rw (values-over-now b at r f q m)
 
-  module _ (e : Value) (k : Cursor) (m : r ≡ Some (e, k)) (x : Str) (y : List ℕ) (i : Step D.Enum.Enum) (t : x ≡ text_of q w.name) (d : Indexed s p y) (h : FirstEnum s p y x i) where
+  module _ (e : Value) (k : Cursor) (m : r ≡ Some (e, k)) (x : Str) (i : Step D.Enum.Enum) (t : x ≡ text_of q w.name) (h : enum_in x (enums_at s p 0) ≡ enum_found s p i) where
     sought : enum_in (text_of q w.name) (enums_at s p 0) ≡ enum_found s p i
-    sought = rw (← t) (h.this d)
+    sought = rw (← t) h
 
     some-values : empty (values_at b q at) ≡ false
     unfolding empty

@@ -1,21 +1,19 @@
 -- The cases of the pass over the first releases. s and p are the current stream and pool, b and q the released ones. Assumes nothing.
 use mathlib.Core.Path.{◌≡◌, sym, ap, ◌∙◌}
 use mathlib.Core.List.{List}
-use mathlib.Core.Bool.{Bool, true, false, not}
+use mathlib.Core.Bool.{Bool, ◌&&◌, true, false, not}
 use Prim.Native.Nat.{ℕ, suc, ◌<◌}
 use native.Mathlib.Omega.{arith}
 use lib.ListN.{length, take}
 use Rattle.std.specs.Prelude.{Result, Ok, Err, ⊤, Option, Some, None}
-use Rattle.record.specs.Base.{Str, eqs, is_some, or_option}
+use Rattle.record.specs.Base.{Str, eqs, is_some, or_option, find_last}
 use Rattle.record.specs.Schema as M
 use Rattle.record.specs.Stretch.{text_of}
 use Rattle.record.specs.Commands.{start}
 use Rattle.record.specs.Lists.{opt_of, constant_of, enum_of, value_of, key_of}
 use Rattle.record.specs.Steps.{constants_at, enums_at, values_at, structs_at, unstored_at, ConstantsFrom, EnumsFrom, ValuesFrom, enum_found}
-use Rattle.record.specs.Index.{Indexed}
 use Rattle.record.specs.Ends.{EndsOf}
 use Rattle.record.specs.declared.ends.Ends.{Ends}
-use Rattle.record.specs.Named.{ApiEnum}
 use Rattle.record.specs.Keys.{plugin_keys, keys_from, plugin_keys_of, AllKeys, PluginKeysFrom}
 use Rattle.record.specs.Dates.{Dated}
 use Rattle.record.specs.declared.text.Text.{Text}
@@ -205,12 +203,12 @@ module _ (s p b q : Str) (now : Text) (copy : Option Text) (e : Enum) (at : ℕ)
     unfolding meaning check_enum_arrival ensure on_found
     enum-undated g = rw (a, g)
 
-    module _ (names : Text) (x : Str) (y : List ℕ) (w : Step C.Enum.Enum) (u : Shipped) (v : Result ⊤ Verdict) (g : e.first_release ≡ Some names) (t : x ≡ text_of p e.name)
-        (d : Indexed b q y) (h : ApiEnum b q y x w) (i : EnumShipped w u)
+    module _ (names : Text) (x : Str) (w : Step C.Enum.Enum) (u : Shipped) (v : Result ⊤ Verdict) (g : e.first_release ≡ Some names) (t : x ≡ text_of p e.name)
+        (h : find_last (λ (m : M.Enum). m.api && eqs m.name x) (enums_at b q 0) ≡ enum_found b q w) (i : EnumShipped w u)
         (j : meaning p q v ≡ check_arrival (text_of p now) (opt_of q copy) (an_enum (text_of p e.name)) (text_of p names) (shipped_of q u)) where
       found : api_enum (text_of p e.name) (enums_at b q 0) ≡ enum_found b q w
       unfolding api_enum
-      found = ap (λ z. api_enum z (enums_at b q 0)) (sym t) ∙ h.this d
+      found = ap (λ z. api_enum z (enums_at b q 0)) (sym t) ∙ h
 
       opened : check_enum_arrival (text_of p now) (opt_of q copy) (enums_at b q 0) (enum_of p e (values_at s p at))
           ≡ (meaning p q v then check_value_arrivals (text_of p now) (opt_of q copy) (text_of p e.name) (opt_of p e.first_release) (enum_found b q w) (values_at s p at))

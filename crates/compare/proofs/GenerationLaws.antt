@@ -2,7 +2,7 @@
 -- current types and of what covers them. Assumes nothing.
 use mathlib.Core.Path.{◌≡◌, refl, sym, ap, ap₂, ◌∙◌}
 use mathlib.Core.List.{List, []}
-use mathlib.Core.Bool.{Bool, true, false, ◌&&◌, and-true, and-false}
+use mathlib.Core.Bool.{Bool, true, false, ◌&&◌}
 use Prim.Native.Nat.{ℕ, ◌+◌, ◌-◌, ◌^◌, ◌≤◌, ◌<◌}
 use native.Mathlib.Omega.{arith}
 use lib.Dec.{eqb}
@@ -15,14 +15,12 @@ use Rattle.record.specs.Stretch.{text_of}
 use Rattle.record.specs.Commands.{start}
 use Rattle.record.specs.Lists.{opt_of, constant_of}
 use Rattle.record.specs.Steps.{structs_at, struct_found, constants_at, constant_in, constant_found, versions_at, VersionsFrom}
-use Rattle.record.specs.Index.{Indexed}
-use Rattle.record.specs.Named.{FirstConstant}
 use Rattle.record.specs.Owner.{with_name}
 use Rattle.record.specs.References.{types_at}
 use Rattle.record.specs.Scalars.{Scalar}
 use Rattle.record.specs.Reading.{rec}
 use Rattle.record.specs.Versioned.{versioned, InSlots}
-use Rattle.record.specs.Generation.{generation_of, held_as, HoldsGeneration}
+use Rattle.record.specs.Generation.{generation_of, held_as}
 use Rattle.record.specs.declared.text.Text.{Text}
 use Rattle.record.specs.declared.command as C
 use Rattle.record.specs.declared.command.Cursor.{Cursor}
@@ -49,13 +47,6 @@ use Rattle.compare.proofs.CoverTableLaws.{cover-filled, covered-table, touched-t
 use Rattle.record.specs.Commands.{Step}
 
 -- version entries ---------------------------------------------------------------------------------------------------------
-
-module _ (p : Str) (v : Version) (root : Str) (n : ℕ) where
-  pub version-other : (v.version ≡ n → ⊥) → false ≡ (eqs (text_of p v.struct_name) root && eqb v.version n)
-  version-other h = rw (ne_eqb v.version n h) (sym (and-false (eqs (text_of p v.struct_name) root)))
-
-  pub version-named : (x : Str) (b : Bool) → v.version ≡ n → x ≡ text_of p v.struct_name → b ≡ eqs x root → b ≡ (eqs (text_of p v.struct_name) root && eqb v.version n)
-  version-named x b h e g = rw (eq-eqb v.version n h, ← e, ← g) (sym (and-true b))
 
 module _ (s p root : Str) (n : ℕ) where
   pub listed-begin : (z : Cursor) → z ≡ start → is_listed root n (versions_at s p 0) ≡ is_listed root n (versions_at s p z.at)
@@ -152,10 +143,10 @@ pub ruleset from-laws = (from-text, from-large, from-rise)
 
 -- one root ----------------------------------------------------------------------------------------------------------------
 
-module _ (p b q now : Str) (copy : Option Text) (vs : List M.Version) (touched : Option Str) (root : Str) (k : Text) (is : ℕ) (x : Str) (y : List ℕ) (r : Step C.Constant.Constant)
-    (e : x ≡ text_of p k) (d : Indexed b q y) (l : FirstConstant b q y x r) where
+module _ (p b q now : Str) (copy : Option Text) (vs : List M.Version) (touched : Option Str) (root : Str) (k : Text) (is : ℕ) (x : Str) (r : Step C.Constant.Constant)
+    (e : x ≡ text_of p k) (l : constant_in x (constants_at b q 0) ≡ constant_found b q r) where
   found : constant_in (text_of p k) (constants_at b q 0) ≡ constant_found b q r
-  found = rw e at (l.this d)
+  found = rw e at l
 
   pub against-none : r ≡ None → meaning p q (Ok tt) ≡ check_against now (opt_of q copy) vs touched root (text_of p k) is (constant_in (text_of p k) (constants_at b q 0))
   unfolding meaning check_against
@@ -169,10 +160,10 @@ module _ (p b q now : Str) (copy : Option Text) (vs : List M.Version) (touched :
 
 pub ruleset against-laws = (against-none, against-from)
 
-module _ (s p q now : Str) (copy : Option Str) (vs : List M.Version) (cs₀ : List Const) (t m : List ℕ) (root : Text) (x : Str) (y : List ℕ) (g : Option (Text × ℕ)) (e : x ≡ text_of p root)
-    (d : Indexed s p y) (h : HoldsGeneration s p y x g) where
+module _ (s p q now : Str) (copy : Option Str) (vs : List M.Version) (cs₀ : List Const) (t m : List ℕ) (root : Text) (x : Str) (g : Option (Text × ℕ)) (e : x ≡ text_of p root)
+    (h : held_as p g ≡ generation_of (structs_at s p 0) (constants_at s p 0) x) where
   gives : generation_of (structs_at s p 0) (constants_at s p 0) (text_of p root) ≡ held_as p g
-  gives = ap (generation_of (structs_at s p 0) (constants_at s p 0)) (sym e) ∙ sym (h.this d)
+  gives = ap (generation_of (structs_at s p 0) (constants_at s p 0)) (sym e) ∙ sym h
 
   generation-none : g ≡ None
       → meaning p q (Err (NoConstant root)) ≡ check_generation now copy vs (structs_at s p 0) (constants_at s p 0) cs₀ (touched_by s p t m) (text_of p root)
@@ -213,19 +204,19 @@ module _ (s p q now : Str) (copy : Option Str) (vs : List M.Version) (ss : List 
 
 -- the root in a slot
 module _ (s p q now : Str) (copy : Option Str) (vs : List M.Version) (cs₀ : List Const) (t m : List ℕ) (r : Step C.Struct.Struct) (e : C.Struct.Struct) (k : Cursor) (f : r ≡ Some (e, k))
-    (x : Str) (y : List ℕ) (g : Option (Text × ℕ)) (i : x ≡ text_of p e.name) (d : Indexed s p y) (h : HoldsGeneration s p y x g) where
+    (x : Str) (g : Option (Text × ℕ)) (i : x ≡ text_of p e.name) (h : held_as p g ≡ generation_of (structs_at s p 0) (constants_at s p 0) x) where
   pub slot-unheld : g ≡ None
       → meaning p q (Err (NoConstant e.name)) ≡ check_roots now copy vs (structs_at s p 0) (constants_at s p 0) cs₀ (touched_by s p t m) (with_name (struct_found s p r) [])
   slot-unheld j =
       slot-root s p q now copy vs (structs_at s p 0) (constants_at s p 0) cs₀ (touched_by s p t m) r e k (Err (NoConstant e.name)) f
-      (generation-none s p q now copy vs cs₀ t m e.name x y g i d h j)
+      (generation-none s p q now copy vs cs₀ t m e.name x g i h j)
 
   pub slot_held : (l : Text) (is : ℕ) (v : Result ⊤ Verdict) → g ≡ Some (l, is)
       → meaning p q v ≡ check_against now copy vs (touched_by s p t m (text_of p e.name)) (text_of p e.name) (text_of p l) is (constant_in (text_of p l) cs₀)
       → meaning p q v ≡ check_roots now copy vs (structs_at s p 0) (constants_at s p 0) cs₀ (touched_by s p t m) (with_name (struct_found s p r) [])
   slot_held l is v j a =
       slot-root s p q now copy vs (structs_at s p 0) (constants_at s p 0) cs₀ (touched_by s p t m) r e k v f
-      (generation-held s p q now copy vs cs₀ t m e.name x y g i d h l is v j a)
+      (generation-held s p q now copy vs cs₀ t m e.name x g i h l is v j a)
 
 pub ruleset slot_laws = (slot-none, slot-unheld, slot_held)
 

@@ -25,7 +25,9 @@ use Rattle.record.specs.declared.command.Cursor.{Cursor}
 use Rattle.record.specs.declared.seek.Between.TheVariants.{Keys}
 use Rattle.record.proofs.Basics.{eqs→eq, eqs-refl}
 use Rattle.record.proofs.ListLaws.{find_none, find-hit, find-miss}
-use Rattle.record.proofs.StepLaws.{fields-none, fields-over-now}
+use Rattle.record.specs.Listings.{field_list}
+use Rattle.record.proofs.ListingLaws.{listing-over}
+use Rattle.record.proofs.StepLaws.{fields-over-now}
 use Rattle.record.proofs.WriterLaws.{puts-exact, puts-front}
 use Rattle.layout.specs.Handles.{layout_of}
 use Rattle.layout.specs.Table.{Typed}
@@ -80,8 +82,8 @@ pub ruleset words-laws = (words-absent, words-given)
 
 pub ruleset alike-laws = (named-alike, array-alike)
 
-pub alike_same : (p q : Str) (d e : Description) (b : Bool) → (b ≡ true → described_as p d ≡ described_as q e) → b ≡ true → true ≡ eqs (described_as p d) (described_as q e)
-alike_same p q d e b f t = sym (eqs-refl (described_as p d)) ∙ ap (eqs (described_as p d)) (f t)
+pub alike_same : (p q : Str) (d e : Description) (b : Bool) → (b ≡ true → described_as p d ≡ described_as q e) → b ≡ true → b ≡ eqs (described_as p d) (described_as q e)
+alike_same p q d e b f t = t ∙ sym (eqs-refl (described_as p d)) ∙ ap (eqs (described_as p d)) (f t)
 
 -- one field ----------------------------------------------------------------------------------------------------------------
 
@@ -187,7 +189,7 @@ pub bare-is : (s : Str) (c : SpotCursor) (k : Cursor) (r : Option (ℕ × ℕ)) 
 unfolding places_from places
 bare-is s c k r m i n p w =
     ap (λ (a : Ahead). places (schema_of (rec s p w)) c.offset (fields_ahead s p a)) m
-    ∙ ap (places (schema_of (rec s p w)) c.offset) (fields-over-now s k.at None (fields-none s k.at r i n) p refl)
+    ∙ ap (places (schema_of (rec s p w)) c.offset) (fields-over-now s k.at None (listing-over field_list s k.at r i n) p refl)
 
 pub bare-both : (s b : Str) (c c₀ : SpotCursor) (t u : Bool) → (t ≡ true → (p : Str) (w : List Scalar) → places_from (rec s p w) c ≡ []) → t ≡ true
     → (u ≡ true → (p : Str) (w : List Scalar) → places_from (rec b p w) c₀ ≡ []) → u ≡ true → (p q : Str) (w : List Scalar) → eq_places (places_from (rec s p w) c) (places_from (rec b q w) c₀) ≡ true

@@ -3,8 +3,8 @@
 use Rattle.std.specs.Prelude.{Option, Some, None}
 use mathlib.Core.Path.{◌≡◌, refl, sym, ap, ◌∙◌}
 use mathlib.Core.List.{List, [], ◌∷◌}
-use mathlib.Core.Bool.{Bool, true, false, cond}
-use Prim.Native.Nat.{ℕ, suc, ◌<◌}
+use mathlib.Core.Bool.{Bool, ◌&&◌, true, false, cond}
+use Prim.Native.Nat.{suc, ◌<◌}
 use native.Mathlib.Omega.{arith}
 use lib.ListN.{length}
 use Rattle.record.specs.Base.{Str, eqs, or_option, with_some, map_option, last_or, find_last}
@@ -12,8 +12,7 @@ use Rattle.record.specs.Schema.{Const, Key, Field, Struct}
 use Rattle.record.specs.Stretch.{text_of}
 use Rattle.record.specs.Lists.{key_of}
 use Rattle.record.specs.Steps.{constants_at, values_at, structs_at, unstored_at, value_in, constant_found, enum_found, value_found}
-use Rattle.record.specs.Index.{Indexed}
-use Rattle.record.specs.Named.{ApiConstant, unstored_found, LastUnstored}
+use Rattle.record.specs.Named.{unstored_found}
 use Rattle.record.specs.Keys.{field_keys, plugin_keys, stored_from, stored_of, AllStored, StoredFrom}
 use Rattle.record.specs.Dates.{Dated}
 use Rattle.record.specs.declared.text.Text.{Text}
@@ -36,11 +35,11 @@ module _ (t : Option Text) where
 
 pub ruleset shipped-laws = (shipped-unstated, shipped-named)
 
--- constants: x is the index of the copy
-module _ (b q : Str) (x : List ℕ) (n : Str) (r : Step D.Constant.Constant) (i : Indexed b q x) (h : ApiConstant b q x n r) where
+-- constants
+module _ (b q n : Str) (r : Step D.Constant.Constant) (h : find_last (λ (c : Const). c.api && eqs c.name n) (constants_at b q 0) ≡ constant_found b q r) where
   released : constant_release n (constants_at b q 0) ≡ map_option (λ (c : Const). c.since) (constant_found b q r)
   unfolding constant_release
-  released = ap (map_option (λ (c : Const). c.since)) (h.this i)
+  released = ap (map_option (λ (c : Const). c.since)) h
 
   pub constant-absent : r ≡ None → shipped_of q Absent ≡ constant_release n (constants_at b q 0)
   unfolding map_option
@@ -157,14 +156,14 @@ module _ (t : Key → Bool) where
   unfolding find_last
   unstored-first ss l = in-structs None ss l ∙ last_else (last_or None t (plugin_keys ss [])) l
 
-module _ (b q : Str) (x : List ℕ) (n : Str) (r : Step D.PluginKey.PluginKey) (i : Indexed b q x) (h : LastUnstored b q x n r) where
+module _ (b q n : Str) (r : Step D.PluginKey.PluginKey) (h : find_last (λ (k : Key). eqs k.name n) (unstored_at b q 0) ≡ unstored_found q r) where
   either : key_release n (plugin_keys (structs_at b q 0) (unstored_at b q 0))
       ≡ map_option (λ (k : Key). k.since) (or_option (unstored_found q r) (find_last (λ (k : Key). eqs k.name n) (plugin_keys (structs_at b q 0) [])))
   unfolding key_release
   either =
       ap (map_option (λ (k : Key). k.since))
       (unstored-first (λ (k : Key). eqs k.name n) (structs_at b q 0) (unstored_at b q 0)
-      ∙ ap (λ (y : Option Key). or_option y (find_last (λ (k : Key). eqs k.name n) (plugin_keys (structs_at b q 0) []))) (h.this i))
+      ∙ ap (λ (y : Option Key). or_option y (find_last (λ (k : Key). eqs k.name n) (plugin_keys (structs_at b q 0) []))) h)
 
   pub key-stored : (w : Shipped) → r ≡ None → shipped_of q w ≡ key_release n (plugin_keys (structs_at b q 0) []) → shipped_of q w ≡ key_release n (plugin_keys (structs_at b q 0) (unstored_at b q 0))
   unfolding key_release or_option

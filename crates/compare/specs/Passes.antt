@@ -27,7 +27,7 @@ pub record Releases (cur rel : Rec) (current : Text) (copy : Option Text) : Type
 
 -- both records are indexed, and the facts are theirs
 pub record Prepared (cur rel : Rec) (index old-index : List ℕ) (f : Facts) : Type 0 where
-  pub releases : Releases cur rel f.current f.copy
+  pub releases : Releases cur rel f.dates.current f.dates.copy
   pub is : IndexedTo cur.stream cur.pool index f.is
   pub was : IndexedTo rel.stream rel.pool old-index f.was
 

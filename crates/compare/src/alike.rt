@@ -1,11 +1,15 @@
 // Fields of two types that are alike in all that their commands say: most are, and this is seen without their offsets and descriptions.
-ghost use Rattle.std.specs.Prelude.{◌+◌, ◌≤◌, ◌≡◌, true, [], length, drop, None};
+ghost use Rattle.std.specs.Prelude.{◌+◌, ◌≤◌, ◌≡◌, true, length, drop, None};
 ghost use Rattle.record.specs.Commands.{field_at};
 ghost use Rattle.record.specs.Lists.{field_of};
-ghost use Rattle.record.specs.Reading.{Rec, rec};
+ghost use Rattle.record.specs.Reading.{Rec};
+ghost use Rattle.compare.specs.Catalog.{read};
+ghost use Rattle.compare.specs.Sides.{now_of, then_of};
 ghost use Rattle.compare.specs.Alike.{body_at, SameTexts, SameNumbers, AlikeFrom, AlikePassed};
 
+use crate::catalog::Record;
 use crate::layouts::alike_words;
+use crate::sides::Sides;
 use layout::field_sizes::size_before;
 use layout::spots::{Ahead, SpotCursor};
 use record::command::Cursor;
@@ -40,52 +44,38 @@ fn alike_texts(pool: &[u8], s: &[u8], old_pool: &[u8], t: &[u8]) -> bool
 }
 
 // Whether the fields whose commands are at two places are alike. A field takes 33 bytes.
-fn alike_at(
-    stream: &[u8],
-    pool: &[u8],
-    a: usize,
-    old_stream: &[u8],
-    old_pool: &[u8],
-    b: usize,
-) -> bool
-    requires { (a + 33 ≤ length stream.now) × (b + 33 ≤ length old_stream.now) }
-    ensures { let cur : Rec = rec stream.now pool.now [] in
-        let rel : Rec = rec old_stream.now old_pool.now [] in
+fn alike_at(current: &Record, a: usize, released: &Record, b: usize) -> bool
+    requires { (a + 33 ≤ length current.now.stream.now) × (b + 33 ≤ length released.now.stream.now) }
+    ensures { let cur : Rec = read current.now in
+        let rel : Rec = read released.now in
         (result ≡ true → field_of cur.pool (field_at (drop a cur.stream)) None ≡ field_of rel.pool (field_at (drop b rel.stream)) None) }
 {
     let end = a + 33;
-    let s = &stream[a..end];
+    let s = &current.stream[a..end];
     let last = b + 33;
-    let t = &old_stream[b..last];
-    alike_numbers(s, t) && alike_texts(pool, s, old_pool, t)
+    let t = &released.stream[b..last];
+    alike_numbers(s, t) && alike_texts(current.pool, s, released.pool, t)
 }
 
 // The next fields from two places on, where they are alike and of one size: the place of the first, the places after them and the size.
-pub(crate) fn next_alike(
-    stream: &[u8],
-    pool: &[u8],
-    sizes: &[u64],
-    at: usize,
-    old_stream: &[u8],
-    old_pool: &[u8],
-    old_sizes: &[u64],
-    to: usize,
-) -> Option<(usize, usize, usize, u64)>
-    ensures { let cur : Rec = rec stream.now pool.now [] in
-        let rel : Rec = rec old_stream.now old_pool.now [] in
-        AlikeFrom cur.stream cur.pool sizes.now at rel.stream rel.pool old_sizes.now to result }
+pub(crate) fn next_alike(sides: &Sides, at: usize, to: usize) -> Option<(usize, usize, usize, u64)>
+    ensures { let cur : Rec = now_of sides.now in
+        let rel : Rec = then_of sides.now in
+        AlikeFrom cur.stream cur.pool sides.now.current.sizes.now at rel.stream rel.pool sides.now.released.sizes.now to result }
 {
-    let Some((a, after)) = seek(stream, at, 11, Between::Keys) else {
+    let current = sides.current;
+    let released = sides.released;
+    let Some((a, after)) = seek(current.record.stream, at, 11, Between::Keys) else {
         return None;
     };
-    let Some((b, next)) = seek(old_stream, to, 11, Between::Keys) else {
+    let Some((b, next)) = seek(released.record.stream, to, 11, Between::Keys) else {
         return None;
     };
-    let size = size_before(sizes, after);
-    if size != size_before(old_sizes, next) {
+    let size = size_before(current.sizes, after);
+    if size != size_before(released.sizes, next) {
         return None;
     }
-    if alike_at(stream, pool, a, old_stream, old_pool, b) {
+    if alike_at(&current.record, a, &released.record, b) {
         return Some((a, after, next, size));
     }
     None
@@ -119,28 +109,16 @@ pub(crate) fn bodies_at(at: usize, to: usize, offset: u64) -> Both
 }
 
 // The fields from two places on without those at their fronts that are alike.
-fn pass_places(
-    stream: &[u8],
-    pool: &[u8],
-    sizes: &[u64],
-    from: usize,
-    old_stream: &[u8],
-    old_pool: &[u8],
-    old_sizes: &[u64],
-    other: usize,
-    start: u64,
-) -> Both
-    ensures { let cur : Rec = rec stream.now pool.now [] in
-        let rel : Rec = rec old_stream.now old_pool.now [] in
-        AlikePassed cur.stream cur.pool sizes.now rel.stream rel.pool old_sizes.now
+fn pass_places(sides: &Sides, from: usize, other: usize, start: u64) -> Both
+    ensures { let cur : Rec = now_of sides.now in
+        let rel : Rec = then_of sides.now in
+        AlikePassed cur.stream cur.pool sides.now.current.sizes.now rel.stream rel.pool sides.now.released.sizes.now
         (body_at from start) (body_at other start) result.is result.was }
 {
     let mut at = from;
     let mut to = other;
     let mut offset = start;
-    while let Some((_, after, next, size)) = next_alike(
-        stream, pool, sizes, at, old_stream, old_pool, old_sizes, to,
-    ) {
+    while let Some((_, after, next, size)) = next_alike(sides, at, to) {
         offset = sum(offset, size);
         at = after;
         to = next;
@@ -149,19 +127,10 @@ fn pass_places(
 }
 
 // The fields from two cursors on without those at their fronts that are alike; before the front of a family none is passed over.
-pub(crate) fn pass_alike(
-    stream: &[u8],
-    pool: &[u8],
-    sizes: &[u64],
-    is: SpotCursor,
-    old_stream: &[u8],
-    old_pool: &[u8],
-    old_sizes: &[u64],
-    was: SpotCursor,
-) -> Both
-    ensures { let cur : Rec = rec stream.now pool.now [] in
-        let rel : Rec = rec old_stream.now old_pool.now [] in
-        AlikePassed cur.stream cur.pool sizes.now rel.stream rel.pool old_sizes.now is was result.is result.was }
+pub(crate) fn pass_alike(sides: &Sides, is: SpotCursor, was: SpotCursor) -> Both
+    ensures { let cur : Rec = now_of sides.now in
+        let rel : Rec = then_of sides.now in
+        AlikePassed cur.stream cur.pool sides.now.current.sizes.now rel.stream rel.pool sides.now.released.sizes.now is was result.is result.was }
 {
     let Ahead::Body(k) = is.ahead else {
         return Both { is, was };
@@ -172,7 +141,5 @@ pub(crate) fn pass_alike(
     if is.offset != was.offset {
         return Both { is, was };
     }
-    pass_places(
-        stream, pool, sizes, k.at, old_stream, old_pool, old_sizes, l.at, is.offset,
-    )
+    pass_places(sides, k.at, l.at, is.offset)
 }

@@ -1,41 +1,39 @@
 // The pass over the bit fields: a released member keeps its name and its bits.
-ghost use Rattle.std.specs.Prelude.{◌≡◌, []};
+ghost use Rattle.std.specs.Prelude.{◌≡◌};
 ghost use Rattle.record.specs.Base.{Str, or_else};
 ghost use Rattle.record.specs.Stretch.{text_of};
 ghost use Rattle.record.specs.Lists.{bitfield_of, member_of};
 ghost use Rattle.record.specs.Schema as M;
 ghost use Rattle.record.specs.Steps.{members_at};
-ghost use Rattle.record.specs.Reading.{Rec, rec};
+ghost use Rattle.record.specs.Reading.{Rec};
 ghost use Rattle.definition.specs.Verdicts.{member_renamed, member_gone};
 ghost use Rattle.definition.specs.Pass.{on_found};
 ghost use Rattle.definition.specs.Bitfields.{span_in, check_member, check_members, check_bitfield, check_bitfields};
 ghost use Rattle.compare.specs.Sought.{spans_of, SpanFrom};
+ghost use Rattle.compare.specs.Catalog.{read};
 ghost use Rattle.compare.specs.Records.{bitfield_list};
 ghost use Rattle.verdicts.specs.Meaning.{meaning};
 
+use crate::catalog::Record;
 use record::command::{Bitfield, Cursor, Member, Step};
-use record::lists::{find_bitfield, find_member, next_bitfield, next_member};
+use record::lists::{find, next};
 use record::text::{Text, bytes_of};
 use verdicts::verdict::Verdict;
 
 // A member's width: one bit where none is given.
+#[tactic(auto, unfolding(record::specs::Base::or_else))]
 fn width(given: Option<u32>) -> u32
     ensures { result ≡ or_else given 1 }
 {
-    match given {
-        None => 1,
-        Some(n) => n,
-    }
+    given.unwrap_or(1)
 }
 
 // Whether a member has that bit and width.
+#[tactic(auto, unfolding(crate::specs::Sought::spans_of))]
 fn spans(m: Member, bit: u32, wide: u32) -> bool
     ensures { result ≡ spans_of m bit wide }
 {
-    if width(m.width) != wide {
-        return false;
-    }
-    m.bit == bit
+    width(m.width) == wide && m.bit == bit
 }
 
 // The first member with that bit and width from a cursor on.
@@ -43,7 +41,7 @@ fn find_span(stream: &[u8], from: Cursor, bit: u32, wide: u32) -> Step<Member>
     ensures { SpanFrom bit wide stream.now from.at result }
 {
     let mut cursor = from;
-    while let Some((m, after)) = next_member(stream, cursor) {
+    while let Some((m, after)) = next::<Member>(stream, cursor) {
         if spans(m, bit, wide) {
             return Some((m, after));
         }
@@ -77,22 +75,21 @@ fn check_unnamed(
 
 // One released member against those that are now, from a cursor on.
 fn check_member(
-    stream: &[u8],
-    pool: &[u8],
+    current: &Record,
     old_pool: &[u8],
     is: Cursor,
     owner: Text,
     was: Member,
 ) -> Result<(), Verdict>
-    ensures { let cur : Rec = rec stream.now pool.now [] in
+    ensures { let cur : Rec = read current.now in
         let q : Str = old_pool.now in
         meaning cur.pool q result ≡ check_member (text_of q owner) (members_at cur.stream cur.pool is.at) (member_of q was) }
 {
     let name = was.name;
     let wide = width(was.width);
-    let named = find_member(stream, pool, is, bytes_of(old_pool, name));
+    let named = find::<Member>(current.stream, current.pool, is, bytes_of(old_pool, name));
     let Some((m, _)) = named else {
-        return check_unnamed(stream, is, owner, name, was.bit, wide);
+        return check_unnamed(current.stream, is, owner, name, was.bit, wide);
     };
     if m.bit != was.bit {
         return Err(Verdict::BitMoved {
@@ -116,22 +113,20 @@ fn check_member(
 
 // The released members from a cursor on against those that are now.
 fn check_members(
-    stream: &[u8],
-    pool: &[u8],
-    old_stream: &[u8],
-    old_pool: &[u8],
+    current: &Record,
+    released: &Record,
     is: Cursor,
     owner: Text,
     from: Cursor,
 ) -> Result<(), Verdict>
-    ensures { let cur : Rec = rec stream.now pool.now [] in
-        let rel : Rec = rec old_stream.now old_pool.now [] in
+    ensures { let cur : Rec = read current.now in
+        let rel : Rec = read released.now in
         meaning cur.pool rel.pool result ≡ check_members (text_of rel.pool owner) (members_at cur.stream cur.pool is.at)
         (members_at rel.stream rel.pool from.at) }
 {
     let mut cursor = from;
-    while let Some((was, after)) = next_member(old_stream, cursor) {
-        check_member(stream, pool, old_pool, is, owner, was)?;
+    while let Some((was, after)) = next::<Member>(released.stream, cursor) {
+        check_member(current, released.pool, is, owner, was)?;
         cursor = after;
     }
     Ok(())
@@ -139,39 +134,37 @@ fn check_members(
 
 // One released bit field, whose members begin at a cursor.
 fn check_bitfield(
-    stream: &[u8],
-    pool: &[u8],
-    old_stream: &[u8],
-    old_pool: &[u8],
+    current: &Record,
+    released: &Record,
     was: Bitfield,
     from: Cursor,
 ) -> Result<(), Verdict>
-    ensures { let cur : Rec = rec stream.now pool.now [] in
-        let rel : Rec = rec old_stream.now old_pool.now [] in
+    ensures { let cur : Rec = read current.now in
+        let rel : Rec = read released.now in
         meaning cur.pool rel.pool result
         ≡ check_bitfield (bitfield_list cur) (bitfield_of rel.pool was (members_at rel.stream rel.pool from.at)) }
 {
     let name = was.name;
-    let Some((_, is)) = find_bitfield(stream, pool, Cursor::new(), bytes_of(old_pool, name)) else {
+    let Some((_, is)) = find::<Bitfield>(
+        current.stream,
+        current.pool,
+        Cursor::new(),
+        bytes_of(released.pool, name),
+    ) else {
         return Err(Verdict::BitFieldGone { name });
     };
-    check_members(stream, pool, old_stream, old_pool, is, name, from)
+    check_members(current, released, is, name, from)
 }
 
 // The first bit field or member of the release that does not stand as it was.
-pub fn check_bitfields(
-    stream: &[u8],
-    pool: &[u8],
-    old_stream: &[u8],
-    old_pool: &[u8],
-) -> Result<(), Verdict>
-    ensures { let cur : Rec = rec stream.now pool.now [] in
-        let rel : Rec = rec old_stream.now old_pool.now [] in
+pub fn check_bitfields(current: &Record, released: &Record) -> Result<(), Verdict>
+    ensures { let cur : Rec = read current.now in
+        let rel : Rec = read released.now in
         meaning cur.pool rel.pool result ≡ check_bitfields (bitfield_list cur) (bitfield_list rel) }
 {
     let mut cursor = Cursor::new();
-    while let Some((was, after)) = next_bitfield(old_stream, cursor) {
-        check_bitfield(stream, pool, old_stream, old_pool, was, after)?;
+    while let Some((was, after)) = next::<Bitfield>(released.stream, cursor) {
+        check_bitfield(current, released, was, after)?;
         cursor = after;
     }
     Ok(())

@@ -6,6 +6,7 @@ ghost use Rattle.record.specs.Scalars.{built_in};
 ghost use Rattle.record.specs.Reading.{Rec, rec};
 ghost use Rattle.definition.specs.Answer.{verdict_of, check};
 
+use crate::catalog::Record;
 use crate::compare::compare;
 use layout::answer::{Answer, refused};
 use record::read::read_record;
@@ -60,6 +61,11 @@ pub fn check(
     if let Err((refusal, place)) = read_record(Side::Released, &rows, old_stream, old_pool) {
         return refused(Side::Released, refusal, place);
     }
-    let found = compare(&rows, stream, pool, old_stream, old_pool);
+    let current = Record { stream, pool };
+    let released = Record {
+        stream: old_stream,
+        pool: old_pool,
+    };
+    let found = compare(&rows, &current, &released);
     answer_verdict(out, found, pool, old_pool)
 }

@@ -4,23 +4,22 @@ ghost use Rattle.record.specs.Base.{Str, eqs, signed};
 ghost use Rattle.record.specs.Lists.{constant_of};
 ghost use Rattle.record.specs.Steps.{struct_found};
 ghost use Rattle.record.specs.Owner.{with_name};
-ghost use Rattle.record.specs.Index.{Indexed};
-ghost use Rattle.record.specs.Reading.{Rec, rec};
+ghost use Rattle.record.specs.Reading.{Rec};
 ghost use Rattle.layout.specs.Room.{Room};
 ghost use Rattle.layout.specs.Constants.{placed_constant};
 ghost use Rattle.definition.specs.Constants.{constant_text};
 ghost use Rattle.verdicts.specs.Arguments.{value_meant};
 ghost use Rattle.definition.specs.Constants.{held_by_any, is_generation, check_constant, check_constants_in, check_constants};
 ghost use Rattle.compare.specs.Sought.{HoldsValue};
+ghost use Rattle.compare.specs.Catalog.{read};
 ghost use Rattle.compare.specs.Records.{constant_list, struct_list};
 ghost use Rattle.verdicts.specs.Meaning.{meaning};
 
+use crate::catalog::{Catalog, Record};
 use crate::required::required_text;
 use layout::constants::{constant_table, placed_constant};
 use record::command::{Constant, Step, Struct};
 use record::cut::upto;
-use record::generation::generation_constant;
-use record::named::last_constant;
 use record::text::{bytes_of, same};
 use record::versioned::versioned_structs;
 use record::writer::put_signed;
@@ -84,61 +83,51 @@ fn same_value(pool: &[u8], is: ConstantValue, old_pool: &[u8], was: ConstantValu
 }
 
 // Whether the structure in a slot keeps its generation in the constant of that name.
-fn slot_holds(stream: &[u8], pool: &[u8], index: &[u16], slot: Step<Struct>, name: &[u8]) -> bool
-    requires { Indexed stream.now pool.now index.now }
-    ensures { let cur : Rec = rec stream.now pool.now [] in
+fn slot_holds(current: &Catalog, slot: Step<Struct>, name: &[u8]) -> bool
+    ensures { let cur : Rec = read current.now.record in
         result ≡ held_by_any (struct_list cur) (constant_list cur) (with_name (struct_found cur.stream cur.pool slot) []) name.now }
 {
     let Some((e, _)) = slot else {
         return false;
     };
-    let generation = generation_constant(stream, pool, index, bytes_of(pool, e.name));
-    let Some((constant, _)) = generation else {
+    let pool = current.record.pool;
+    let Some((constant, _)) = current.generation(bytes_of(pool, e.name)) else {
         return false;
     };
     same(bytes_of(pool, constant), name)
 }
 
 // Whether the constant of that name holds a generation: these are meant to change.
-fn is_generation(stream: &[u8], pool: &[u8], index: &[u16], name: &[u8]) -> bool
-    requires { Indexed stream.now pool.now index.now }
-    ensures { let cur : Rec = rec stream.now pool.now [] in
+fn is_generation(current: &Catalog, name: &[u8]) -> bool
+    ensures { let cur : Rec = read current.now.record in
         result ≡ is_generation (struct_list cur) (constant_list cur) name.now }
 {
-    let slots = versioned_structs(stream, pool);
-    if slot_holds(stream, pool, index, slots.info, name) {
+    let slots = versioned_structs(current.record.stream, current.record.pool);
+    if slot_holds(current, slots.info, name) {
         return true;
     }
-    if slot_holds(stream, pool, index, slots.metadata, name) {
+    if slot_holds(current, slots.metadata, name) {
         return true;
     }
-    slot_holds(stream, pool, index, slots.runtime, name)
+    slot_holds(current, slots.runtime, name)
 }
 
 // One released constant against the last current one of its name; the values come first, since most are the same.
-fn check_constant(
-    stream: &[u8],
-    pool: &[u8],
-    index: &[u16],
-    old_pool: &[u8],
-    was: Constant,
-) -> Result<(), Verdict>
-    requires { Indexed stream.now pool.now index.now }
-    ensures { let cur : Rec = rec stream.now pool.now [] in
+fn check_constant(current: &Catalog, old_pool: &[u8], was: Constant) -> Result<(), Verdict>
+    ensures { let cur : Rec = read current.now.record in
         let q : Str = old_pool.now in
         meaning cur.pool q result ≡ check_constant (struct_list cur) (constant_list cur) (constant_of q was) }
 {
     let name = was.name;
-    let last = last_constant(stream, pool, index, bytes_of(old_pool, name));
-    let Some((c, _)) = last else {
+    let Some((c, _)) = current.last_constant(bytes_of(old_pool, name)) else {
         return Err(Verdict::ConstantGone { name });
     };
     let held = value_of(was);
     let holds = value_of(c);
-    if same_value(pool, holds, old_pool, held) {
+    if same_value(current.record.pool, holds, old_pool, held) {
         return Ok(());
     }
-    if is_generation(stream, pool, index, bytes_of(old_pool, name)) {
+    if is_generation(current, bytes_of(old_pool, name)) {
         return Ok(());
     }
     Err(Verdict::ConstantChanged {
@@ -149,50 +138,33 @@ fn check_constant(
 }
 
 // The released constants at these places, one after the other.
-fn check_placed(
-    stream: &[u8],
-    pool: &[u8],
-    index: &[u16],
-    old_stream: &[u8],
-    old_pool: &[u8],
-    table: &[u32],
-) -> Result<(), Verdict>
-    requires { Indexed stream.now pool.now index.now }
-    ensures { let cur : Rec = rec stream.now pool.now [] in
-        let rel : Rec = rec old_stream.now old_pool.now [] in
+fn check_placed(current: &Catalog, released: &Record, table: &[u32]) -> Result<(), Verdict>
+    ensures { let cur : Rec = read current.now.record in
+        let rel : Rec = read released.now in
         meaning cur.pool rel.pool result
         ≡ check_constants_in (struct_list cur) (constant_list cur) (map (placed_constant rel.stream rel.pool) table.now) }
 {
     for place in table {
-        check_constant(
-            stream,
-            pool,
-            index,
-            old_pool,
-            placed_constant(old_stream, *place),
-        )?;
+        let was = placed_constant(released.stream, *place);
+        check_constant(current, released.pool, was)?;
     }
     Ok(())
 }
 
 // The first constant of the release, in byte order of the names, that does not stand as it was.
 pub(crate) fn check_constants(
-    stream: &[u8],
-    pool: &[u8],
-    index: &[u16],
-    old_stream: &[u8],
-    old_pool: &[u8],
+    current: &Catalog,
+    released: &Record,
     table: &mut [u32],
     scratch: &mut [u32],
 ) -> Result<(), Verdict>
-    requires { (length old_stream.now ≤ 32768)
-        × Room old_stream.now table.old
-        × Room old_stream.now scratch.old
-        × Indexed stream.now pool.now index.now }
-    ensures { let cur : Rec = rec stream.now pool.now [] in
-        let rel : Rec = rec old_stream.now old_pool.now [] in
+    requires { (length released.now.stream.now ≤ 32768)
+        × Room released.now.stream.now table.old
+        × Room released.now.stream.now scratch.old }
+    ensures { let cur : Rec = read current.now.record in
+        let rel : Rec = read released.now in
         meaning cur.pool rel.pool result ≡ check_constants (struct_list cur) (constant_list cur) (constant_list rel) }
 {
-    let n = constant_table(old_stream, old_pool, table, scratch);
-    check_placed(stream, pool, index, old_stream, old_pool, &table[..n])
+    let n = constant_table(released.stream, released.pool, table, scratch);
+    check_placed(current, released, &table[..n])
 }

@@ -16,16 +16,11 @@ use record::text::{Text, same};
 use record::versioned::Versioned;
 
 // Whether a text begins with two colons.
+#[tactic(auto, unfolding(crate::specs::CoverTable::colons_first))]
 fn colons_first(s: &[u8]) -> bool
     ensures { result ≡ colons_first s.now }
 {
-    if byte_at(s, 0) != 58 {
-        return false;
-    }
-    if byte_at(s, 1) != 58 {
-        return false;
-    }
-    true
+    byte_at(s, 0) == b':' && byte_at(s, 1) == b':'
 }
 
 // The name before its first two colons; all of it where there are none.
@@ -41,17 +36,12 @@ fn before_colons(name: &[u8]) -> &[u8]
 }
 
 // Whether two types are variants of one family.
+#[tactic(auto, unfolding(crate::specs::CoverTable::one_family))]
 fn one_family(g: u32, h: u32) -> bool
     ensures { result ≡ one_family g h }
 {
     let family = family_part(g);
-    if family == 0 {
-        return false;
-    }
-    if family != family_part(h) {
-        return false;
-    }
-    true
+    family != 0 && family == family_part(h)
 }
 
 // Whether two types have one name before the first "::": variants of one family do, and so it is asked of the handles first.

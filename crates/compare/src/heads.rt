@@ -1,15 +1,15 @@
 // What a record's head says.
 ghost use Rattle.compare.specs.Heads.{HeadRelease, HeadUnreleased};
 
-use record::command::Cursor;
-use record::lists::next_head;
+use record::command::{Cursor, Head};
+use record::lists::next;
 use record::text::Text;
 
 // The release that a record names.
 pub fn head_release(stream: &[u8]) -> Option<Text>
     ensures { HeadRelease stream.now result }
 {
-    let Some((head, _)) = next_head(stream, Cursor::new()) else {
+    let Some((head, _)) = next::<Head>(stream, Cursor::new()) else {
         return None;
     };
     head.release
@@ -19,7 +19,7 @@ pub fn head_release(stream: &[u8]) -> Option<Text>
 pub fn head_unreleased(stream: &[u8]) -> bool
     ensures { HeadUnreleased stream.now result }
 {
-    let Some((head, _)) = next_head(stream, Cursor::new()) else {
+    let Some((head, _)) = next::<Head>(stream, Cursor::new()) else {
         return false;
     };
     head.unreleased

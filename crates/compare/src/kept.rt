@@ -1,14 +1,17 @@
 // Released fields that stand as they were, passed over: where the fields of two types are alike one after the other, a current one is the first of
 // its name unless one before it has that name's number, so that hardly any has to be looked up.
-ghost use Rattle.std.specs.Prelude.{◌≤◌, ◌≡◌, true, false, [], length, get_or};
-ghost use Rattle.record.specs.Reading.{Rec, rec};
+ghost use Rattle.std.specs.Prelude.{◌≤◌, ◌≡◌, true, false, length, get_or};
+ghost use Rattle.record.specs.Reading.{Rec};
 ghost use Rattle.layout.specs.Spots.{OthersPassed};
+ghost use Rattle.compare.specs.Catalog.{read};
+ghost use Rattle.compare.specs.Sides.{now_of, then_of};
 ghost use Rattle.compare.specs.Near.{key_of};
 ghost use Rattle.compare.specs.Alike.{body_at};
 ghost use Rattle.compare.specs.Kept.{KeptPassed, Noted, Noting, KeptFrom};
 
 use crate::alike::{Both, bodies_at, next_alike};
 use crate::near::key_of;
+use crate::sides::{Measured, Sides};
 use layout::names::name_at;
 use layout::spots::{Ahead, SpotCursor, pass_others};
 use record::sizes::sum;
@@ -28,20 +31,13 @@ fn note(seen: &mut [u8], name: &[u8]) -> bool
 }
 
 // Whether no field before a place has this name, by a look from the front.
-fn leads(
-    stream: &[u8],
-    pool: &[u8],
-    sizes: &[u64],
-    front: SpotCursor,
-    name: &[u8],
-    at: usize,
-    offset: u64,
-) -> bool
-    ensures { let cur : Rec = rec stream.now pool.now [] in
+fn leads(current: &Measured, front: SpotCursor, name: &[u8], at: usize, offset: u64) -> bool
+    ensures { let cur : Rec = read current.now.record in
         (result ≡ true
-        → OthersPassed cur.stream cur.pool sizes.now name.now front (body_at at offset)) }
+        → OthersPassed cur.stream cur.pool current.now.sizes.now name.now front (body_at at offset)) }
 {
-    let c = pass_others(stream, pool, sizes, front, name);
+    let record = current.record;
+    let c = pass_others(record.stream, record.pool, current.sizes, front, name);
     let Ahead::Body(k) = c.ahead else {
         return false;
     };
@@ -53,23 +49,22 @@ fn leads(
 
 // Whether no field before a place has this name, by the numbers noted so far first; notes the name's number.
 fn is_first(
-    stream: &[u8],
-    pool: &[u8],
-    sizes: &[u64],
+    current: &Measured,
     front: SpotCursor,
     seen: &mut [u8],
     name: &[u8],
     at: usize,
     offset: u64,
 ) -> bool
-    requires { Noted stream.now pool.now sizes.now front seen.old at offset × (1024 ≤ length seen.old) }
-    ensures { let cur : Rec = rec stream.now pool.now [] in
+    requires { let cur : Rec = read current.now.record in
+        Noted cur.stream cur.pool current.now.sizes.now front seen.old at offset × (1024 ≤ length seen.old) }
+    ensures { let cur : Rec = read current.now.record in
         Noting seen.old name.now seen.new
         × (result ≡ true
-        → OthersPassed cur.stream cur.pool sizes.now name.now front (body_at at offset)) }
+        → OthersPassed cur.stream cur.pool current.now.sizes.now name.now front (body_at at offset)) }
 {
     if note(seen, name) {
-        return leads(stream, pool, sizes, front, name, at, offset);
+        return leads(current, front, name, at, offset);
     }
     true
 }
@@ -84,72 +79,41 @@ pub struct Walk {
 }
 
 // The next fields of two types at one offset, where they are alike and the current one is the first of its name.
-fn next_kept(
-    stream: &[u8],
-    pool: &[u8],
-    sizes: &[u64],
-    seen: &mut [u8],
-    old_stream: &[u8],
-    old_pool: &[u8],
-    old_sizes: &[u64],
-    walk: Walk,
-) -> Option<(usize, usize, usize, u64)>
-    requires { Noted stream.now pool.now sizes.now walk.front seen.old walk.at walk.offset × (1024 ≤ length seen.old) }
-    ensures { let cur : Rec = rec stream.now pool.now [] in
-        let rel : Rec = rec old_stream.now old_pool.now [] in
-        KeptFrom cur.stream cur.pool sizes.now walk.front seen.new walk.at
-        rel.stream rel.pool old_sizes.now walk.to walk.offset result }
+fn next_kept(sides: &Sides, seen: &mut [u8], walk: Walk) -> Option<(usize, usize, usize, u64)>
+    requires { let cur : Rec = now_of sides.now in
+        Noted cur.stream cur.pool sides.now.current.sizes.now walk.front seen.old walk.at walk.offset × (1024 ≤ length seen.old) }
+    ensures { let cur : Rec = now_of sides.now in
+        let rel : Rec = then_of sides.now in
+        KeptFrom cur.stream cur.pool sides.now.current.sizes.now walk.front seen.new walk.at
+        rel.stream rel.pool sides.now.released.sizes.now walk.to walk.offset result }
 {
-    let step = next_alike(
-        stream, pool, sizes, walk.at, old_stream, old_pool, old_sizes, walk.to,
-    );
+    let step = next_alike(sides, walk.at, walk.to);
     let Some((place, after, next, size)) = step else {
         return None;
     };
-    let name = name_at(stream, pool, place);
-    if is_first(
-        stream,
-        pool,
-        sizes,
-        walk.front,
-        seen,
-        name,
-        walk.at,
-        walk.offset,
-    ) {
+    let current = sides.current;
+    let name = name_at(current.record.stream, current.record.pool, place);
+    if is_first(&current, walk.front, seen, name, walk.at, walk.offset) {
         return Some((place, after, next, size));
     }
     None
 }
 
 // What is ahead of two types without the fields at their fronts that are alike and kept, from two places on; seen has room for the numbers of names.
-fn pass_kept_fields(
-    stream: &[u8],
-    pool: &[u8],
-    sizes: &[u64],
-    seen: &mut [u8],
-    old_stream: &[u8],
-    old_pool: &[u8],
-    old_sizes: &[u64],
-    from: Walk,
-) -> Both
-    requires { Noted stream.now pool.now sizes.now from.front seen.old from.at from.offset × (1024 ≤ length seen.old) }
-    ensures { let cur : Rec = rec stream.now pool.now [] in
-        let rel : Rec = rec old_stream.now old_pool.now [] in
-        KeptPassed cur.stream cur.pool sizes.now rel.stream rel.pool old_sizes.now
+fn pass_kept_fields(sides: &Sides, seen: &mut [u8], from: Walk) -> Both
+    requires { let cur : Rec = now_of sides.now in
+        Noted cur.stream cur.pool sides.now.current.sizes.now from.front seen.old from.at from.offset × (1024 ≤ length seen.old) }
+    ensures { let cur : Rec = now_of sides.now in
+        let rel : Rec = then_of sides.now in
+        KeptPassed cur.stream cur.pool sides.now.current.sizes.now rel.stream rel.pool sides.now.released.sizes.now
         from.front (body_at from.at from.offset) (body_at from.to from.offset) result }
 {
     let mut at = from.at;
     let mut to = from.to;
     let mut offset = from.offset;
     while let Some((_, after, next, size)) = next_kept(
-        stream,
-        pool,
-        sizes,
+        sides,
         seen,
-        old_stream,
-        old_pool,
-        old_sizes,
         Walk {
             front: from.front,
             at,
@@ -165,19 +129,10 @@ fn pass_kept_fields(
 }
 
 // What is ahead of two types without those fields, from two cursors on; before the front of a family none is passed over.
-pub(crate) fn pass_kept(
-    stream: &[u8],
-    pool: &[u8],
-    sizes: &[u64],
-    is: SpotCursor,
-    old_stream: &[u8],
-    old_pool: &[u8],
-    old_sizes: &[u64],
-    was: SpotCursor,
-) -> Both
-    ensures { let cur : Rec = rec stream.now pool.now [] in
-        let rel : Rec = rec old_stream.now old_pool.now [] in
-        KeptPassed cur.stream cur.pool sizes.now rel.stream rel.pool old_sizes.now is is was result }
+pub(crate) fn pass_kept(sides: &Sides, is: SpotCursor, was: SpotCursor) -> Both
+    ensures { let cur : Rec = now_of sides.now in
+        let rel : Rec = then_of sides.now in
+        KeptPassed cur.stream cur.pool sides.now.current.sizes.now rel.stream rel.pool sides.now.released.sizes.now is is was result }
 {
     let Ahead::Body(k) = is.ahead else {
         return Both { is, was };
@@ -195,7 +150,5 @@ pub(crate) fn pass_kept(
         to: l.at,
         offset: is.offset,
     };
-    pass_kept_fields(
-        stream, pool, sizes, &mut seen, old_stream, old_pool, old_sizes, walk,
-    )
+    pass_kept_fields(sides, &mut seen, walk)
 }

@@ -12,9 +12,12 @@ ghost use Rattle.layout.specs.FieldSizes.{SizesTable};
 ghost use Rattle.layout.specs.Spots.{spot_of, places_from, SoundCursor};
 ghost use Rattle.definition.specs.Fields.{place_in, eq_place, eq_places};
 ghost use Rattle.compare.specs.Layouts.{spot_found};
+ghost use Rattle.compare.specs.Sides.{whole, now_of, then_of, SoundNow, SoundThen};
 
 use crate::alike::pass_alike;
-use layout::spots::{Ahead, Spot, SpotCursor, first_spot, next_spot, pass_others};
+use crate::catalog::Record;
+use crate::sides::{Measured, Sides};
+use layout::spots::{Ahead, Spot, SpotCursor, first_spot, pass_others};
 use record::describe::{Description, put_description};
 use record::seek::{Between, seek};
 use record::text::{Text, bytes_of, same};
@@ -78,10 +81,7 @@ fn same_text(pool: &[u8], d: Description, old_pool: &[u8], e: Description) -> bo
 pub fn same_description(pool: &[u8], d: Description, old_pool: &[u8], e: Description) -> bool
     ensures { result ≡ eqs (described_as pool.now d) (described_as old_pool.now e) }
 {
-    if alike(pool, d, old_pool, e) {
-        return true;
-    }
-    same_text(pool, d, old_pool, e)
+    alike(pool, d, old_pool, e) || same_text(pool, d, old_pool, e)
 }
 
 // Whether two fields are the same, what is quickly seen first.
@@ -104,67 +104,41 @@ pub fn same_spot(pool: &[u8], x: Spot, old_pool: &[u8], y: Spot) -> bool
 }
 
 // Whether the fields from two cursors on are the same in the same order, padding included.
-pub(crate) fn same_rest(
-    rows: &[u8],
-    stream: &[u8],
-    pool: &[u8],
-    sizes: &[u64],
-    from: SpotCursor,
-    old_stream: &[u8],
-    old_pool: &[u8],
-    old_sizes: &[u64],
-    other: SpotCursor,
-) -> bool
-    requires { let cur : Rec = rec stream.now pool.now (scalars_of rows.now) in
-        let rel : Rec = rec old_stream.now old_pool.now (scalars_of rows.now) in
-        SoundCursor cur sizes.now from × SoundCursor rel old_sizes.now other }
-    ensures { let cur : Rec = rec stream.now pool.now (scalars_of rows.now) in
-        let rel : Rec = rec old_stream.now old_pool.now (scalars_of rows.now) in
+pub(crate) fn same_rest(sides: &Sides, from: SpotCursor, other: SpotCursor) -> bool
+    requires { SoundNow sides.now from × SoundThen sides.now other }
+    ensures { let cur : Rec = now_of sides.now in
+        let rel : Rec = then_of sides.now in
         result ≡ eq_places (places_from cur from) (places_from rel other) }
 {
+    let current = sides.current;
+    let released = sides.released;
     let mut is = from;
     let mut was = other;
-    while let Some((x, after)) = next_spot(rows, stream, pool, sizes, is) {
-        let Some((y, next)) = next_spot(rows, old_stream, old_pool, old_sizes, was) else {
+    while let Some((x, after)) = current.next_spot(sides.rows, is) {
+        let Some((y, next)) = released.next_spot(sides.rows, was) else {
             return false;
         };
-        if !same_spot(pool, x, old_pool, y) {
+        if !same_spot(current.record.pool, x, released.record.pool, y) {
             return false;
         }
         is = after;
         was = next;
     }
-    let Some((_, _)) = next_spot(rows, old_stream, old_pool, old_sizes, was) else {
+    let Some((_, _)) = released.next_spot(sides.rows, was) else {
         return true;
     };
     false
 }
 
 // Whether the fields from two cursors on are the same, those at their fronts that are alike first.
-fn same_ahead(
-    rows: &[u8],
-    stream: &[u8],
-    pool: &[u8],
-    sizes: &[u64],
-    from: SpotCursor,
-    old_stream: &[u8],
-    old_pool: &[u8],
-    old_sizes: &[u64],
-    other: SpotCursor,
-) -> bool
-    requires { let cur : Rec = rec stream.now pool.now (scalars_of rows.now) in
-        let rel : Rec = rec old_stream.now old_pool.now (scalars_of rows.now) in
-        SoundCursor cur sizes.now from × SoundCursor rel old_sizes.now other }
-    ensures { let cur : Rec = rec stream.now pool.now (scalars_of rows.now) in
-        let rel : Rec = rec old_stream.now old_pool.now (scalars_of rows.now) in
+fn same_ahead(sides: &Sides, from: SpotCursor, other: SpotCursor) -> bool
+    requires { SoundNow sides.now from × SoundThen sides.now other }
+    ensures { let cur : Rec = now_of sides.now in
+        let rel : Rec = then_of sides.now in
         result ≡ eq_places (places_from cur from) (places_from rel other) }
 {
-    let both = pass_alike(
-        stream, pool, sizes, from, old_stream, old_pool, old_sizes, other,
-    );
-    same_rest(
-        rows, stream, pool, sizes, both.is, old_stream, old_pool, old_sizes, both.was,
-    )
+    let both = pass_alike(sides, from, other);
+    same_rest(sides, both.is, both.was)
 }
 
 // Whether it is seen that no field is ahead; before a family's front it is not.
@@ -189,6 +163,25 @@ pub(crate) fn both_bare(stream: &[u8], is: SpotCursor, old_stream: &[u8], was: S
 }
 
 // Whether two types have the same fields in the same order, padding included.
+pub(crate) fn same_layout(sides: &Sides, handle: u32, other: u32) -> bool
+    requires { let cur : Rec = now_of sides.now in
+        let rel : Rec = then_of sides.now in
+        Typed cur.stream handle × Typed rel.stream other }
+    ensures { let cur : Rec = now_of sides.now in
+        let rel : Rec = then_of sides.now in
+        result ≡ eq_places (layout_of cur handle).fields (layout_of rel other).fields }
+{
+    let stream = sides.current.record.stream;
+    let old_stream = sides.released.record.stream;
+    let is = first_spot(stream, handle);
+    let was = first_spot(old_stream, other);
+    if both_bare(stream, is, old_stream, was) {
+        return true;
+    }
+    same_ahead(sides, is, was)
+}
+
+// The same of two records that come in parts.
 pub fn same_fields(
     rows: &[u8],
     stream: &[u8],
@@ -208,37 +201,42 @@ pub fn same_fields(
         let rel : Rec = rec old_stream.now old_pool.now (scalars_of rows.now) in
         result ≡ eq_places (layout_of cur handle).fields (layout_of rel other).fields }
 {
-    let is = first_spot(stream, handle);
-    let was = first_spot(old_stream, other);
-    if both_bare(stream, is, old_stream, was) {
-        return true;
-    }
-    same_ahead(
-        rows, stream, pool, sizes, is, old_stream, old_pool, old_sizes, was,
-    )
+    let current = Measured {
+        record: Record { stream, pool },
+        sizes,
+    };
+    let released = Measured {
+        record: Record {
+            stream: old_stream,
+            pool: old_pool,
+        },
+        sizes: old_sizes,
+    };
+    let sides = Sides {
+        rows,
+        current,
+        released,
+    };
+    same_layout(&sides, handle, other)
 }
 
 // The first field of that name from a cursor on.
 pub(crate) fn find_spot(
     rows: &[u8],
-    stream: &[u8],
-    pool: &[u8],
-    sizes: &[u64],
+    side: &Measured,
     from: SpotCursor,
     name: &[u8],
 ) -> Option<(Spot, SpotCursor)>
-    requires { let cur : Rec = rec stream.now pool.now (scalars_of rows.now) in
-        SoundCursor cur sizes.now from }
-    ensures { let cur : Rec = rec stream.now pool.now (scalars_of rows.now) in
-        place_in name.now (places_from cur from) ≡ spot_found cur.pool result }
+    requires { let r : Rec = whole rows.now side.now in
+        SoundCursor r side.now.sizes.now from }
+    ensures { let r : Rec = whole rows.now side.now in
+        place_in name.now (places_from r from) ≡ spot_found r.pool result }
 {
+    let Record { stream, pool } = side.record;
     let mut cursor = from;
-    while let Some((x, after)) = next_spot(
+    while let Some((x, after)) = side.next_spot(
         rows,
-        stream,
-        pool,
-        sizes,
-        pass_others(stream, pool, sizes, cursor, name),
+        pass_others(stream, pool, side.sizes, cursor, name),
     ) {
         if same(bytes_of(pool, x.name), name) {
             return Some((x, after));

@@ -1,12 +1,14 @@
 // Where to look for a field of a type by its name: for each number that names have, the first field whose name has it. In a type of many fields
 // the way from its front to each of them would take longest of all.
-ghost use Rattle.std.specs.Prelude.{◌-◌, ◌≤◌, ◌<◌, ◌≡◌, [], length, get_or};
+ghost use Rattle.std.specs.Prelude.{◌-◌, ◌≤◌, ◌<◌, ◌≡◌, length, get_or};
 ghost use Rattle.record.specs.Marks.{Clear};
-ghost use Rattle.record.specs.Reading.{Rec, rec};
+ghost use Rattle.record.specs.Reading.{Rec};
+ghost use Rattle.compare.specs.Catalog.{read};
 ghost use Rattle.compare.specs.Alike.{body_at};
 ghost use Rattle.compare.specs.Near.{key_of, Near, NearPut, NearSpot};
 
 use crate::alike::body_at;
+use crate::sides::Measured;
 use layout::field_sizes::size_before;
 use layout::names::name_at;
 use layout::spots::{Ahead, SpotCursor};
@@ -80,39 +82,34 @@ fn put_near(table: &mut [u64], key: usize, at: usize, offset: u64) -> bool
 }
 
 // Fills the table for the fields from a place on.
-fn fill_fields(
-    stream: &[u8],
-    pool: &[u8],
-    sizes: &[u64],
-    from: usize,
-    start: u64,
-    table: &mut [u64],
-)
+fn fill_fields(current: &Measured, from: usize, start: u64, table: &mut [u64])
     requires { Clear table.old × (1024 ≤ length table.old) }
-    ensures { let cur : Rec = rec stream.now pool.now [] in
-        Near cur.stream cur.pool sizes.now (body_at from start) table.new }
+    ensures { let cur : Rec = read current.now.record in
+        Near cur.stream cur.pool current.now.sizes.now (body_at from start) table.new }
 {
+    let record = current.record;
     let mut at = from;
     let mut offset = start;
-    while let Some((here, after)) = seek(stream, at, 11, Between::Keys) {
-        let key = key_of(name_at(stream, pool, here));
+    while let Some((here, after)) = seek(record.stream, at, 11, Between::Keys) {
+        let key = key_of(name_at(record.stream, record.pool, here));
         if !put_near(table, key, at, offset) {
             return;
         }
-        offset = sum(offset, size_before(sizes, after));
+        offset = sum(offset, size_before(current.sizes, after));
         at = after;
     }
 }
 
 // Fills an empty table for the fields from a cursor on; in front of a family it stays empty.
-pub(crate) fn fill_near(stream: &[u8], pool: &[u8], sizes: &[u64], c: SpotCursor, table: &mut [u64])
+pub(crate) fn fill_near(current: &Measured, c: SpotCursor, table: &mut [u64])
     requires { Clear table.old × (1024 ≤ length table.old) }
-    ensures { Near stream.now pool.now sizes.now c table.new }
+    ensures { let cur : Rec = read current.now.record in
+        Near cur.stream cur.pool current.now.sizes.now c table.new }
 {
     let Ahead::Body(k) = c.ahead else {
         return;
     };
-    fill_fields(stream, pool, sizes, k.at, c.offset, table);
+    fill_fields(current, k.at, c.offset, table);
 }
 
 // Whether a table pays: whether more than sixteen fields may be ahead.

@@ -7,8 +7,5 @@ use record::text::Text;
 pub fn required_text(t: Option<Text>) -> Text
     ensures { RequiredText t result }
 {
-    match t {
-        None => Text { start: 0, len: 0 },
-        Some(text) => text,
-    }
+    t.unwrap_or(Text { start: 0, len: 0 })
 }

@@ -5,7 +5,7 @@ use mathlib.Core.Logic.{◌⊎◌, inl, inr}
 use mathlib.Core.Bool.{Bool, true, false, ◌||◌, cond}
 use Prim.Native.Nat.{ℕ, zero, suc, ◌+◌, ◌-◌, ◌≤◌, ◌<◌, min}
 use native.Mathlib.Omega.{arith}
-use lib.ListN.{length, get_or, take, drop, set, length-append, length-set, length-map, drop_of_length-le, get_or-map}
+use lib.ListN.{length, get_or, take, drop, set, length-append, length-set, length-map, get_or-map}
 use lib.Seq.{take_all, take-suc, take-suc-set, drop-cons, length-take-le, get_or-append-add, get_or-drop, set_at}
 use lib.Dec.{ltb}
 use borrow.Author.Tests.{eq-eqb, ne_eqb, le-ltb, lt-ltb, ltb-true, ltb-false}

@@ -1,6 +1,6 @@
 -- An addition (02, W-210: "comes as a record of its own (read as current: head, that one type, 0F; anything else is 3)").
 -- Its own refusals are 1 to 8: the enums, aliases and bit fields that it names are the draft's, so its sizes are not judged. Assumes nothing.
-use Rattle.std.specs.Prelude.{ℕ, zero, suc, ◌+◌, Bool, true, false, ◌&&◌, ◌||◌, cond, length, get_or, eqb, ltb, leb, Option, Some, None, Result, Err}
+use Rattle.std.specs.Prelude.{ℕ, zero, suc, ◌+◌, Bool, true, false, ◌&&◌, ◌||◌, cond, length, get_or, eqb, ltb, leb, Option, Some, None, Err}
 use Rattle.record.specs.Base.{Str}
 use Rattle.record.specs.Letters.{odd_letter}
 use Rattle.record.specs.Commands.{operands, widths, start}

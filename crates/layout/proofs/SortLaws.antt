@@ -277,8 +277,6 @@ module _ (key : ℕ → Str) (l out : List ℕ) (i n : ℕ) (k : Keeping key l o
   unfolding lasts
   keep-end h = sym (append-nil (take n out)) ∙ subst (λ (r : List ℕ). take n out ++ r ≡ lasts key l) (ap (lasts key) (drop_of_length-le out h)) k.so_far
 
-pub ruleset keep-laws = (keep-take, keep-pass)
-
 -- each before the next ----------------------------------------------------------------------------------------------------
 
 module _ (key : ℕ → Str) where

@@ -36,7 +36,9 @@ use Rattle.record.specs.contracts.command.Command.{the_type}
 use Rattle.record.proofs.Stream.{step-found}
 use Rattle.record.proofs.ListLaws.{byte_of, other, byte-is, operands-are, find-miss}
 use Rattle.record.proofs.SeekLaws.{stepped as stepped-there, ended-there, sought-stands}
-use Rattle.record.proofs.StepLaws.{fields-none, fields-found, fields-over-now, fields-now, fields-stand}
+use Rattle.record.specs.Listings.{field_list}
+use Rattle.record.proofs.ListingLaws.{listing-over, listing-next}
+use Rattle.record.proofs.StepLaws.{fields-over-now, fields-now, fields-stand}
 use Rattle.record.proofs.SizeLaws.{cap-low, keyless}
 use Rattle.record.proofs.DescribeLaws.{described-keyless}
 use Rattle.layout.specs.declared.spots.Spot.{Spot}
@@ -217,7 +219,7 @@ module _ (s p : Str) (w : List Scalar) (t : List ℕ) (k : Cursor) (offset : ℕ
 -- a field by the place of its command
 module _ (s p : Str) (w : List Scalar) (t : List ℕ) (k : Cursor) (offset : ℕ) (r : Option (ℕ × ℕ)) (i : SoughtFrom s Keys 11 k.at r) where
   pub no-spot : r ≡ None → SpotsFrom (rec s p w) t (cursor_at (Body k) offset) None
-  no-spot m = spot-none s p w t k offset None (fields-none s k.at r i m) refl
+  no-spot m = spot-none s p w t k offset None (listing-over field_list s k.at r i m) refl
 
   pub spot-at : (a j : ℕ) (y : Str) (v : Shape) (x : Text) (c : Cursor) (z e : ℕ) → r ≡ Some (a, j) → y ≡ drop a s → Shaped p y v → x ≡ text_at y 1 → c ≡ place j → z ≡ get_or t (j / 33) 0
       → e ≡ capped (offset + z)
@@ -226,7 +228,7 @@ module _ (s p : Str) (w : List Scalar) (t : List ℕ) (k : Cursor) (offset : ℕ
       subst
       (λ (f : Text). SpotsFrom (rec s p w) t (cursor_at (Body k) offset) (Some (record { name = f; offset = offset; size = z; described = v.described; padding = v.padding }, cursor_at (Body c) e)))
       (sym n)
-      (spot-field s p w t k offset (Some (field_at y, c)) (fields-found s k.at r i a j m y (field_at y) c d refl l) (field_at y) c refl z e v.described v.padding
+      (spot-field s p w t k offset (Some (field_at y, c)) (listing-next field_list s k.at r i a j m y (field_at y) c d refl l) (field_at y) c refl z e v.described v.padding
       (u ∙ ap (λ (f : Cursor). get_or t (f.at / 33) 0) (sym l)) g.text g.padded q
       (subst (λ (f : Cursor). ahead_left s (Body f) < ahead_left s (Body k)) (sym l) (field-nearer s k.at r i a j m)))
 
@@ -237,7 +239,7 @@ module _ (s p : Str) (w : List Scalar) (t : List ℕ) (at offset : ℕ) (r : Opt
   found-field = field_at (drop a s)
 
   found : FieldsFrom s at (Some (found-field, place k))
-  found = fields-found s at r i a k m (drop a s) found-field (place k) refl refl refl
+  found = listing-next field_list s at r i a k m (drop a s) found-field (place k) refl refl refl
 
   pub place-passed : places_from (rec s p w) (cursor_at (Body (place at)) offset) ≡ place_at p (drop a s) offset z ∷ places_from (rec s p w) (cursor_at (Body (place k)) e)
   unfolding place_of

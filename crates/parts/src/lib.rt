@@ -146,6 +146,7 @@ pub fn replay<R: Files + Print, F: FnMut(&mut R::File) -> Option<bool>>(
     let mut file = File::open(rt, name)?;
     let mut turns: u64 = 0;
     let mut wrong: u64 = 0;
+    // The turns are what is printed, and a range would count them a second time.
     while turns < 1000000 {
         let Some(same) = turn(&mut file) else { break };
         turns += 1;

@@ -1,6 +1,6 @@
 -- The field commands of a readable record are the fields of its structures, families and variants: each gives one, by the rules of place, and each
 -- of them comes from one. So what holds of all these fields is what holds at the places of the commands. Assumes nothing.
-use Rattle.std.specs.Prelude.{Option, Some, None, Result, Ok, Err}
+use Rattle.std.specs.Prelude.{Option, Some, None, Ok, Err}
 use mathlib.Core.Path.{◌≡◌, refl, sym, ◌∙◌, ap, subst}
 use mathlib.Core.List.Memᴰ
 use mathlib.Core.List.{List, [], ◌∷◌, Memᴰ}

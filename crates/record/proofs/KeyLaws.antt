@@ -21,8 +21,11 @@ use Rattle.record.specs.declared.seek.Between.TheVariants as Between
 use Rattle.record.proofs.Stream.{step-found, along}
 use Rattle.record.proofs.ListLaws.{byte_of, byte-is, listed-stop, listed_here, listed-over, listed-end}
 use Rattle.record.proofs.SeekLaws.{sought-stands}
-use Rattle.record.proofs.StepLaws.{keys-now, keys-over-now, fields-none, fields-found, fields-now, fields-over-now, structs-now, structs-over-now, structs-nearer, unstored-now, unstored-over-now}
+use Rattle.record.specs.Listings.{bare, field_list}
+use Rattle.record.proofs.ListingLaws.{listing-over, listing-next}
+use Rattle.record.proofs.StepLaws.{keys-now, keys-over-now, fields-now, fields-over-now, structs-now, structs-over-now, structs-nearer, unstored-now, unstored-over-now}
 use Rattle.record.specs.declared.keys.KeysAt.{KeysAt}
+use Rattle.record.specs.declared.lists.UnstoredKey.{UnstoredKey}
 use Rattle.record.specs.declared.keys.KeysAt.TheVariants.{Stored, Unstored}
 use Rattle.record.specs.declared.keys.StoredAt.{StoredAt}
 use Rattle.record.specs.declared.keys.StoredAt.TheVariants.{Structs, Fields}
@@ -79,7 +82,7 @@ module _ (s : Str) (a at : ℕ) (o : Keyless s a at) (r : Option (ℕ × ℕ)) (
   pub fields-ended : (c : Cursor) → r ≡ None → c ≡ place at → InFields s a (Ended c)
   unfolding stored_from field_keys
   fields-ended c m h = record {
-    list = λ p l. o.same p l ∙ rw (fields-over-now s at None (fields-none s at r f m) p refl, h);
+    list = λ p l. o.same p l ∙ rw (fields-over-now s at None (listing-over field_list s at r f m) p refl, h);
     ahead = let i = o.ahead in let j : c.at ≡ at = ap (λ (x : Cursor). x.at) h in omega arith;
   }
 
@@ -93,7 +96,7 @@ module _ (s : Str) (a at : ℕ) (o : Keyless s a at) (r : Option (ℕ × ℕ)) (
     field-gives p l =
         let y = drop b s in
         o.same p l
-        ∙ rw (fields-now s at (Some (field_at y, c)) (fields-found s at r f b k m y (field_at y) c refl refl h) p (field_at y) c refl, structs-past s p at r f b k m ∙ ap (structs_at s p) (sym at-is))
+        ∙ rw (fields-now s at (Some (field_at y, c)) (listing-next field_list s at r f b k m y (field_at y) c refl refl h) p (field_at y) c refl, structs-past s p at r f b k m ∙ ap (structs_at s p) (sym at-is))
 
     pub field-keyed : (x : D.PluginKey.PluginKey) (z : Cursor) → q ≡ Some (x, z) → InFields s a (Keyed x c)
     unfolding with_some first
@@ -153,14 +156,14 @@ struct-nearer s c r f e k m q g z n =
 
 -- the whole walk -----------------------------------------------------------------------------------------------------------
 
-module _ (s : Str) (from : Cursor) (r : Step D.PluginKey.PluginKey) (f : UnstoredFrom s from.at r) where
+module _ (s : Str) (from : Cursor) (r : Step UnstoredKey) (f : UnstoredFrom s from.at (bare r)) where
   pub unstored-ended : r ≡ None → PluginKeysFrom s (Unstored from) None
   unfolding keys_from
-  unstored-ended m = record { list = λ p. unstored-over-now s from.at r f p m }
+  unstored-ended m = record { list = λ p. unstored-over-now s from.at (bare r) f p (ap bare m) }
 
-  pub unstored-keyed : (e : D.PluginKey.PluginKey) (k : Cursor) → r ≡ Some (e, k) → PluginKeysFrom s (Unstored from) (Some (e, Unstored k))
+  pub unstored-keyed : (e : UnstoredKey) (k : Cursor) → r ≡ Some (e, k) → PluginKeysFrom s (Unstored from) (Some (e.key, Unstored k))
   unfolding keys_from
-  unstored-keyed e k m = record { list = λ p. unstored-now s from.at r f p e k m }
+  unstored-keyed e k m = record { list = λ p. unstored-now s from.at (bare r) f p e.key k (ap bare m) }
 
 pub ruleset unstored-key-laws = (unstored-ended, unstored-keyed)
 

@@ -1,6 +1,6 @@
 -- Over a pool of 20 to 7E hex alone a record is read as document 01 has it, before W-206 of 02: its rules for letters and texts stand here as they were,
 -- and nowhere else. Assumes nothing.
-use Rattle.std.specs.Prelude.{Option, Some, None, Result, Err}
+use Rattle.std.specs.Prelude.{Option, Some, None, Err}
 use Prim.Native.Nat.{ℕ, zero, suc, ◌+◌, ◌-◌}
 use mathlib.Core.List.{[], ◌∷◌}
 use mathlib.Core.Bool.{Bool, true, ◌&&◌, cond, and-true}

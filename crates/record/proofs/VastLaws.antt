@@ -27,7 +27,9 @@ use Rattle.record.specs.declared.vast.TypeStep.TheVariants.{NoType, Plain, Front
 use Rattle.record.proofs.Stream.{commands-stop, commands-next}
 use Rattle.record.proofs.ListLaws.{find_none, find-hit, find-miss}
 use Rattle.record.proofs.SeekLaws.{Stepped, stepped, ended-there, after-nearer}
-use Rattle.record.proofs.StepLaws.{fields-none, fields-found, fields-over-now, fields-now}
+use Rattle.record.specs.Listings.{field_list}
+use Rattle.record.proofs.ListingLaws.{listing-over, listing-next}
+use Rattle.record.proofs.StepLaws.{fields-over-now, fields-now}
 use Rattle.record.proofs.SizeLaws.{cap-low, cap-high, keyless}
 use Rattle.record.specs.declared.text.Text.{Text}
 
@@ -142,11 +144,11 @@ module _ (s p : Str) (w : List Scalar) where
   module _ (fs : List FieldLayout) (offset at : ℕ) (i : Ending fs offset at) (r : Option (ℕ × ℕ)) (f : SoughtFrom s Keys 11 at r) where
     pub ending-none : r ≡ None → false ≡ any large fs
     unfolding places any
-    ending-none m = sym (i.so_far ∙ rw (fields-over-now s at None (fields-none s at r f m) p refl))
+    ending-none m = sym (i.so_far ∙ rw (fields-over-now s at None (listing-over field_list s at r f m) p refl))
 
     module _ (a k : ℕ) (m : r ≡ Some (a, k)) (y : Str) (d : y ≡ drop a s) (z end : ℕ) (u : z ≡ capped (shape_size (schema_of (rec s p w)) (field_of p (field_at y) None))) (v : end ≡ capped (offset + z)) where
       here : fields_at s p at ≡ field_of p (field_at y) (field_key_at s p k) ∷ fields_at s p k
-      here = fields-now s at (Some (field_at y, place k)) (fields-found s at r f a k m y (field_at y) (place k) d refl refl) p (field_at y) (place k) refl
+      here = fields-now s at (Some (field_at y, place k)) (listing-next field_list s at r f a k m y (field_at y) (place k) d refl refl) p (field_at y) (place k) refl
 
       size_is : shape_size (schema_of (rec s p w)) (field_of p (field_at y) (field_key_at s p k)) ≡ shape_size (schema_of (rec s p w)) (field_of p (field_at y) None)
       unfolding shape_size

@@ -18,7 +18,8 @@ use Rattle.record.specs.declared.versioned.Versioned.{Versioned}
 use Rattle.record.specs.Versioned.{slot_order, versioned, struct_commands_at, command_in_slot, command_found, InSlot, InSlots, versioned_names, first_slotted, filled_by}
 use Rattle.record.proofs.ListLaws.{find_none, find-hit, find-miss}
 use Rattle.record.proofs.SeekLaws.{listed-none, listed-some}
-use Rattle.record.proofs.StepLaws.{structs-none, structs-found}
+use Rattle.record.specs.Listings.{struct_list}
+use Rattle.record.proofs.ListingLaws.{listing-over, listing-next}
 use Rattle.record.specs.declared.text.Text.{Text}
 use Rattle.record.specs.Commands.{Step}
 
@@ -67,7 +68,7 @@ module _ (s : Str) (at : ℕ) (r : Option (ℕ × ℕ)) (i : SoughtFrom s Anythi
   at-end : r ≡ None → InSlot s p slot f
   unfolding struct_in_slot command_in_slot struct_commands_at
   at-end m = record {
-    struct = b.structs ∙ ap (or_option (struct_found s p f)) (find_none _ (structs_at s p at) ((structs-none s at r i m).list p)) ∙ or-none (struct_found s p f);
+    struct = b.structs ∙ ap (or_option (struct_found s p f)) (find_none _ (structs_at s p at) ((listing-over struct_list s at r i m).list p)) ∙ or-none (struct_found s p f);
     command = b.commands ∙ ap (or_option (command_found f)) (find_none _ (struct_commands_at s at) (listed-none s Anything 8 _ at r i m)) ∙ or-none (command_found f);
   }
 
@@ -76,7 +77,7 @@ module _ (s : Str) (at : ℕ) (r : Option (ℕ × ℕ)) (i : SoughtFrom s Anythi
     here = struct_at (drop a s)
 
     struct-now : structs_at s p at ≡ struct_of p here (fields_at s p k) ∷ structs_at s p k
-    struct-now = (structs-found s at r i a k m (drop a s) here (place k) refl refl refl).list p
+    struct-now = (listing-next struct_list s at r i a k m (drop a s) here (place k) refl refl refl).list p
 
     command-now : struct_commands_at s at ≡ here ∷ struct_commands_at s k
     unfolding struct_commands_at

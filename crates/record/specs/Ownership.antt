@@ -130,7 +130,7 @@ stretches_in p l (x ∷ xs) = with_stretch (command_in_slot p x l) (stretches_in
 -- the first of these stretches that reads so
 unfoldable pub stretch_of : Str → List Text → Option Str → Option Text
 stretch_of p l None = None
-stretch_of p l (Some r) = (find (λ (t : Text). eqs (text_of p t) r) l)
+stretch_of p l (Some r) = find (λ (t : Text). eqs (text_of p t) r) l
 
 -- the owner of a name, as the stretch that its root's command gives
 unfoldable pub owner_at : Str → Str → Str → Option Text

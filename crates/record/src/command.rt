@@ -273,7 +273,7 @@ pub(crate) fn version_at(s: &[u8]) -> Version
     }
 }
 
-// The bytes that a command takes, its number among them; 0 where no command has that number.
+// The bytes that a command takes, its number among them; 0 where no command has that number, as the definition of that name has it.
 pub(crate) fn width_of(byte: u8) -> usize
     ensures { result ≡ width_of byte }
 {

@@ -57,7 +57,7 @@ fn declares(byte: u8) -> bool
     matches!(byte, 2 | 3 | 4 | 6 | 8 | 9 | 13)
 }
 
-// A number of the index; 0 past its end.
+// A number of the index; 0 past its end. The index is lent memory of a fixed size (no heap), in which 0 is no place.
 pub(crate) fn link_at(index: &[u16], i: usize) -> usize
     ensures { result ≡ get_or index.now i 0 }
 {
@@ -142,8 +142,8 @@ fn is_named(stream: &[u8], pool: &[u8], number: u8, name: &[u8], place: usize) -
     byte_at(stream, place) == number && same(declared_name(stream, pool, place), name)
 }
 
-// The first command of a number and a name, one more than its place; 0 where there is none. What is seen last on the way from the last command to
-// the first is the first.
+// The first command of a number and a name, one more than its place; 0 where there is none, as the definition `FirstNamed` has it. What is seen
+// last on the way from the last command to the first is the first.
 pub(crate) fn first_named(
     stream: &[u8],
     pool: &[u8],

@@ -3,11 +3,12 @@ ghost use Rattle.record.specs.declared.keys.StoredAt.TheVariants.{Structs};
 ghost use Rattle.record.specs.declared.keys.KeysAt.TheVariants.{Unstored};
 ghost use Rattle.record.specs.Keys.{AllStored, AllKeys, InFields, StoredFrom, PluginKeysFrom};
 
-use crate::command::{Cursor, PluginKey};
-use crate::lists::{next_key, next_struct, next_unstored};
+use crate::command::{Cursor, PluginKey, Struct};
+use crate::lists::{UnstoredKey, next};
 use crate::seek::{Between, seek};
 
 // What is left of the walk over structures' fields: the structures from a cursor on; the fields and then the structures from a cursor on.
+// Each state has a cursor, and neither is a failure, so that no Option or Result says it more plainly.
 #[derive(Clone, Copy)]
 pub enum StoredAt {
     Structs(Cursor),
@@ -15,6 +16,7 @@ pub enum StoredAt {
 }
 
 // What is left of the walk over all keys: those of structures' fields and then the unstored ones; the unstored ones from a cursor on.
+// Each state has what is left of its walk, and neither is a failure, so that no Option or Result says it more plainly.
 #[derive(Clone, Copy)]
 pub enum KeysAt {
     Stored(StoredAt),
@@ -36,6 +38,7 @@ pub fn first_key() -> KeysAt
 }
 
 // A plugin key of some fields, with the cursor after its field; or none, with the cursor after the last field.
+// An end is no failure and has its cursor too, so that no Option or Result says it more plainly.
 #[derive(Clone, Copy)]
 enum FieldKey {
     Ended(Cursor),
@@ -52,7 +55,7 @@ fn next_in_fields(stream: &[u8], from: Cursor) -> FieldKey
             return FieldKey::Ended(Cursor::place(at));
         };
         let here = Cursor::place(after);
-        if let Some((e, _)) = next_key(stream, here) {
+        if let Some((e, _)) = next::<PluginKey>(stream, here) {
             return FieldKey::Keyed(e, here);
         }
         at = after;
@@ -63,10 +66,10 @@ fn next_in_fields(stream: &[u8], from: Cursor) -> FieldKey
 fn next_unstored_key(stream: &[u8], from: Cursor) -> Option<(PluginKey, KeysAt)>
     ensures { PluginKeysFrom stream.now (Unstored from) result }
 {
-    let Some((e, after)) = next_unstored(stream, from) else {
+    let Some((e, after)) = next::<UnstoredKey>(stream, from) else {
         return None;
     };
-    Some((e, KeysAt::Unstored(after)))
+    Some((e.key, KeysAt::Unstored(after)))
 }
 
 // The next plugin key of the structures from a cursor on.
@@ -75,7 +78,7 @@ fn next_in_structs(stream: &[u8], from: Cursor) -> Option<(PluginKey, StoredAt)>
 {
     let mut cursor = from;
     loop {
-        let Some((_, after)) = next_struct(stream, cursor) else {
+        let Some((_, after)) = next::<Struct>(stream, cursor) else {
             return None;
         };
         let key = next_in_fields(stream, after);

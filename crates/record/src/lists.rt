@@ -1,11 +1,12 @@
-// The lists of a record, an element at a time: each function hands out the next element from a cursor on, with the cursor after it.
+// The lists of a record, an element at a time: the next element from a cursor on, with the cursor after it.
 // Written by tools/lists.py.
-ghost use Rattle.std.specs.Prelude.{◌≡◌};
+ghost use Rattle.std.specs.Prelude.{◌≡◌, ℕ};
 ghost use Rattle.record.specs.Base.{Str};
-ghost use Rattle.record.specs.Steps.{HeadsFrom, ConstantsFrom, AliasesFrom, ValuesFrom, EnumsFrom, MembersFrom, BitfieldsFrom, KeysFrom};
-ghost use Rattle.record.specs.Steps.{FieldsFrom, StructsFrom, VariantsFrom, FamiliesFrom, UnstoredFrom, VersionsFrom};
-ghost use Rattle.record.specs.Steps.{values_at, value_in, value_found, members_at, member_in, member_found, bitfields_at, bitfield_in, bitfield_found};
-ghost use Rattle.record.specs.Steps.{families_at, family_in, family_found};
+ghost use Rattle.record.specs.Commands.{Step};
+ghost use Rattle.record.specs.Listing.{Listing, Naming};
+ghost use Rattle.record.specs.Listings.{head_list, constant_list, alias_list, value_list, enum_list, member_list, bitfield_list, key_list};
+ghost use Rattle.record.specs.Listings.{field_list, struct_list, variant_list, family_list, unstored_list, version_list};
+ghost use Rattle.record.specs.Listings.{value_naming, member_naming, bitfield_naming, family_naming};
 
 use crate::command::{
     Bitfield, Constant, Cursor, Enum, Family, Field, Head, Member, PluginKey, Step, Struct,
@@ -14,216 +15,267 @@ use crate::command::{
 };
 use crate::cut;
 use crate::seek::{Between, seek};
-use crate::text::{bytes_of, same};
+use crate::text::{Text, bytes_of, same};
 
-// The next head of the record from a cursor on.
-pub fn next_head(stream: &[u8], from: Cursor) -> Step<Head>
-    ensures { HeadsFrom stream.now from.at result }
-{
-    let Some((at, after)) = seek(stream, from.at, 1, Between::Anything) else {
-        return None;
-    };
-    Some((head_at(cut::from(stream, at)), Cursor::place(after)))
+// The element of a list: which command it is, what may stand between, and how its operands are read.
+pub trait Listed: Copy {
+    ghost list: { Listing Self };
+
+    fn sought() -> (u8, Between)
+        ensures { result ≡ (list.elements.number, list.elements.between) };
+
+    fn read(s: &[u8]) -> Self
+        ensures { result ≡ list.elements.read s.now };
 }
 
-// The next constant of the record from a cursor on.
-pub fn next_constant(stream: &[u8], from: Cursor) -> Step<Constant>
-    ensures { ConstantsFrom stream.now from.at result }
-{
-    let Some((at, after)) = seek(stream, from.at, 2, Between::Anything) else {
-        return None;
-    };
-    Some((constant_at(cut::from(stream, at)), Cursor::place(after)))
+// A plugin key of no field that is stored: its list is not that of the keys after a field.
+#[derive(Clone, Copy)]
+pub struct UnstoredKey {
+    pub key: PluginKey,
 }
 
-// The next alias of the record from a cursor on.
-pub fn next_alias(stream: &[u8], from: Cursor) -> Step<TypeAlias>
-    ensures { AliasesFrom stream.now from.at result }
+// The next element of the list that goes on at a cursor.
+pub fn next<E: Listed>(stream: &[u8], from: Cursor) -> Step<E>
+    ensures { E.list.From stream.now from.at result }
 {
-    let Some((at, after)) = seek(stream, from.at, 3, Between::Anything) else {
+    let (number, between) = E::sought();
+    let Some((at, after)) = seek(stream, from.at, number, between) else {
         return None;
     };
-    Some((alias_at(cut::from(stream, at)), Cursor::place(after)))
+    Some((E::read(cut::from(stream, at)), Cursor::place(after)))
 }
 
-// The next value of the list that goes on at a cursor.
-pub fn next_value(stream: &[u8], from: Cursor) -> Step<Value>
-    ensures { ValuesFrom stream.now from.at result }
-{
-    let Some((at, after)) = seek(stream, from.at, 5, Between::Nothing) else {
-        return None;
-    };
-    Some((value_at(cut::from(stream, at)), Cursor::place(after)))
+impl Listed for Head {
+    ghost list = { head_list };
+
+    fn sought() -> (u8, Between) {
+        (1, Between::Anything)
+    }
+
+    fn read(s: &[u8]) -> Self {
+        head_at(s)
+    }
 }
 
-// The next enum of the record from a cursor on.
-pub fn next_enum(stream: &[u8], from: Cursor) -> Step<Enum>
-    ensures { EnumsFrom stream.now from.at result }
-{
-    let Some((at, after)) = seek(stream, from.at, 4, Between::Anything) else {
-        return None;
-    };
-    Some((enum_at(cut::from(stream, at)), Cursor::place(after)))
+impl Listed for Constant {
+    ghost list = { constant_list };
+
+    fn sought() -> (u8, Between) {
+        (2, Between::Anything)
+    }
+
+    fn read(s: &[u8]) -> Self {
+        constant_at(s)
+    }
 }
 
-// The next member of the list that goes on at a cursor.
-pub fn next_member(stream: &[u8], from: Cursor) -> Step<Member>
-    ensures { MembersFrom stream.now from.at result }
-{
-    let Some((at, after)) = seek(stream, from.at, 7, Between::Nothing) else {
-        return None;
-    };
-    Some((member_at(cut::from(stream, at)), Cursor::place(after)))
+impl Listed for TypeAlias {
+    ghost list = { alias_list };
+
+    fn sought() -> (u8, Between) {
+        (3, Between::Anything)
+    }
+
+    fn read(s: &[u8]) -> Self {
+        alias_at(s)
+    }
 }
 
-// The next bit field of the record from a cursor on.
-pub fn next_bitfield(stream: &[u8], from: Cursor) -> Step<Bitfield>
-    ensures { BitfieldsFrom stream.now from.at result }
-{
-    let Some((at, after)) = seek(stream, from.at, 6, Between::Anything) else {
-        return None;
-    };
-    Some((bitfield_at(cut::from(stream, at)), Cursor::place(after)))
+impl Listed for Value {
+    ghost list = { value_list };
+
+    fn sought() -> (u8, Between) {
+        (5, Between::Nothing)
+    }
+
+    fn read(s: &[u8]) -> Self {
+        value_at(s)
+    }
 }
 
-// The next plugin key of the list that goes on at a cursor.
-pub fn next_key(stream: &[u8], from: Cursor) -> Step<PluginKey>
-    ensures { KeysFrom stream.now from.at result }
-{
-    let Some((at, after)) = seek(stream, from.at, 12, Between::Nothing) else {
-        return None;
-    };
-    Some((key_at(cut::from(stream, at)), Cursor::place(after)))
+impl Listed for Enum {
+    ghost list = { enum_list };
+
+    fn sought() -> (u8, Between) {
+        (4, Between::Anything)
+    }
+
+    fn read(s: &[u8]) -> Self {
+        enum_at(s)
+    }
 }
 
-// The next field of the list that goes on at a cursor; plugin keys between the fields are passed over.
-pub fn next_field(stream: &[u8], from: Cursor) -> Step<Field>
-    ensures { FieldsFrom stream.now from.at result }
-{
-    let Some((at, after)) = seek(stream, from.at, 11, Between::Keys) else {
-        return None;
-    };
-    Some((field_at(cut::from(stream, at)), Cursor::place(after)))
+impl Listed for Member {
+    ghost list = { member_list };
+
+    fn sought() -> (u8, Between) {
+        (7, Between::Nothing)
+    }
+
+    fn read(s: &[u8]) -> Self {
+        member_at(s)
+    }
 }
 
-// The next structure of the record from a cursor on.
-pub fn next_struct(stream: &[u8], from: Cursor) -> Step<Struct>
-    ensures { StructsFrom stream.now from.at result }
-{
-    let Some((at, after)) = seek(stream, from.at, 8, Between::Anything) else {
-        return None;
-    };
-    Some((struct_at(cut::from(stream, at)), Cursor::place(after)))
+impl Listed for Bitfield {
+    ghost list = { bitfield_list };
+
+    fn sought() -> (u8, Between) {
+        (6, Between::Anything)
+    }
+
+    fn read(s: &[u8]) -> Self {
+        bitfield_at(s)
+    }
 }
 
-// The next variant of the list that goes on at a cursor; fields and plugin keys between the variants are passed over.
-pub fn next_variant(stream: &[u8], from: Cursor) -> Step<Variant>
-    ensures { VariantsFrom stream.now from.at result }
-{
-    let Some((at, after)) = seek(stream, from.at, 10, Between::Fields) else {
-        return None;
-    };
-    Some((variant_at(cut::from(stream, at)), Cursor::place(after)))
+impl Listed for PluginKey {
+    ghost list = { key_list };
+
+    fn sought() -> (u8, Between) {
+        (12, Between::Nothing)
+    }
+
+    fn read(s: &[u8]) -> Self {
+        key_at(s)
+    }
 }
 
-// The next family of the record from a cursor on.
-pub fn next_family(stream: &[u8], from: Cursor) -> Step<Family>
-    ensures { FamiliesFrom stream.now from.at result }
-{
-    let Some((at, after)) = seek(stream, from.at, 9, Between::Anything) else {
-        return None;
-    };
-    Some((family_at(cut::from(stream, at)), Cursor::place(after)))
+impl Listed for Field {
+    ghost list = { field_list };
+
+    fn sought() -> (u8, Between) {
+        (11, Between::Keys)
+    }
+
+    fn read(s: &[u8]) -> Self {
+        field_at(s)
+    }
 }
 
-// The next unstored plugin key of the record from a cursor on.
-pub fn next_unstored(stream: &[u8], from: Cursor) -> Step<PluginKey>
-    ensures { UnstoredFrom stream.now from.at result }
-{
-    let Some((at, after)) = seek(stream, from.at, 13, Between::Anything) else {
-        return None;
-    };
-    Some((key_at(cut::from(stream, at)), Cursor::place(after)))
+impl Listed for Struct {
+    ghost list = { struct_list };
+
+    fn sought() -> (u8, Between) {
+        (8, Between::Anything)
+    }
+
+    fn read(s: &[u8]) -> Self {
+        struct_at(s)
+    }
 }
 
-// The next version entry of the record from a cursor on.
-pub fn next_version(stream: &[u8], from: Cursor) -> Step<Version>
-    ensures { VersionsFrom stream.now from.at result }
-{
-    let Some((at, after)) = seek(stream, from.at, 14, Between::Anything) else {
-        return None;
-    };
-    Some((version_at(cut::from(stream, at)), Cursor::place(after)))
+impl Listed for Variant {
+    ghost list = { variant_list };
+
+    fn sought() -> (u8, Between) {
+        (10, Between::Fields)
+    }
+
+    fn read(s: &[u8]) -> Self {
+        variant_at(s)
+    }
 }
 
-// The first value of that name from a cursor on.
-pub fn find_value(stream: &[u8], pool: &[u8], from: Cursor, name: &[u8]) -> Step<Value>
-    ensures { let s : Str = stream.now in
-        let p : Str = pool.now in
-        value_in name.now (values_at s p from.at) ≡ value_found s p result }
+impl Listed for Family {
+    ghost list = { family_list };
+
+    fn sought() -> (u8, Between) {
+        (9, Between::Anything)
+    }
+
+    fn read(s: &[u8]) -> Self {
+        family_at(s)
+    }
+}
+
+impl Listed for UnstoredKey {
+    ghost list = { unstored_list };
+
+    fn sought() -> (u8, Between) {
+        (13, Between::Anything)
+    }
+
+    fn read(s: &[u8]) -> Self {
+        UnstoredKey { key: key_at(s) }
+    }
+}
+
+impl Listed for Version {
+    ghost list = { version_list };
+
+    fn sought() -> (u8, Between) {
+        (14, Between::Anything)
+    }
+
+    fn read(s: &[u8]) -> Self {
+        version_at(s)
+    }
+}
+
+// The element of a list that is searched by name.
+pub trait Named: Listed {
+    ghost naming: { Naming Self };
+
+    fn name(self) -> Text
+        ensures { result ≡ naming.name self };
+
+    // The list that is searched is the one that a step goes along.
+    ghost along: { (s : Str) (at : ℕ) (r : Step Self) → Self.list.From s at r → naming.list.From s at r };
+}
+
+// The first element of that name from a cursor on.
+pub fn find<E: Named>(stream: &[u8], pool: &[u8], from: Cursor, name: &[u8]) -> Step<E>
+    ensures { E.naming.Found stream.now pool.now from.at name.now result }
 {
     let mut cursor = from;
     loop {
-        let Some((e, after)) = next_value(stream, cursor) else {
+        let Some((e, after)) = next::<E>(stream, cursor) else {
             return None;
         };
-        if same(bytes_of(pool, e.name), name) {
+        if same(bytes_of(pool, e.name()), name) {
             return Some((e, after));
         }
         cursor = after;
     }
 }
 
-// The first member of that name from a cursor on.
-pub fn find_member(stream: &[u8], pool: &[u8], from: Cursor, name: &[u8]) -> Step<Member>
-    ensures { let s : Str = stream.now in
-        let p : Str = pool.now in
-        member_in name.now (members_at s p from.at) ≡ member_found s p result }
-{
-    let mut cursor = from;
-    loop {
-        let Some((e, after)) = next_member(stream, cursor) else {
-            return None;
-        };
-        if same(bytes_of(pool, e.name), name) {
-            return Some((e, after));
-        }
-        cursor = after;
+impl Named for Value {
+    ghost naming = { value_naming };
+
+    ghost along = { λ s at r f. f };
+
+    fn name(self) -> Text {
+        self.name
     }
 }
 
-// The first bit field of that name from a cursor on.
-pub fn find_bitfield(stream: &[u8], pool: &[u8], from: Cursor, name: &[u8]) -> Step<Bitfield>
-    ensures { let s : Str = stream.now in
-        let p : Str = pool.now in
-        bitfield_in name.now (bitfields_at s p from.at) ≡ bitfield_found s p result }
-{
-    let mut cursor = from;
-    loop {
-        let Some((e, after)) = next_bitfield(stream, cursor) else {
-            return None;
-        };
-        if same(bytes_of(pool, e.name), name) {
-            return Some((e, after));
-        }
-        cursor = after;
+impl Named for Member {
+    ghost naming = { member_naming };
+
+    ghost along = { λ s at r f. f };
+
+    fn name(self) -> Text {
+        self.name
     }
 }
 
-// The first family of that name from a cursor on.
-pub fn find_family(stream: &[u8], pool: &[u8], from: Cursor, name: &[u8]) -> Step<Family>
-    ensures { let s : Str = stream.now in
-        let p : Str = pool.now in
-        family_in name.now (families_at s p from.at) ≡ family_found s p result }
-{
-    let mut cursor = from;
-    loop {
-        let Some((e, after)) = next_family(stream, cursor) else {
-            return None;
-        };
-        if same(bytes_of(pool, e.name), name) {
-            return Some((e, after));
-        }
-        cursor = after;
+impl Named for Bitfield {
+    ghost naming = { bitfield_naming };
+
+    ghost along = { λ s at r f. f };
+
+    fn name(self) -> Text {
+        self.name
+    }
+}
+
+impl Named for Family {
+    ghost naming = { family_naming };
+
+    ghost along = { λ s at r f. f };
+
+    fn name(self) -> Text {
+        self.name
     }
 }

@@ -14,7 +14,7 @@ pub enum Between {
     Variants,
 }
 
-// The place after the command of this number at a place; 0 where there is none.
+// The place after the command of this number at a place; 0 where there is none, as the definition `after_at` has it.
 fn end_of(s: &[u8], at: usize, byte: u8) -> usize
     requires { (at < length s.now) × (byte ≡ get_or s.now at 0) }
     ensures { result ≡ after_at s.now at }
@@ -32,7 +32,7 @@ fn end_of(s: &[u8], at: usize, byte: u8) -> usize
     at + width
 }
 
-// The place after the command at a place; 0 where there is none.
+// The place after the command at a place; 0 where there is none, as the definition of that name has it, and no command ends there.
 pub fn after_at(s: &[u8], at: usize) -> usize
     ensures { result ≡ after_at s.now at }
 {
@@ -56,7 +56,8 @@ pub fn passes(between: Between, byte: u8) -> bool
 }
 
 // The place of the next element of a list from a place on, by the number of its command, and the place after it. The width of a command that is
-// found is taken from the number that is sought: where a caller's number is a constant the compiler then knows how many bytes are there, and tests no operand for them.
+// found is taken from the number that is sought: where a caller's number is a constant the compiler then knows how many bytes are there, and
+// tests no operand for them.
 pub fn seek(s: &[u8], from: usize, number: u8, between: Between) -> Option<(usize, usize)>
     ensures { SoughtFrom s.now between number from result }
 {

@@ -20,6 +20,7 @@ use crate::sizes::{LIMIT, front_bytes, number_at, product, scalar_bytes, size_un
 use crate::{cut, le};
 
 // A type as the stream opens it: the place of its command, a family's front, and the cursor at its fields.
+// There are two kinds of type beside none, so that an Option of either would be matched twice.
 #[derive(Clone, Copy)]
 pub(crate) enum TypeStep {
     NoType,

@@ -66,6 +66,7 @@ fn decimal(n: u64) -> Digits
     let mut bytes = [0u8; 21];
     let mut i: usize = 21;
     let mut rest = n;
+    // The digits are as many as the number has, from the last to the first: what ends the loop is the number, not the place.
     while 10 <= rest {
         i -= 1;
         bytes[i] = 48 + (rest % 10) as u8;

@@ -45,7 +45,7 @@ fn is_four(a: u8, b: u8, c: u8, d: u8) -> bool
     }
 }
 
-// The length of the sequence that four bytes begin with, 0 if none does.
+// The length of the sequence that four bytes begin with, 0 if none does, as the definition of that name has it.
 fn char_of(a: u8, b: u8, c: u8, d: u8) -> usize
     ensures { result ≡ char_of a b c d }
 {
@@ -72,7 +72,7 @@ fn is_plain(b: u8) -> bool
     matches!(b, 0x20..=0x7e)
 }
 
-// The length of the letter at a place, 0 if none begins there.
+// The length of the letter at a place, 0 if none begins there, as the definition of that name has it.
 pub fn letter_length(s: &[u8], at: usize) -> usize
     ensures { result ≡ letter_length (drop at s.now) }
 {

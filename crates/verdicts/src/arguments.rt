@@ -21,6 +21,7 @@ pub enum Item {
 }
 
 // What a constant holds: an integer of 64 bits in two's complement, or a text.
+// Neither kind is a failure, so that no Result says it more plainly.
 #[derive(Clone, Copy)]
 pub enum ConstantValue {
     Integer(u64),

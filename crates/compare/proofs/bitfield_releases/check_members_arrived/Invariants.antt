@@ -9,7 +9,7 @@ use Rattle.definition.specs.BitfieldReleases.{check_members_arrived}
 use Rattle.compare.proofs.bitfield_releases.check_members_arrived.Given as goal
 
 abbrev pub invariant-loop-m : goal.invariant-loop-m
-invariant-loop-m l = check_members_arrived (text_of l.pool l.current) (text_of l.pool l.owner) (required (opt_of l.pool l.since)) (bitfield_found l.old_stream l.old_pool l.was) (members_at l.stream l.pool l.initial.cursor.at) ≡ check_members_arrived (text_of l.pool l.current) (text_of l.pool l.owner) (required (opt_of l.pool l.since)) (bitfield_found l.old_stream l.old_pool l.was) (members_at l.stream l.pool l.cursor.at)
+invariant-loop-m l = check_members_arrived (text_of l.current.pool.now l.shipping) (text_of l.current.pool.now l.owner) (required (opt_of l.current.pool.now l.since)) (bitfield_found l.released.stream.now l.released.pool.now l.was) (members_at l.current.stream.now l.current.pool.now l.initial.cursor.at) ≡ check_members_arrived (text_of l.current.pool.now l.shipping) (text_of l.current.pool.now l.owner) (required (opt_of l.current.pool.now l.since)) (bitfield_found l.released.stream.now l.released.pool.now l.was) (members_at l.current.stream.now l.current.pool.now l.cursor.at)
 
 abbrev pub decreases-loop-m : goal.decreases-loop-m
-decreases-loop-m l = length l.stream - l.cursor.at
+decreases-loop-m l = length l.current.stream.now - l.cursor.at

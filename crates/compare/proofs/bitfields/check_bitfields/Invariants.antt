@@ -6,7 +6,7 @@ use Rattle.definition.specs.Bitfields.{check_bitfields}
 use Rattle.compare.proofs.bitfields.check_bitfields.Given as goal
 
 abbrev pub invariant-loop-was : goal.invariant-loop-was
-invariant-loop-was l = check_bitfields (bitfields_at l.stream l.pool 0) (bitfields_at l.old_stream l.old_pool 0) ≡ check_bitfields (bitfields_at l.stream l.pool 0) (bitfields_at l.old_stream l.old_pool l.cursor.at)
+invariant-loop-was l = check_bitfields (bitfields_at l.current.stream.now l.current.pool.now 0) (bitfields_at l.released.stream.now l.released.pool.now 0) ≡ check_bitfields (bitfields_at l.current.stream.now l.current.pool.now 0) (bitfields_at l.released.stream.now l.released.pool.now l.cursor.at)
 
 abbrev pub decreases-loop-was : goal.decreases-loop-was
-decreases-loop-was l = length l.old_stream - l.cursor.at
+decreases-loop-was l = length l.released.stream.now - l.cursor.at

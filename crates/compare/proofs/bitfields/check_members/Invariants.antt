@@ -7,7 +7,7 @@ use Rattle.definition.specs.Bitfields.{check_members}
 use Rattle.compare.proofs.bitfields.check_members.Given as goal
 
 abbrev pub invariant-loop-was : goal.invariant-loop-was
-invariant-loop-was l = check_members (text_of l.old_pool l.owner) (members_at l.stream l.pool l.is.at) (members_at l.old_stream l.old_pool l.initial.cursor.at) ≡ check_members (text_of l.old_pool l.owner) (members_at l.stream l.pool l.is.at) (members_at l.old_stream l.old_pool l.cursor.at)
+invariant-loop-was l = check_members (text_of l.released.pool.now l.owner) (members_at l.current.stream.now l.current.pool.now l.is.at) (members_at l.released.stream.now l.released.pool.now l.initial.cursor.at) ≡ check_members (text_of l.released.pool.now l.owner) (members_at l.current.stream.now l.current.pool.now l.is.at) (members_at l.released.stream.now l.released.pool.now l.cursor.at)
 
 abbrev pub decreases-loop-was : goal.decreases-loop-was
-decreases-loop-was l = length l.old_stream - l.cursor.at
+decreases-loop-was l = length l.released.stream.now - l.cursor.at

@@ -4,7 +4,7 @@ use borrow.Author.Rules.{rules}
 use Rattle.compare.proofs.compare.check_prepared.Goals as goal
 
 pub check_declared-requires : goal.check_declared-requires
-check_declared-requires c = record { old_stream_len_bound = (search rules, search rules, search rules); fact = search rules }
+check_declared-requires c = record { old_stream_len_bound = (search rules, search rules); fact = search rules }
 
 pub returns-in_err-check_declared : goal.returns-in_err-check_declared
 returns-in_err-check_declared c = search (declared-stop, handed, c.in_err-check_declared.was)

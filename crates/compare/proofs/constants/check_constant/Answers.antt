@@ -8,7 +8,7 @@ pub returns-then-same_value : goal.returns-then-same_value
 returns-then-same_value c = search constant-same
 
 pub returns-then-is_generation : goal.returns-then-is_generation
-returns-then-is_generation c = search (constant-exempt, c.requires)
+returns-then-is_generation c = search constant-exempt
 
 pub returns : goal.returns
-returns c = search (constant-changed, c.requires)
+returns c = search constant-changed

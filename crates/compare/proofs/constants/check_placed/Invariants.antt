@@ -7,4 +7,4 @@ use Rattle.definition.specs.Constants.{check_constants_in}
 use Rattle.compare.proofs.constants.check_placed.Given as goal
 
 abbrev pub invariant-loop-place : goal.invariant-loop-place
-invariant-loop-place l = check_constants_in (structs_at l.stream l.pool 0) (constants_at l.stream l.pool 0) (map (placed_constant l.old_stream l.old_pool) l.table) ≡ check_constants_in (structs_at l.stream l.pool 0) (constants_at l.stream l.pool 0) (map (placed_constant l.old_stream l.old_pool) (drop l.place-index l.table))
+invariant-loop-place l = check_constants_in (structs_at l.current.record.stream.now l.current.record.pool.now 0) (constants_at l.current.record.stream.now l.current.record.pool.now 0) (map (placed_constant l.released.stream.now l.released.pool.now) l.table) ≡ check_constants_in (structs_at l.current.record.stream.now l.current.record.pool.now 0) (constants_at l.current.record.stream.now l.current.record.pool.now 0) (map (placed_constant l.released.stream.now l.released.pool.now) (drop l.place-index l.table))

@@ -6,7 +6,7 @@ use Rattle.definition.specs.Enums.{check_enums}
 use Rattle.compare.proofs.enums.check_enums.Given as goal
 
 abbrev pub invariant-loop-was : goal.invariant-loop-was
-invariant-loop-was l = check_enums (enums_at l.stream l.pool 0) (enums_at l.old_stream l.old_pool 0) ≡ check_enums (enums_at l.stream l.pool 0) (enums_at l.old_stream l.old_pool l.cursor.at)
+invariant-loop-was l = check_enums (enums_at l.current.record.stream.now l.current.record.pool.now 0) (enums_at l.released.stream.now l.released.pool.now 0) ≡ check_enums (enums_at l.current.record.stream.now l.current.record.pool.now 0) (enums_at l.released.stream.now l.released.pool.now l.cursor.at)
 
 abbrev pub decreases-loop-was : goal.decreases-loop-was
-decreases-loop-was l = length l.old_stream - l.cursor.at
+decreases-loop-was l = length l.released.stream.now - l.cursor.at

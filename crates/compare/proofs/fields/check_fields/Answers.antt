@@ -7,7 +7,7 @@ pub loop-i-init : goal.loop-i-init
 loop-i-init c = (search types-here, search visited-start, search rules, search rules)
 
 pub check_type-requires : goal.check_type-requires
-check_type-requires c = (search rules, (search table-typed, search rules, search rules), search rules)
+check_type-requires c = (search rules, search table-typed, search rules)
 
 pub returns-in_err-check_type : goal.returns-in_err-check_type
 returns-in_err-check_type c = (search (types-stop, handed, c.in_err-check_type.was), λ e. absurd (handed-passed _ _ (handed _ _ _ c.in_err-check_type.was c.from_residual.ensures) e))

@@ -8,4 +8,4 @@ use Rattle.compare.proofs.FieldLaws.{Visited, TypesOn}
 use Rattle.compare.proofs.fields.check_fields.Given as goal
 
 abbrev pub invariant-loop-i : goal.invariant-loop-i
-invariant-loop-i l = TypesOn (rec l.old_stream l.old_pool (scalars_of l.rows)) l.old_types (types_of (rec l.stream l.pool (scalars_of l.rows))) (types_of (rec l.old_stream l.old_pool (scalars_of l.rows))) l.i × Visited (rec l.stream l.pool (scalars_of l.rows)) (rec l.old_stream l.old_pool (scalars_of l.rows)) l.types l.old_types l.cover l.i × (length l.types ≤ length l.cover) × (length l.cover ≡ length l.initial.cover)
+invariant-loop-i l = TypesOn (rec l.laid.sides.released.record.stream.now l.laid.sides.released.record.pool.now (scalars_of l.laid.sides.rows.now)) l.laid.old_types.now (types_of (rec l.laid.sides.current.record.stream.now l.laid.sides.current.record.pool.now (scalars_of l.laid.sides.rows.now))) (types_of (rec l.laid.sides.released.record.stream.now l.laid.sides.released.record.pool.now (scalars_of l.laid.sides.rows.now))) l.i × Visited (rec l.laid.sides.current.record.stream.now l.laid.sides.current.record.pool.now (scalars_of l.laid.sides.rows.now)) (rec l.laid.sides.released.record.stream.now l.laid.sides.released.record.pool.now (scalars_of l.laid.sides.rows.now)) l.laid.types.now l.laid.old_types.now l.cover l.i × (length l.laid.types.now ≤ length l.cover) × (length l.cover ≡ length l.initial.cover)

@@ -18,6 +18,6 @@ returns c =
     let spot2 = c.first_spot-is.ensures in
     let changed = c.check_changed.ensures in
     record {
-      verdict = layout-fields _ _ _ _ _ _ _ _ _ _ _ pre.0.0 pre.1.0 spot2 spot c.type_name-owner.ensures changed.verdict;
-      entry = layout-noted _ _ _ _ _ _ _ _ _ c.args.types.index c.args.cover.now _ pre.0.0 pre.1.0 spot2 spot changed.entry;
+      verdict = layout-fields _ _ _ _ _ _ _ _ _ _ _ pre.0 pre.1 spot2 spot c.type_name-owner.ensures changed.verdict;
+      entry = layout-noted _ _ _ _ _ _ _ _ _ c.args.types.index c.args.cover.now _ pre.0 pre.1 spot2 spot changed.entry;
     }

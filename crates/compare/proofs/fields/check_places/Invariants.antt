@@ -6,7 +6,7 @@ use Rattle.compare.proofs.FieldLaws.{PlacesOn}
 use Rattle.compare.proofs.fields.check_places.Given as goal
 
 abbrev pub invariant-loop-was : goal.invariant-loop-was
-invariant-loop-was l = PlacesOn (rec l.old_stream l.old_pool (scalars_of l.rows)) l.old_sizes (name_of l.old_pool l.pair.owner) (places_from (rec l.stream l.pool (scalars_of l.rows)) l.pair.is) l.pair.was l.cursor
+invariant-loop-was l = PlacesOn (rec l.sides.released.record.stream.now l.sides.released.record.pool.now (scalars_of l.sides.rows.now)) l.sides.released.sizes.now (name_of l.sides.released.record.pool.now l.pair.owner) (places_from (rec l.sides.current.record.stream.now l.sides.current.record.pool.now (scalars_of l.sides.rows.now)) l.pair.is) l.pair.was l.cursor
 
 abbrev pub decreases-loop-was : goal.decreases-loop-was
-decreases-loop-was l = spots_left l.old_stream l.cursor
+decreases-loop-was l = spots_left l.sides.released.record.stream.now l.cursor

@@ -13,7 +13,7 @@ pub bounds-types-i : goal.bounds-types-i
 bounds-types-i c = search found_inside
 
 pub check_layout-requires : goal.check_layout-requires
-check_layout-requires c = ((search found-typed, search rules, search rules), search rules, search found-room)
+check_layout-requires c = (search found-typed, search rules, search found-room)
 
 pub returns : goal.returns
 returns c = (search type-there, λ e. search type-noted)

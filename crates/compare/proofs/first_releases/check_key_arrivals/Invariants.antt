@@ -8,7 +8,7 @@ use Rattle.definition.specs.FirstReleases.{check_key_arrivals}
 use Rattle.compare.proofs.first_releases.check_key_arrivals.Given as goal
 
 abbrev pub invariant-loop-is : goal.invariant-loop-is
-invariant-loop-is l = check_key_arrivals (text_of l.pool l.current) (opt_of l.old_pool l.copy) (plugin_keys (structs_at l.stream l.pool 0) (unstored_at l.stream l.pool 0)) (plugin_keys (structs_at l.old_stream l.old_pool 0) (unstored_at l.old_stream l.old_pool 0)) ≡ check_key_arrivals (text_of l.pool l.current) (opt_of l.old_pool l.copy) (keys_from l.stream l.pool l.at) (plugin_keys (structs_at l.old_stream l.old_pool 0) (unstored_at l.old_stream l.old_pool 0))
+invariant-loop-is l = check_key_arrivals (text_of l.current.pool.now l.dates.current) (opt_of l.released.record.pool.now l.dates.copy) (plugin_keys (structs_at l.current.stream.now l.current.pool.now 0) (unstored_at l.current.stream.now l.current.pool.now 0)) (plugin_keys (structs_at l.released.record.stream.now l.released.record.pool.now 0) (unstored_at l.released.record.stream.now l.released.record.pool.now 0)) ≡ check_key_arrivals (text_of l.current.pool.now l.dates.current) (opt_of l.released.record.pool.now l.dates.copy) (keys_from l.current.stream.now l.current.pool.now l.at) (plugin_keys (structs_at l.released.record.stream.now l.released.record.pool.now 0) (unstored_at l.released.record.stream.now l.released.record.pool.now 0))
 
 abbrev pub decreases-loop-is : goal.decreases-loop-is
-decreases-loop-is l = length (keys_from l.stream l.pool l.at)
+decreases-loop-is l = length (keys_from l.current.stream.now l.current.pool.now l.at)

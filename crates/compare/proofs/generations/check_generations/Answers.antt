@@ -5,10 +5,11 @@ pub fill_cover-requires : goal.fill_cover-requires
 fill_cover-requires c =
     let pre = c.requires in
     let slots = c.versioned_structs-slots.ensures in
-    (record { marks = c.mark_owners.ensures.within pre.1 slots pre.3; index = pre.3 }, slots, pre.2)
+    let index = c.args.current.now.indexed in
+    (record { marks = c.mark_owners.ensures.within pre.1 slots index; index = index }, slots, pre.2)
 
 pub check_filled-requires : goal.check_filled-requires
-check_filled-requires c = let pre = c.requires in (c.versioned_structs-slots.ensures, pre.3, pre.4)
+check_filled-requires c = c.versioned_structs-slots.ensures
 
 pub returns : goal.returns
 returns c = λ w g. search (generations-are, c.requires.0)

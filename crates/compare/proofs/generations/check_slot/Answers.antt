@@ -1,4 +1,4 @@
-use Rattle.compare.proofs.GenerationLaws.{slot_laws, slot_held}
+use Rattle.compare.proofs.GenerationLaws.{slot_laws}
 use Rattle.compare.proofs.generations.check_slot.Goals as goal
 
 pub returns-in_default : goal.returns-in_default
@@ -8,4 +8,4 @@ pub returns-in_default-held : goal.returns-in_default-held
 returns-in_default-held c = search slot_laws
 
 pub returns : goal.returns
-returns c = let pre = c.requires in search (slot_held, pre.0)
+returns c = search slot_laws

@@ -6,7 +6,7 @@ use Rattle.definition.specs.Generations.{is_listed}
 use Rattle.compare.proofs.generations.is_listed.Given as goal
 
 abbrev pub invariant-loop-v : goal.invariant-loop-v
-invariant-loop-v l = is_listed l.root l.number (versions_at l.stream l.pool 0) ≡ is_listed l.root l.number (versions_at l.stream l.pool l.cursor.at)
+invariant-loop-v l = is_listed l.root l.number (versions_at l.current.stream.now l.current.pool.now 0) ≡ is_listed l.root l.number (versions_at l.current.stream.now l.current.pool.now l.cursor.at)
 
 abbrev pub decreases-loop-v : goal.decreases-loop-v
-decreases-loop-v l = length l.stream - l.cursor.at
+decreases-loop-v l = length l.current.stream.now - l.cursor.at

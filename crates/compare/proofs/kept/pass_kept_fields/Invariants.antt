@@ -5,7 +5,7 @@ use Rattle.compare.proofs.KeptLaws.{Keeping}
 use Rattle.compare.proofs.kept.pass_kept_fields.Given as goal
 
 abbrev pub invariant-loop-after : goal.invariant-loop-after
-invariant-loop-after l = Keeping l.stream l.pool l.sizes l.from.front l.initial.seen l.seen (body_at l.from.at l.from.offset) l.at l.old_stream l.old_pool l.old_sizes (body_at l.from.to l.from.offset) l.to l.offset
+invariant-loop-after l = Keeping l.sides.current.record.stream.now l.sides.current.record.pool.now l.sides.current.sizes.now l.from.front l.initial.seen l.seen (body_at l.from.at l.from.offset) l.at l.sides.released.record.stream.now l.sides.released.record.pool.now l.sides.released.sizes.now (body_at l.from.to l.from.offset) l.to l.offset
 
 abbrev pub decreases-loop-after : goal.decreases-loop-after
-decreases-loop-after l = length l.stream - l.at
+decreases-loop-after l = length l.sides.current.record.stream.now - l.at

@@ -5,7 +5,7 @@ use Rattle.compare.proofs.LayoutLaws.{PlaceOn}
 use Rattle.compare.proofs.layouts.find_spot.Given as goal
 
 abbrev pub invariant-loop-x : goal.invariant-loop-x
-invariant-loop-x l = PlaceOn (rec l.stream l.pool (scalars_of l.rows)) l.sizes l.name l.initial.cursor l.cursor
+invariant-loop-x l = PlaceOn (rec l.side.record.stream.now l.side.record.pool.now (scalars_of l.rows)) l.side.sizes.now l.name l.initial.cursor l.cursor
 
 abbrev pub decreases-loop-x : goal.decreases-loop-x
-decreases-loop-x l = spots_left l.stream l.cursor
+decreases-loop-x l = spots_left l.side.record.stream.now l.cursor

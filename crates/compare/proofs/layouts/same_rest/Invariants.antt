@@ -5,7 +5,7 @@ use Rattle.compare.proofs.LayoutLaws.{Agreed}
 use Rattle.compare.proofs.layouts.same_rest.Given as goal
 
 abbrev pub invariant-loop-x : goal.invariant-loop-x
-invariant-loop-x l = Agreed (rec l.stream l.pool (scalars_of l.rows)) (rec l.old_stream l.old_pool (scalars_of l.rows)) l.sizes l.old_sizes l.initial.is l.initial.was l.is l.was
+invariant-loop-x l = Agreed (rec l.sides.current.record.stream.now l.sides.current.record.pool.now (scalars_of l.sides.rows.now)) (rec l.sides.released.record.stream.now l.sides.released.record.pool.now (scalars_of l.sides.rows.now)) l.sides.current.sizes.now l.sides.released.sizes.now l.initial.is l.initial.was l.is l.was
 
 abbrev pub decreases-loop-x : goal.decreases-loop-x
-decreases-loop-x l = spots_left l.stream l.is
+decreases-loop-x l = spots_left l.sides.current.record.stream.now l.is

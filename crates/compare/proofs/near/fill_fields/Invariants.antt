@@ -7,7 +7,7 @@ use Rattle.compare.proofs.NearLaws.{Nearing}
 use Rattle.compare.proofs.near.fill_fields.Given as goal
 
 abbrev pub invariant-loop-here : goal.invariant-loop-here
-invariant-loop-here l = Nearing l.stream l.pool l.sizes (cursor_at (Body (place l.from)) l.start) l.initial.table l.table l.at l.offset
+invariant-loop-here l = Nearing l.current.record.stream.now l.current.record.pool.now l.current.sizes.now (cursor_at (Body (place l.from)) l.start) l.initial.table l.table l.at l.offset
 
 abbrev pub decreases-loop-here : goal.decreases-loop-here
-decreases-loop-here l = length l.stream - l.at
+decreases-loop-here l = length l.current.record.stream.now - l.at

@@ -9,7 +9,7 @@ use Rattle.compare.proofs.ShippedLaws.{key_latest}
 use Rattle.compare.proofs.shipped.stored_release.Given as goal
 
 abbrev pub invariant-loop-k : goal.invariant-loop-k
-invariant-loop-k l = key_release l.name (plugin_keys (structs_at l.old_stream l.old_pool 0) []) ≡ key_latest l.name (shipped_of l.old_pool l.found) (stored_from l.old_stream l.old_pool l.at [])
+invariant-loop-k l = key_release l.name (plugin_keys (structs_at l.released.stream.now l.released.pool.now 0) []) ≡ key_latest l.name (shipped_of l.released.pool.now l.found) (stored_from l.released.stream.now l.released.pool.now l.at [])
 
 abbrev pub decreases-loop-k : goal.decreases-loop-k
-decreases-loop-k l = length (stored_from l.old_stream l.old_pool l.at [])
+decreases-loop-k l = length (stored_from l.released.stream.now l.released.pool.now l.at [])

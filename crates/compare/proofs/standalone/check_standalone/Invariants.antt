@@ -9,7 +9,7 @@ use Rattle.definition.specs.Standalone.{check_standalone}
 use Rattle.compare.proofs.standalone.check_standalone.Given as goal
 
 abbrev pub invariant-loop-m : goal.invariant-loop-m
-invariant-loop-m l = check_standalone (families_at l.stream l.pool 0) (families_at l.old_stream l.old_pool 0) (types_of (rec l.stream l.pool (scalars_of l.rows))) (types_of (rec l.old_stream l.old_pool (scalars_of l.rows))) ≡ check_standalone (families_at l.stream l.pool l.cursor.at) (families_at l.old_stream l.old_pool 0) (types_of (rec l.stream l.pool (scalars_of l.rows))) (types_of (rec l.old_stream l.old_pool (scalars_of l.rows)))
+invariant-loop-m l = check_standalone (families_at l.laid.sides.current.record.stream.now l.laid.sides.current.record.pool.now 0) (families_at l.laid.sides.released.record.stream.now l.laid.sides.released.record.pool.now 0) (types_of (rec l.laid.sides.current.record.stream.now l.laid.sides.current.record.pool.now (scalars_of l.laid.sides.rows.now))) (types_of (rec l.laid.sides.released.record.stream.now l.laid.sides.released.record.pool.now (scalars_of l.laid.sides.rows.now))) ≡ check_standalone (families_at l.laid.sides.current.record.stream.now l.laid.sides.current.record.pool.now l.cursor.at) (families_at l.laid.sides.released.record.stream.now l.laid.sides.released.record.pool.now 0) (types_of (rec l.laid.sides.current.record.stream.now l.laid.sides.current.record.pool.now (scalars_of l.laid.sides.rows.now))) (types_of (rec l.laid.sides.released.record.stream.now l.laid.sides.released.record.pool.now (scalars_of l.laid.sides.rows.now)))
 
 abbrev pub decreases-loop-m : goal.decreases-loop-m
-decreases-loop-m l = length l.stream - l.cursor.at
+decreases-loop-m l = length l.laid.sides.current.record.stream.now - l.cursor.at

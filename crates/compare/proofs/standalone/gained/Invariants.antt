@@ -5,7 +5,7 @@ use Rattle.compare.proofs.StandaloneLaws.{GainedOn}
 use Rattle.compare.proofs.standalone.gained.Given as goal
 
 abbrev pub invariant-loop-x : goal.invariant-loop-x
-invariant-loop-x l = GainedOn (rec l.stream l.pool (scalars_of l.rows)) l.sizes (places_from (rec l.old_stream l.old_pool (scalars_of l.rows)) l.was) l.initial.cursor l.cursor
+invariant-loop-x l = GainedOn (rec l.sides.current.record.stream.now l.sides.current.record.pool.now (scalars_of l.sides.rows.now)) l.sides.current.sizes.now (places_from (rec l.sides.released.record.stream.now l.sides.released.record.pool.now (scalars_of l.sides.rows.now)) l.was) l.initial.cursor l.cursor
 
 abbrev pub decreases-loop-x : goal.decreases-loop-x
-decreases-loop-x l = spots_left l.stream l.cursor
+decreases-loop-x l = spots_left l.sides.current.record.stream.now l.cursor

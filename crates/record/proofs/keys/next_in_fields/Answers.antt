@@ -8,8 +8,8 @@ loop-after-init c = search keyless-here
 pub returns-in_default : goal.returns-in_default
 returns-in_default c = search field-key-laws
 
-pub returns-in-Some-next_key : goal.returns-in-Some-next_key
-returns-in-Some-next_key c = search field-key-laws
+pub returns-in-Some-next : goal.returns-in-Some-next
+returns-in-Some-next c = search field-key-laws
 
 pub loop-after-smaller : goal.loop-after-smaller
 loop-after-smaller c = search sought-nearer
