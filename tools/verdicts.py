@@ -113,7 +113,7 @@ KINDS = {
     'u64': Kind('ℕ', 'decimal %s', 'u64', 'Arg::Number(%s)', '%s'),
     'i64': Kind('ℕ', 'signed %s', 'u64', 'Arg::Signed(%s)', '%s'),
     'item/now': Kind('Item', 'item_text %s', 'Item', 'Arg::NowItem(%s)', '(item_of {pool} %s)'),
-    'copy/was': Kind('Option Str', 'copy_of %s', 'OptText', 'Arg::WasCopy(%s)', '(opt_of {old} %s)'),
+    'copy/was': Kind('Option Str', 'copy_of %s', 'Option<Text>', 'Arg::WasCopy(%s)', '(opt_of {old} %s)'),
     'value/now': Kind('Str', '%s', 'ConstantValue', 'Arg::NowValue(%s)', '(constant_text (value_meant {pool} %s))'),
     'value/was': Kind('Str', '%s', 'ConstantValue', 'Arg::WasValue(%s)', '(constant_text (value_meant {old} %s))'),
     'layout/now': Kind('Str', '%s', 'TypeName', 'Arg::NowType(%s)', '(name_of {pool} %s)'),
@@ -121,11 +121,11 @@ KINDS = {
     'described/now': Kind('Str', '%s', 'Description', 'Arg::NowShape(%s)', '(described_as {pool} %s)'),
     'described/was': Kind('Str', '%s', 'Description', 'Arg::WasShape(%s)', '(described_as {old} %s)'),
     'standing': Kind('Bool', 'standing_of %s', 'bool', 'Arg::Standing(%s)', '%s'),
-    'change/now': Kind('Option Str', 'change_text %s', 'OptText', 'Arg::NowChange(%s)', '(opt_of {pool} %s)'),
+    'change/now': Kind('Option Str', 'change_text %s', 'Option<Text>', 'Arg::NowChange(%s)', '(opt_of {pool} %s)'),
 }
 
 # where the code's types and the meanings stand
-TYPES = {'Text': 'record::text', 'OptText': 'record::operands', 'Description': 'record::describe', 'TypeName': 'layout::names',
+TYPES = {'Text': 'record::text', 'Description': 'record::describe', 'TypeName': 'layout::names',
          'Item': 'crate::arguments', 'ConstantValue': 'crate::arguments'}
 MEANINGS = {'text_of': 'Rattle.record.specs.Stretch', 'opt_of': 'Rattle.record.specs.Lists', 'described_as': 'Rattle.record.specs.Describe',
             'name_of': 'Rattle.layout.specs.Names', 'constant_text': 'Rattle.definition.specs.Constants',
@@ -177,8 +177,7 @@ def definition():
     o = '''\
 -- The verdicts: the words and numbers of 01, What a check returns, and the messages of layout.rs byte for byte. Written by tools/verdicts.py.
 -- Assumes nothing.
-use Rattle.std.specs.Prelude.{[], ◌∷◌, ◌++◌, Bool, true, false, ℕ}
-use Rattle.std.proofs.Math.Option.{Option, none, some}
+use Rattle.std.specs.Prelude.{[], ◌∷◌, ◌++◌, Bool, true, false, ℕ, Option, Some, None}
 use Rattle.record.specs.Base.{Str, bytes, decimal, signed}
 use Rattle.record.specs.Fill.{joined}
 
@@ -216,8 +215,8 @@ item_text (within o n) = o ++ (bytes "::" ++ n)
 
 -- the release that the copy is of
 unfoldable pub copy_of : Option Str → Str
-copy_of none = bytes "a release before 0.8.0"
-copy_of (some r) = r
+copy_of None = bytes "a release before 0.8.0"
+copy_of (Some r) = r
 
 unfoldable pub standing_of : Bool → Str
 standing_of true = bytes "standalone"
@@ -225,8 +224,8 @@ standing_of false = bytes "not standalone"
 
 -- the field that a layout gained, or none of a new name
 unfoldable pub change_text : Option Str → Str
-change_text none = bytes "changed"
-change_text (some f) = bytes "gained " ++ f
+change_text None = bytes "changed"
+change_text (Some f) = bytes "gained " ++ f
 ''' % (wrapped('  ', [r.word for r in TABLE], ' ', ' : Word'), ''.join('word_number %s = %d\n' % (r.word, r.number) for r in TABLE))
     for r in TABLE:
         shown = [r.kinds[p[1:-1]].shown % p[1:-1] if p[0] == '{' else 'bytes "%s"' % p for p in r.pieces()]
@@ -338,12 +337,12 @@ ghost use Rattle.definition.specs.Verdicts as D;
 ghost use Rattle.definition.specs.Verdicts.{message_of, %s};
 ghost use Rattle.verdicts.specs.Template.{Writes};
 ghost use Rattle.verdicts.specs.Meaning.{violation, meaning};
-''' % (type_uses(['use crate::template::%s;' % n for n in ['Arg', 'Written'] + [writer(r) for r in TABLE]] + ['use crate::verdict::Verdict;']),
+''' % (type_uses(['use crate::template::%s;' % n for n in ['Arg'] + [writer(r) for r in TABLE]] + ['use crate::verdict::Verdict;']),
        meaning_uses(ghost=True), ', '.join(r.name for r in TABLE))
     for r in TABLE:
         o += '''
 // %d
-fn write_%s(out: &mut [u8], %spool: &[u8], old: &[u8]) -> Written
+fn write_%s(out: &mut [u8], %spool: &[u8], old: &[u8]) -> Result<usize, usize>
     ensures { %slet said : D.Verdict = %s in
         Writes out.old (message_of said) out.new result }
 {
@@ -353,7 +352,7 @@ fn write_%s(out: &mut [u8], %spool: &[u8], old: &[u8]) -> Written
        writer(r), template(r), arguments(r))
     o += '''
 // Puts the message of a violation at the front of out, if it fits.
-fn write_violation(out: &mut [u8], v: Verdict, pool: &[u8], old: &[u8]) -> Written
+fn write_violation(out: &mut [u8], v: Verdict, pool: &[u8], old: &[u8]) -> Result<usize, usize>
     ensures { let said : D.Verdict = violation pool.now old.now v in
         Writes out.old (message_of said) out.new result }
 {
@@ -365,12 +364,12 @@ fn write_violation(out: &mut [u8], v: Verdict, pool: &[u8], old: &[u8]) -> Writt
 }
 
 // Puts the message of what a pass answers at the front of out, if it fits: none has an empty one.
-pub fn write_verdict(out: &mut [u8], found: Result<(), Verdict>, pool: &[u8], old: &[u8]) -> Written
+pub fn write_verdict(out: &mut [u8], found: Result<(), Verdict>, pool: &[u8], old: &[u8]) -> Result<usize, usize>
     ensures { let said : D.Verdict = meaning pool.now old.now found in
         Writes out.old (message_of said) out.new result }
 {
     match found {
-        Ok(_) => Written::Whole(0),
+        Ok(_) => Ok(0),
         Err(v) => write_violation(out, v, pool, old),
     }
 }

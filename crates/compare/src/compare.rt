@@ -169,33 +169,25 @@ fn check_laid<'a>(
         let rel : Rec = ready_then ready.now in
         meaning cur.pool rel.pool result ≡ passes 7 10 (schema_of cur) (schema_of rel) }
 {
-    let current = Measured {
-        record: ready.current.record,
-        sizes,
-    };
-    let released = Measured {
-        record: ready.released.record,
-        sizes: old_sizes,
+    let now = ready.current.record;
+    let then = ready.released.record;
+    let sides = Sides {
+        rows: ready.rows,
+        current: Measured { record: now, sizes },
+        released: Measured {
+            record: then,
+            sizes: old_sizes,
+        },
     };
     let laid = Laid {
-        sides: Sides {
-            rows: ready.rows,
-            current,
-            released,
-        },
+        sides,
         types,
         old_types,
     };
     check_fields(&laid, cover)?;
     check_standalone(&laid)?;
-    check_generations(
-        &ready.current,
-        types,
-        &ready.released,
-        marks,
-        cover,
-        ready.facts.dates,
-    )
+    let dates = ready.facts.dates;
+    check_generations(&ready.current, types, &ready.released, marks, cover, dates)
 }
 
 // Fills the tables of types, then runs the passes over the types.
@@ -208,8 +200,9 @@ fn check_types(
     marks: &mut [u8],
     scratch: &mut [u32],
 ) -> Result<(), Verdict>
-    requires table_rooms { TableRooms ready.now.current.record.stream.now ready.now.released.record.stream.now types.old old_types.old sizes.old old_sizes.old
-        marks.old scratch.old }
+    requires table_rooms { let s : Str = ready.now.current.record.stream.now in
+        let b : Str = ready.now.released.record.stream.now in
+        TableRooms s b types.old old_types.old sizes.old old_sizes.old marks.old scratch.old }
     requires fact { IsReady ready.now }
     ensures { let cur : Rec = ready_now ready.now in
         let rel : Rec = ready_then ready.now in
@@ -240,8 +233,9 @@ fn check_prepared(
     marks: &mut [u8],
     scratch: &mut [u32],
 ) -> Result<(), Verdict>
-    requires table_rooms { TableRooms ready.now.current.record.stream.now ready.now.released.record.stream.now types.old old_types.old sizes.old old_sizes.old
-        marks.old scratch.old }
+    requires table_rooms { let s : Str = ready.now.current.record.stream.now in
+        let b : Str = ready.now.released.record.stream.now in
+        TableRooms s b types.old old_types.old sizes.old old_sizes.old marks.old scratch.old }
     requires fact { IsReady ready.now }
     ensures { let cur : Rec = ready_now ready.now in
         let rel : Rec = ready_then ready.now in

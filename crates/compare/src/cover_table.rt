@@ -1,15 +1,16 @@
 // The table of what covers each type: an entry for each handle of the table of types. The pass over the fields puts which types changed, and what
 // covers those is put here.
 ghost use Rattle.std.specs.Prelude.{◌≤◌, ◌≡◌, length};
-ghost use Rattle.record.specs.Ownership.{Known};
-ghost use Rattle.record.specs.Versioned.{InSlots};
-ghost use Rattle.compare.specs.CoverTable.{Owners, Entered, first_uncovered, is_under, first_touched};
+ghost use Rattle.record.specs.Reading.{Rec};
+ghost use Rattle.compare.specs.Catalog.{read};
+ghost use Rattle.compare.specs.Marked.{AreMarked, AreOwners};
+ghost use Rattle.compare.specs.CoverTable.{Entered, first_uncovered, is_under, first_touched};
 
-use crate::coverage::entry_after;
+use crate::catalog::Record;
+use crate::coverage::{Marked, entry_after};
 use layout::names::type_name;
 use record::leads::fill_leads;
 use record::text::{Text, bytes_of, same};
-use record::versioned::Versioned;
 use verdicts::verdict::Verdict;
 
 // How many types changed. Only the time depends on it, so that no more than a bound is promised.
@@ -20,99 +21,62 @@ fn count_changed(cover: &[u32]) -> usize
 }
 
 // Puts the entry of each type that is not as it was.
-fn fill_entries(
-    stream: &[u8],
-    pool: &[u8],
-    types: &[u32],
-    roots: Versioned,
-    marks: &[u8],
-    index: &[u16],
-    leads: &[u16],
-    cover: &mut [u32],
-)
-    requires { Owners stream.now pool.now roots marks.now index.now leads.now × (length types.now ≤ length cover.old) }
-    ensures { Entered stream.now pool.now types.now cover.old cover.new }
+fn fill_entries(current: &Marked, types: &[u32], leads: &[u16], cover: &mut [u32])
+    requires { AreOwners current.now leads.now × (length types.now ≤ length cover.old) }
+    ensures { let cur : Rec = read current.now.catalog.record in
+        Entered cur.stream cur.pool types.now cover.old cover.new }
 {
     let mut last = None;
     for (i, handle) in types.iter().enumerate() {
         if cover[i] == 0 {
             continue;
         }
-        let entry = entry_after(stream, pool, roots, marks, index, leads, last, *handle);
+        let entry = entry_after(current, leads, last, *handle);
         cover[i] = entry;
         last = Some((*handle, entry));
     }
 }
 
 // Puts these entries without a table of leads.
-fn fill_few(
-    stream: &[u8],
-    pool: &[u8],
-    types: &[u32],
-    roots: Versioned,
-    marks: &[u8],
-    index: &[u16],
-    cover: &mut [u32],
-)
-    requires { Known stream.now pool.now marks.now index.now
-        × InSlots stream.now pool.now roots
-        × (length types.now ≤ length cover.old) }
-    ensures { Entered stream.now pool.now types.now cover.old cover.new }
+fn fill_few(current: &Marked, types: &[u32], cover: &mut [u32])
+    requires { AreMarked current.now × (length types.now ≤ length cover.old) }
+    ensures { let cur : Rec = read current.now.catalog.record in
+        Entered cur.stream cur.pool types.now cover.old cover.new }
 {
-    fill_entries(
-        stream,
-        pool,
-        types,
-        roots,
-        marks,
-        index,
-        &index[0..0],
-        cover,
-    );
+    fill_entries(current, types, &current.catalog.index[0..0], cover);
 }
 
 // Puts these entries by a table of leads, which takes less time where many types changed. It has room for the types of a stream of 32,768 bytes.
-fn fill_many(
-    stream: &[u8],
-    pool: &[u8],
-    types: &[u32],
-    roots: Versioned,
-    marks: &[u8],
-    index: &[u16],
-    cover: &mut [u32],
-)
-    requires { Known stream.now pool.now marks.now index.now
-        × InSlots stream.now pool.now roots
-        × (length types.now ≤ length cover.old)
-        × (length marks.now ≤ 32768) }
-    ensures { Entered stream.now pool.now types.now cover.old cover.new }
+fn fill_many(current: &Marked, types: &[u32], cover: &mut [u32])
+    requires { AreMarked current.now × (length types.now ≤ length cover.old)
+        × (length current.now.marks.now ≤ 32768) }
+    ensures { let cur : Rec = read current.now.catalog.record in
+        Entered cur.stream cur.pool types.now cover.old cover.new }
 {
     let mut leads = [0u16; 3277];
-    fill_leads(stream, pool, marks, index, &mut leads);
-    fill_entries(stream, pool, types, roots, marks, index, &leads, cover);
+    let Record { stream, pool } = current.catalog.record;
+    fill_leads(
+        stream,
+        pool,
+        current.marks,
+        current.catalog.index,
+        &mut leads,
+    );
+    fill_entries(current, types, &leads, cover);
 }
 
 // Puts the entry of each type that is not as it was, where the marks are those of the owners and the index is the record's.
-pub(crate) fn fill_cover(
-    stream: &[u8],
-    pool: &[u8],
-    types: &[u32],
-    roots: Versioned,
-    marks: &[u8],
-    index: &[u16],
-    cover: &mut [u32],
-)
-    requires { Known stream.now pool.now marks.now index.now
-        × InSlots stream.now pool.now roots
-        × (length types.now ≤ length cover.old) }
-    ensures { Entered stream.now pool.now types.now cover.old cover.new }
+pub(crate) fn fill_cover(current: &Marked, types: &[u32], cover: &mut [u32])
+    requires { AreMarked current.now × (length types.now ≤ length cover.old) }
+    ensures { let cur : Rec = read current.now.catalog.record in
+        Entered cur.stream cur.pool types.now cover.old cover.new }
 {
     let n = count_changed(&cover[..types.len()]);
-    if n < 8 || 32768 < marks.len() {
-        fill_few(stream, pool, types, roots, marks, index, cover);
+    if n < 8 || 32768 < current.marks.len() {
+        fill_few(current, types, cover);
         return;
     }
-    fill_many(stream, pool, types, roots, marks, index, cover);
+    fill_many(current, types, cover);
 }
 
 // The first changed type that no number covers.

@@ -1,12 +1,15 @@
 // Which generation number covers a changed type: the one of the root that owns its name before the first "::".
-ghost use Rattle.std.specs.Prelude.{◌≡◌, []};
+ghost use Rattle.std.specs.Prelude.{◌≡◌};
 ghost use Rattle.record.specs.Base.{eqs};
-ghost use Rattle.record.specs.Reading.{Rec, rec};
+ghost use Rattle.record.specs.Reading.{Rec};
 ghost use Rattle.layout.specs.Handles.{type_name};
 ghost use Rattle.definition.specs.Coverage.{owning};
-ghost use Rattle.compare.specs.CoverTable.{colons_first, one_family, cover_in, cover_meant, Packed, Owners, Knows};
+ghost use Rattle.compare.specs.CoverTable.{colons_first, one_family, cover_in, cover_meant, Packed, Knows};
+ghost use Rattle.compare.specs.Catalog.{read};
+ghost use Rattle.compare.specs.Marked.{AreOwners};
 ghost use Rattle.compare.specs.Records.{type_lists};
 
+use crate::catalog::{Catalog, Record};
 use layout::names::{family_part, put_name, type_name};
 use record::cut::{from, upto};
 use record::index::stands_alone;
@@ -14,6 +17,14 @@ use record::le::byte_at;
 use record::ownership::owner_among;
 use record::text::{Text, same};
 use record::versioned::Versioned;
+
+// A record with its roots and the marks of what is under them, by which an owner is asked for.
+#[derive(Clone, Copy)]
+pub struct Marked<'a, 'b> {
+    pub catalog: Catalog<'a>,
+    pub roots: Versioned,
+    pub marks: &'b [u8],
+}
 
 // Whether a text begins with two colons.
 #[tactic(auto, unfolding(crate::specs::CoverTable::colons_first))]
@@ -45,8 +56,8 @@ fn one_family(g: u32, h: u32) -> bool
 }
 
 // Whether two types have one name before the first "::": variants of one family do, and so it is asked of the handles first.
-fn same_owning(stream: &[u8], pool: &[u8], g: u32, h: u32) -> bool
-    ensures { let cur : Rec = rec stream.now pool.now [] in
+fn same_owning(current: &Record, g: u32, h: u32) -> bool
+    ensures { let cur : Rec = read current.now in
         result ≡ eqs (owning (type_name cur.stream cur.pool g)) (owning (type_name cur.stream cur.pool h)) }
 {
     if one_family(g, h) {
@@ -54,6 +65,7 @@ fn same_owning(stream: &[u8], pool: &[u8], g: u32, h: u32) -> bool
     }
     let mut a = [0u8; 512];
     let mut b = [0u8; 512];
+    let Record { stream, pool } = *current;
     let m = put_name(&mut a, 0, pool, type_name(stream, g));
     let n = put_name(&mut b, 0, pool, type_name(stream, h));
     same(before_colons(&a[..m]), before_colons(&b[..n]))
@@ -67,77 +79,60 @@ fn packed(root: Text) -> u32
 }
 
 // The entry of a changed type, by its name before the first "::".
-fn entry_named(
-    stream: &[u8],
-    pool: &[u8],
-    roots: Versioned,
-    marks: &[u8],
-    index: &[u16],
-    leads: &[u16],
-    name: &[u8],
-) -> u32
-    ensures { let cur : Rec = rec stream.now pool.now [] in
-        (Owners cur.stream cur.pool roots marks.now index.now leads.now
+fn entry_named(current: &Marked, leads: &[u16], name: &[u8]) -> u32
+    ensures { let cur : Rec = read current.now.catalog.record in
+        (AreOwners current.now leads.now
         → cover_meant cur.pool result ≡ cover_in (type_lists cur) name.now) }
 {
+    let Record { stream, pool } = current.catalog.record;
+    let index = current.catalog.index;
     if stands_alone(stream, pool, index, name) {
         return 0;
     }
-    let Some(root) = owner_among(stream, pool, roots, marks, index, leads, name) else {
+    let Some(root) = owner_among(
+        stream,
+        pool,
+        current.roots,
+        current.marks,
+        index,
+        leads,
+        name,
+    ) else {
         return 1;
     };
     packed(root)
 }
 
 // The entry of a changed type.
-fn entry_of(
-    stream: &[u8],
-    pool: &[u8],
-    roots: Versioned,
-    marks: &[u8],
-    index: &[u16],
-    leads: &[u16],
-    handle: u32,
-) -> u32
-    ensures { let cur : Rec = rec stream.now pool.now [] in
-        (Owners cur.stream cur.pool roots marks.now index.now leads.now
+fn entry_of(current: &Marked, leads: &[u16], handle: u32) -> u32
+    ensures { let cur : Rec = read current.now.catalog.record in
+        (AreOwners current.now leads.now
         → cover_meant cur.pool result ≡ cover_in (type_lists cur) (owning (type_name cur.stream cur.pool handle))) }
 {
     let mut name = [0u8; 512];
+    let Record { stream, pool } = current.catalog.record;
     let n = put_name(&mut name, 0, pool, type_name(stream, handle));
-    entry_named(
-        stream,
-        pool,
-        roots,
-        marks,
-        index,
-        leads,
-        before_colons(&name[..n]),
-    )
+    entry_named(current, leads, before_colons(&name[..n]))
 }
 
 // The entry of a changed type, taken over from the one before, which has its handle and its entry in `last`, where both have one name before
 // the first "::": an owner is seldom sought twice.
 pub(crate) fn entry_after(
-    stream: &[u8],
-    pool: &[u8],
-    roots: Versioned,
-    marks: &[u8],
-    index: &[u16],
+    current: &Marked,
     leads: &[u16],
     last: Option<(u32, u32)>,
     handle: u32,
 ) -> u32
-    ensures { let cur : Rec = rec stream.now pool.now [] in
-        (Owners cur.stream cur.pool roots marks.now index.now leads.now
+    ensures { let cur : Rec = read current.now.catalog.record in
+        (AreOwners current.now leads.now
         → Knows cur.stream cur.pool last
         → cover_meant cur.pool result ≡ cover_in (type_lists cur) (owning (type_name cur.stream cur.pool handle))) }
 {
     let Some((before, entry)) = last else {
-        return entry_of(stream, pool, roots, marks, index, leads, handle);
+        return entry_of(current, leads, handle);
     };
-    if same_owning(stream, pool, before, handle) {
+    if same_owning(&current.catalog.record, before, handle) {
         return entry;
     }
-    entry_of(stream, pool, roots, marks, index, leads, handle)
+    entry_of(current, leads, handle)
 }

@@ -19,6 +19,7 @@ ghost use Rattle.verdicts.specs.Meaning.{meaning};
 
 use crate::catalog::{Catalog, Record};
 use crate::cover_table::{check_covered, fill_cover, first_touched};
+use crate::coverage::Marked;
 use crate::shipped::Dates;
 use layout::names::type_name;
 use record::command::{Constant, Cursor, Step, Struct, Version};
@@ -264,7 +265,12 @@ pub(crate) fn check_generations(
     let index = current.index;
     let slots = versioned_structs(stream, pool);
     mark_owners(stream, pool, slots, index, marks);
-    fill_cover(stream, pool, types, slots, marks, index, cover);
+    let marked = Marked {
+        catalog: *current,
+        roots: slots,
+        marks,
+    };
+    fill_cover(&marked, types, cover);
     let covered = Covered {
         catalog: *current,
         types,

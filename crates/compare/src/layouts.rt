@@ -181,7 +181,7 @@ pub(crate) fn same_layout(sides: &Sides, handle: u32, other: u32) -> bool
     same_ahead(sides, is, was)
 }
 
-// The same of two records that come in parts.
+// Whether types of two records that come in parts have the same fields in the same order, padding included.
 pub fn same_fields(
     rows: &[u8],
     stream: &[u8],

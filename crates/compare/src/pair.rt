@@ -16,5 +16,6 @@ pub struct Pair<'a> {
     pub dates: Dates,
     pub ghost is: { Legible (rec current.stream.now current.pool.now (scalars_of rows.now)) },
     pub ghost was: { Legible (rec released.stream.now released.pool.now (scalars_of rows.now)) },
-    pub ghost releases: { Releases (rec current.stream.now current.pool.now (scalars_of rows.now)) (rec released.stream.now released.pool.now (scalars_of rows.now)) dates.current dates.copy } by { Prim.hlevel props },
+    pub ghost releases: { Releases (rec current.stream.now current.pool.now (scalars_of rows.now))
+        (rec released.stream.now released.pool.now (scalars_of rows.now)) dates.current dates.copy } by { Prim.hlevel props },
 }

@@ -1,4 +1,4 @@
-// The messages of the verdicts, written from their templates: a byte below 32 is the number of an argument. Result<usize, usize> by tools/verdicts.py.
+// The messages of the verdicts, written from their templates: a byte below 32 is the number of an argument. Written by tools/verdicts.py.
 ghost use Rattle.record.specs.Base.{Str};
 ghost use Rattle.record.specs.Stretch.{text_of};
 ghost use Rattle.record.specs.Lists.{opt_of};

@@ -6,7 +6,7 @@ fill_cover-requires c =
     let pre = c.requires in
     let slots = c.versioned_structs-slots.ensures in
     let index = c.args.current.now.indexed in
-    (record { marks = c.mark_owners.ensures.within pre.1 slots index; index = index }, slots, pre.2)
+    ((record { marks = c.mark_owners.ensures.within pre.1 slots index; index = index }, slots), pre.2)
 
 pub check_filled-requires : goal.check_filled-requires
 check_filled-requires c = c.versioned_structs-slots.ensures
