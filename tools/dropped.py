@@ -13,7 +13,7 @@ import tempfile
 PATH = 'crates/definition/specs/Compare.antt'
 OLD = '    ∷ check_bitfield_releases (required cur.release) cur.bitfields rel.bitfields\n'
 NEW = '    ∷ pass\n'
-RUNNERS = ['check_declared', 'check_laid', 'check_lent', 'check_long', 'check_passes', 'check_prepared', 'check_short', 'check_types', 'compare']
+RUNNERS = ['check_declared', 'check_laid', 'check_lent', 'check_passes', 'check_prepared', 'check_sized', 'check_types', 'compare']
 UNPROVED = ['compare::check::check'] + ['compare::compare::' + name for name in RUNNERS]
 
 

@@ -27,9 +27,8 @@ KEYS = 'n one model b struct between kids named'.split()
 LISTS = [dict(zip(KEYS, row)) for row in ROWS]
 OF = {'unstored': 'key_of'}
 AT = {'unstored': 'key_at'}
-# heads and aliases are looked at once, fields are gone along by their places, and plugin keys and unstored keys by the walk over all keys, which
-# has its own measure
-UNMEASURED = ('heads', 'aliases', 'keys', 'fields', 'unstored')
+# heads are looked at once, and plugin keys and unstored keys by the walk over all keys, which has its own measure
+UNMEASURED = ('heads', 'keys', 'unstored')
 R = 'crates/record/'
 for d in LISTS:
     d['C'] = d['n'].capitalize()
@@ -111,7 +110,9 @@ pub struct UnstoredKey {
     pub key: PluginKey,
 }
 
-// The next element of the list that goes on at a cursor.
+// The next element of the list that goes on at a cursor. It, its decoders and the search by name are inlined, so that a search reads of the elements
+// that it passes the name alone.
+#[inline(always)]
 pub fn next<E: Listed>(stream: &[u8], from: Cursor) -> Step<E>
     ensures { E.list.From stream.now from.at result }
 {
@@ -131,6 +132,7 @@ impl Listed for %(struct)s {
         (%(b)d, Between::%(between)s)
     }
 
+    #[inline(always)]
     fn read(s: &[u8]) -> Self {
         %(code)s
     }
@@ -149,6 +151,7 @@ pub trait Named: Listed {
 }
 
 // The first element of that name from a cursor on.
+#[inline(always)]
 pub fn find<E: Named>(stream: &[u8], pool: &[u8], from: Cursor, name: &[u8]) -> Step<E>
     ensures { E.naming.Found stream.now pool.now from.at name.now result }
 {

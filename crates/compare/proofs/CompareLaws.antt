@@ -2,10 +2,12 @@
 use mathlib.Core.Path.{◌≡◌, refl, sym, ap, ap₂, ◌∙◌}
 use mathlib.Core.List.{List, [], ◌∷◌}
 use mathlib.Core.Bool.{Bool, true, false, cond}
-use Prim.Native.Nat.{ℕ, ◌≤◌}
+use Prim.Native.Nat.{ℕ, ◌+◌, ◌≤◌, ◌<◌}
 use native.Mathlib.Omega.{arith}
 use native.Mathlib.Nat.{min-le_left, min_comm}
 use lib.ListN.{length, get_or, take, length-take}
+use lib.Dec.{leb}
+use borrow.Author.Tests.{leb-true}
 use Rattle.std.specs.Prelude.{Result, Ok, ⊤, Option}
 use Rattle.record.specs.Base.{Str}
 use Rattle.record.specs.Stretch.{text_of}
@@ -36,6 +38,7 @@ use Rattle.definition.specs.Standalone.{check_standalone}
 use Rattle.definition.specs.Generations.{check_generations}
 use Rattle.definition.specs.Unreleased.{check_nothing_released}
 use Rattle.definition.specs.Compare.{pass_list, all_passes, pass_at, passes, first_of, compare}
+use Rattle.definition.proofs.Compare.{passes-step, no-passes}
 use Rattle.verdicts.specs.Meaning.{meaning}
 use Rattle.verdicts.specs.declared.verdict.Verdict.{Verdict}
 use Rattle.verdicts.proofs.PassLaws.{HandedOn, then-on, then-stop}
@@ -100,6 +103,22 @@ module _ (c r : Schema) where
   unfolding passes pass_at all_passes pass_list first_of
   laid-row x h = h ∙ sym (simp then-none)
 
+module _ (p q : Str) (c r : Schema) (a e k : ℕ) (h : passes a e c r ≡ passes k e c r) where
+  pub passes-end : e ≤ k → meaning p q (Ok tt) ≡ passes a e c r
+  unfolding meaning
+  passes-end l = sym (h ∙ no-passes c r k e l)
+
+  module _ (v : Result ⊤ Verdict) (i : meaning p q v ≡ pass_at k c r) (l : k < e) (m : leb e 10 ≡ true) where
+    pub passes_on : v ≡ Ok tt → passes a e c r ≡ passes (k + 1) e c r
+    unfolding ◌then◌ meaning
+    passes_on f =
+        h
+        ∙ passes-step c r k e l (leb-true e 10 m)
+        ∙ ap (λ (x : D.Verdict). x then passes (k + 1) e c r) (sym i ∙ ap (meaning p q) f)
+
+    pub passes-stop : (z : Result ⊤ Verdict) → HandedOn v z → meaning p q z ≡ passes a e c r
+    passes-stop z f = then-stop p q (pass_at k c r) (passes (k + 1) e c r) v i z f ∙ sym (h ∙ passes-step c r k e l (leb-true e 10 m))
+
 -- what is declared, then the types
 module _ (p q : Str) (c r : Schema) (v : Result ⊤ Verdict) (i : meaning p q v ≡ passes 2 7 c r) where
   pub declared-stop : (z : Result ⊤ Verdict) → HandedOn v z → meaning p q z ≡ passes 2 10 c r
@@ -138,7 +157,7 @@ module _ (s p b q : Str) (w : List Scalar) (current : Text) (copy : Option Text)
     unfolding pass_at
     at k x f h = h ∙ sym f
 
-    order-at : meaning p q v ≡ check_release_order N C → meaning p q v ≡ pass_at 1 (schema_of (rec s p w)) (schema_of (rec b q w))
+    pub order-at : meaning p q v ≡ check_release_order N C → meaning p q v ≡ pass_at 1 (schema_of (rec s p w)) (schema_of (rec b q w))
     order-at h = at 1 _ (ap (λ (l : List D.Verdict). get_or l 1 D.pass) passes-are) h
 
     first-releases : meaning p q v ≡ check_first_releases N C (constants_at s p 0) (constants_at b q 0) (enums_at s p 0) (enums_at b q 0) (plugin_keys (structs_at s p 0) (unstored_at s p 0)) (plugin_keys (structs_at b q 0) (unstored_at b q 0))
@@ -180,36 +199,36 @@ module _ (s p b q : Str) (w : List Scalar) (current : Text) (copy : Option Text)
 -- from a prepared pair, each stream cut off where its list ends
 module _ (s p b q : Str) (w : List Scalar) (x y : List ℕ) (f : Facts) (g : Prepared (rec s p w) (rec b q w) x y f) where
   module _ (v : Result ⊤ Verdict) where
-    first-releases-at :
+    pub first-releases-at :
         meaning p q v
         ≡ check_first_releases (text_of p f.dates.current) (opt_of q f.dates.copy) (constants_at s p 0) (constants_at b q 0) (enums_at s p 0) (enums_at b q 0) (plugin_keys (structs_at s p 0) (unstored_at s p 0)) (plugin_keys (structs_at b q 0) (unstored_at b q 0))
         → meaning p q v ≡ pass_at 2 (schema_of (rec s p w)) (schema_of (rec b q w))
     first-releases-at h = first-releases s p b q w _ _ g.releases v h
 
-    constants-at : (u : Str) → u ≡ take f.was.constants b → meaning p q v ≡ check_constants (structs_at s p 0) (constants_at s p 0) (constants_at u q 0)
+    pub constants-at : (u : Str) → u ≡ take f.was.constants b → meaning p q v ≡ check_constants (structs_at s p 0) (constants_at s p 0) (constants_at u q 0)
         → meaning p q v ≡ pass_at 3 (schema_of (rec s p w)) (schema_of (rec b q w))
     constants-at u c h = constants s p b q w _ _ g.releases v (h ∙ ap (check_constants (structs_at s p 0) (constants_at s p 0)) (constants-front b q u f.was g.was.ends c))
 
-    enums-at : (u : Str) → u ≡ take f.was.enums b → meaning p q v ≡ check_enums (enums_at s p 0) (enums_at u q 0) → meaning p q v ≡ pass_at 4 (schema_of (rec s p w)) (schema_of (rec b q w))
+    pub enums-at : (u : Str) → u ≡ take f.was.enums b → meaning p q v ≡ check_enums (enums_at s p 0) (enums_at u q 0) → meaning p q v ≡ pass_at 4 (schema_of (rec s p w)) (schema_of (rec b q w))
     enums-at u c h = enums s p b q w _ _ g.releases v (h ∙ ap (check_enums (enums_at s p 0)) (enums-front b q u f.was g.was.ends c))
 
     module _ (t u : Str) (c : t ≡ take f.is.bitfields s) (d : u ≡ take f.was.bitfields b) where
-      bitfields-at : meaning p q v ≡ check_bitfields (bitfields_at t p 0) (bitfields_at u q 0) → meaning p q v ≡ pass_at 5 (schema_of (rec s p w)) (schema_of (rec b q w))
+      pub bitfields-at : meaning p q v ≡ check_bitfields (bitfields_at t p 0) (bitfields_at u q 0) → meaning p q v ≡ pass_at 5 (schema_of (rec s p w)) (schema_of (rec b q w))
       bitfields-at h = bitfields s p b q w _ _ g.releases v (h ∙ ap₂ check_bitfields (bitfields-front s p t f.is g.is.ends c) (bitfields-front b q u f.was g.was.ends d))
 
-      bitfield-releases-at : meaning p q v ≡ check_bitfield_releases (text_of p f.dates.current) (bitfields_at t p 0) (bitfields_at u q 0) → meaning p q v ≡ pass_at 6 (schema_of (rec s p w)) (schema_of (rec b q w))
+      pub bitfield-releases-at : meaning p q v ≡ check_bitfield_releases (text_of p f.dates.current) (bitfields_at t p 0) (bitfields_at u q 0) → meaning p q v ≡ pass_at 6 (schema_of (rec s p w)) (schema_of (rec b q w))
       bitfield-releases-at h =
           bitfield-releases s p b q w _ _ g.releases v
           (h ∙ ap₂ (check_bitfield_releases (text_of p f.dates.current)) (bitfields-front s p t f.is g.is.ends c) (bitfields-front b q u f.was g.was.ends d))
 
     -- over the types
-    fields-at : meaning p q v ≡ check_fields (types_of (rec s p w)) (types_of (rec b q w)) → meaning p q v ≡ pass_at 7 (schema_of (rec s p w)) (schema_of (rec b q w))
+    pub fields-at : meaning p q v ≡ check_fields (types_of (rec s p w)) (types_of (rec b q w)) → meaning p q v ≡ pass_at 7 (schema_of (rec s p w)) (schema_of (rec b q w))
     fields-at h = fields s p b q w _ _ g.releases v h
 
-    standalone-at : meaning p q v ≡ check_standalone (families_at s p 0) (families_at b q 0) (types_of (rec s p w)) (types_of (rec b q w)) → meaning p q v ≡ pass_at 8 (schema_of (rec s p w)) (schema_of (rec b q w))
+    pub standalone-at : meaning p q v ≡ check_standalone (families_at s p 0) (families_at b q 0) (types_of (rec s p w)) (types_of (rec b q w)) → meaning p q v ≡ pass_at 8 (schema_of (rec s p w)) (schema_of (rec b q w))
     standalone-at h = standalone s p b q w _ _ g.releases v h
 
-    generations-at : (l m : List ℕ) → Changes (rec s p w) (rec b q w) l m
+    pub generations-at : (l m : List ℕ) → Changes (rec s p w) (rec b q w) l m
         → ((w₀ : List Scalar) → Changes (rec s p w₀) (rec b q w₀) l m
         → meaning p q v ≡ check_generations (text_of p f.dates.current) (opt_of q f.dates.copy) (versions_at s p 0) (types_at s p) (constants_at s p 0) (constants_at b q 0) (changed_types (rec s p w₀) (rec b q w₀)))
         → meaning p q v ≡ pass_at 9 (schema_of (rec s p w)) (schema_of (rec b q w))

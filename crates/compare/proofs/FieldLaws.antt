@@ -122,6 +122,20 @@ cursor-sound s p w z h c y x e k = k.sound y p w z x e
 
 -- entries of a table that are put
 
+pub ones-start : (m : List ℕ) → Ones 0 m
+ones-start m = record { one = λ j h. absurd (omega arith) }
+
+module _ (i : ℕ) (m : List ℕ) (b : Ones i m) where
+  pub ones-on : (n : ℕ) → i < n → n ≤ length m → Ones (i + 1) (set m i 1)
+  ones-on n k l = record { one = λ j h. go j h (eqb j i) refl }
+    where
+      go : (j : ℕ) → j < i + 1 → (v : Bool) → eqb j i ≡ v → get_or (set m i 1) j 0 ≡ 1
+      go j h true e = ap (λ (k : ℕ). get_or (set m i 1) k 0) (eqb-true j i e) ∙ get_or-set_same m i 1 0 (omega arith)
+      go j h false e = let a : j ≡ i → ⊥ = eqb-false j i e in get_or-set_other m i j 1 0 a ∙ b.one j (omega arith)
+
+  pub ones-end : (n : ℕ) → n ≤ i → Ones n m
+  ones-end n h = record { one = λ j k. b.one j (omega arith) }
+
 pub ones-filled : (n : ℕ) (m f : List ℕ) → n ≤ length m → f ≡ replicate (length (take n m)) 1 → Ones n (f ++ drop n m)
 ones-filled n m f h e = record { one = λ j k. go j k }
   where

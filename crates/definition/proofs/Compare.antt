@@ -35,6 +35,11 @@ module _ (cur rel : Schema) where
       ap first_of (ap₂ {C = List Verdict} take n (drop-cons L k pass i))
       ∙ ap (λ (j : ℕ). get_or L k pass then first_of (take (e - (k + 1)) (drop j L))) (sym (add-one k))
 
+  -- none are left
+  pub no-passes : (k e : ℕ) → e ≤ k → passes k e cur rel ≡ pass
+  unfolding passes first_of
+  no-passes k e h = let n : e - k ≡ 0 = omega arith in ap (λ (j : ℕ). first_of (take j (drop k L))) n
+
   abbrev copy : Verdict
   copy = check_nothing_released rel.structs rel.constants rel.enums rel.bitfields rel.aliases rel.families
 

@@ -241,6 +241,9 @@ module _ (c : ℕ → Bool) (old : Str) where
     pub closing-add : i < length held → length old < 18446744073709551616 → end + 1 < 18446744073709551616
     closing-add h g = let k = front-few in let l = same-long in omega arith
 
+    pub closing-less : i < length held → length old - (i + 1) < length old - i
+    closing-less h = let l = same-long in omega arith
+
     next : i < length old → kept c 0 (take (i + 1) old) ≡ front ++ kept c i (get_or old i 0 ∷ [])
     next h =
         let n : i + 1 ≡ suc i = omega arith in

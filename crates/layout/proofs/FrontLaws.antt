@@ -65,10 +65,10 @@ module _ (s p : Str) (t : List ℕ) (f : Fronts s p t) (g h a b c d : ℕ) (i : 
   second : Fronted (name_at s p d) y
   second = subst (λ (z : ℕ). Fronted (name_at s p d) z) (sym n.1) (f.right (d / 4) d n.0)
 
-  fronts-below : x < y → true ≡ before (type_name s p g) (type_name s p h)
+  pub fronts-below : x < y → true ≡ before (type_name s p g) (type_name s p h)
   fronts-below q = own-names s p g h a b c d (name_at s p c) (name_at s p d) true i j same k l refl refl (front_below (name_at s p c) (name_at s p d) x y first second q)
 
-  fronts-above : y < x → false ≡ before (type_name s p g) (type_name s p h)
+  pub fronts-above : y < x → false ≡ before (type_name s p g) (type_name s p h)
   fronts-above q = own-names s p g h a b c d (name_at s p c) (name_at s p d) false i j same k l refl refl (front_above (name_at s p c) (name_at s p d) x y first second q)
 
   pub fronts-differ : (x ≡ y → ⊥) → ltb x y ≡ before (type_name s p g) (type_name s p h)

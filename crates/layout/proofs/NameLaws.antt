@@ -123,19 +123,19 @@ module _ (x y : Str) (n m i : ℕ) (p : n ≡ length x) (q : m ≡ length y) whe
   pub turn-longer : i < n → m ≤ i → before (drop i x) (drop i y) ≡ false
   turn-longer h k = before-longer x y i (omega arith) (omega arith)
 
-  turn_below : (u v : ℕ) → i < n → i < m → u ≡ get_or x i 0 → v ≡ get_or y i 0 → u < v → before (drop i x) (drop i y) ≡ true
+  pub turn_below : (u v : ℕ) → i < n → i < m → u ≡ get_or x i 0 → v ≡ get_or y i 0 → u < v → before (drop i x) (drop i y) ≡ true
   turn_below u v h k a b c = before-below x y i (omega arith) (omega arith) (omega arith)
 
-  turn-above : (u v : ℕ) → i < n → i < m → u ≡ get_or x i 0 → v ≡ get_or y i 0 → v < u → before (drop i x) (drop i y) ≡ false
+  pub turn-above : (u v : ℕ) → i < n → i < m → u ≡ get_or x i 0 → v ≡ get_or y i 0 → v < u → before (drop i x) (drop i y) ≡ false
   turn-above u v h k a b c = before_above x y i (omega arith) (omega arith) (omega arith)
 
   pub turn-next : (u v : ℕ) → i < n → i < m → u ≡ get_or x i 0 → v ≡ get_or y i 0 → u ≡ v → before (drop i x) (drop i y) ≡ before (drop (i + 1) x) (drop (i + 1) y)
   turn-next u v h k a b e = before-next x y i (omega arith) (omega arith) (omega arith) (omega arith)
 
-  turn-shorter : n ≤ i → i < m → before (drop i x) (drop i y) ≡ true
+  pub turn-shorter : n ≤ i → i < m → before (drop i x) (drop i y) ≡ true
   turn-shorter h k = before-shorter x y i (omega arith) (omega arith)
 
-  turn_end : n ≤ i → m ≤ i → before (drop i x) (drop i y) ≡ false
+  pub turn_end : n ≤ i → m ≤ i → before (drop i x) (drop i y) ≡ false
   turn_end h k = before-end x y i (omega arith) (omega arith)
 
   pub turn-other : (u v : ℕ) → i < n → i < m → u ≡ get_or x i 0 → v ≡ get_or y i 0 → (u ≡ v → ⊥) → before (drop i x) (drop i y) ≡ ltb u v

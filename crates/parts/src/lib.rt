@@ -56,16 +56,29 @@ pub fn side_of(byte: u8) -> Side
     }
 }
 
-// An answer as the oracle writes it: its number, side, place and length. None where the input ends before.
+// The four numbers of an answer as the oracle writes it (number, side, place, length), of which a cut one counts as 0, and whether the last is whole.
+pub fn read_cut_answer<R: Read>(from: &mut R) -> (Answer, bool)
+    ensures { (result.0.place < 2 ^ 32) × (result.0.len < 2 ^ 32) }
+{
+    let number = read_number(from).unwrap_or(0);
+    let side = read_number(from).unwrap_or(0);
+    let place = read_number(from).unwrap_or(0) as usize;
+    let len = read_number(from);
+    let answer = Answer {
+        number,
+        side,
+        place,
+        len: len.unwrap_or(0) as usize,
+    };
+    (answer, len.is_some())
+}
+
+// An answer as the oracle writes it. None where its last number is cut: an input may go on after an end, as that of a terminal does.
 pub fn read_answer<R: Read>(from: &mut R) -> Option<Answer>
     ensures { IfSome result (λ a. (a.place < 2 ^ 32) × (a.len < 2 ^ 32)) }
 {
-    Some(Answer {
-        number: read_number(from)?,
-        side: read_number(from)?,
-        place: read_number(from)? as usize,
-        len: read_number(from)? as usize,
-    })
+    let (answer, whole) = read_cut_answer(from);
+    if whole { Some(answer) } else { None }
 }
 
 // A length and as many bytes, at the front of the buffer: these bytes. None where they are more than the buffer takes, or the input ends before.
@@ -125,13 +138,13 @@ pub fn holds(out: &[u8], text: &[u8]) -> bool
 
 // Whether a buffer begins with a text, of which no more counts than the buffer takes, and has behind it what it had before.
 pub fn holds_before(out: &[u8], text: &[u8], before: &[u8]) -> bool
-    requires { length before.now ≡ length out.now }
     ensures { let n : ℕ = min (length out.now) (length text.now) in
-        IsTrue result ↔ ((take n out.now ≡ take n text.now) × (drop n out.now ≡ drop n before.now)) }
+        IsTrue result ↔ ((length before.now ≡ length out.now)
+        × (take n out.now ≡ take n text.now) × (drop n out.now ≡ drop n before.now)) }
 {
     let n = out.len().min(text.len());
     let (front, back) = out.split_at(n);
-    front == &text[..n] && before.ends_with(back)
+    before.len() == out.len() && front == &text[..n] && before.ends_with(back)
 }
 
 // Replays a file of vectors, and reports in one line how many there are and how many differ. A turn says whether a vector's answer is the oracle's,

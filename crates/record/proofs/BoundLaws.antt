@@ -100,6 +100,12 @@ words-next s r t a x y e n q v =
     let f : sum_sizes (scalars_of s) ≡ x + m = rw (e, scalars_split r t n, q) in
     ap (λ (k : ℕ). capped (k + m)) v ∙ plus-left (a + x) m ∙ ap capped (let z : a + x + m ≡ a + sum_sizes (scalars_of s) = omega arith in z)
 
+-- a sum past the limit is what all rows come to
+pub words-over : (s r t : Str) (a x y w : ℕ) → s ≡ r ++ t → length r ≡ 9 → x ≡ get_or r 8 0 → y ≡ capped (a + x)
+    → capped (a + sum_sizes (scalars_of s)) ≡ capped w → limit < y → limit + 1 ≡ capped w
+words-over s r t a x y w e n q v i h =
+    cap-high (y + sum_sizes (scalars_of t)) (omega arith) ∙ words-next s r t a x y e n q v ∙ i
+
 pub words-end : (s : Str) (a : ℕ) → length s < 9 → a ≡ capped a → a ≡ capped (a + sum_sizes (scalars_of s))
 unfolding sum_sizes scalars_of
 words-end s a h e = e ∙ ap capped (let z : sum_sizes (scalars_of s) ≡ 0 = rw (scalars-end s 0 (omega arith)) in let y : a ≡ a + sum_sizes (scalars_of s) = omega arith in y)

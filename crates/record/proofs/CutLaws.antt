@@ -4,12 +4,12 @@ use mathlib.Core.Bool.{Bool, true, false, not, cond}
 use mathlib.Core.List.{[], ◌∷◌}
 use mathlib.Core.Path.{◌≡◌, refl, sym, ap, ◌∙◌}
 use native.Mathlib.Numerals.{add-one}
-use native.Mathlib.Nat.{sub-zero}
+use native.Mathlib.Nat.{add-zero, sub-zero}
 use native.Mathlib.Omega.{arith}
 use lib.ListN.{length, take, drop, get_or, drop_of_length-le, length-drop}
-use lib.Seq.{take_all, take-nil}
+use lib.Seq.{take_all, take-nil, drop-cons}
 use lib.Dec.{eqb, ltb}
-use borrow.Author.Tests.{eq-eqb, eqb-true, ltb-false}
+use borrow.Author.Tests.{eq-eqb, ne_eqb, eqb-true, ltb-false}
 use Rattle.std.specs.Prelude.{Option, Some, None, unwrap_or, position}
 use Rattle.std.specs.List.{position_or_len}
 use Rattle.record.specs.Base.{Str}
@@ -39,6 +39,19 @@ place-most b (a ∷ l) = go (eqb a b) (place-most b l)
     go : (t : Bool) → place_of b l ≤ length l → cond t 0 (suc (place_of b l)) ≤ suc (length l)
     go true h = omega arith
     go false h = omega arith
+
+module _ (s : Str) (b i : ℕ) where
+  pub place_here : i < length s → get_or s i 0 ≡ b → i + place_of b (drop i s) ≡ i
+  unfolding place_of
+  place_here h e = rw (drop-cons s i 0, eq-eqb (get_or s i 0) b e, add-zero)
+
+  pub place-later : i < length s → (get_or s i 0 ≡ b → ⊥) → i + place_of b (drop i s) ≡ i + 1 + place_of b (drop (i + 1) s)
+  unfolding place_of
+  place-later h e = rw (add-one, drop-cons s i 0, ne_eqb (get_or s i 0) b e) (omega arith)
+
+  pub place_none : length s ≤ i → i + place_of b (drop i s) ≡ i
+  unfolding place_of
+  place_none h = rw (drop_of_length-le s, add-zero)
 
 -- the place that the code finds
 place-first : (b : ℕ) (s : Str) → position_or_len (λ x. eqb x b) s ≡ place_of b s

@@ -63,7 +63,7 @@ some-part s = go (split s)
     go (inr d) = rw d.more (omega arith)
 
 -- a part with another byte is no decimal
-decimal-odd : (s : Str) → all_digits s ≡ false → is_decimal s ≡ false
+pub decimal-odd : (s : Str) → all_digits s ≡ false → is_decimal s ≡ false
 unfolding is_decimal
 decimal-odd s e = rw (e, and-false)
 

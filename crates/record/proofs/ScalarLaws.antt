@@ -107,7 +107,7 @@ enough s (suc n) zero at p q = rw (lt-leb 9 (length s - at) (omega arith))
 enough s (suc n) (suc m) at p q = rw (enough s n m (at + 9) (omega arith) (omega arith))
 
 module _ (s : Str) (at : ℕ) where
-  scalars-next : 9 ≤ length s - at → scalars_at s at ≡ scalar_at s at ∷ scalars_at s (at + 9)
+  pub scalars-next : 9 ≤ length s - at → scalars_at s at ≡ scalar_at s at ∷ scalars_at s (at + 9)
   unfolding scalars_at scalars_from
   scalars-next h = go (length s - at) (omega arith)
     where

@@ -8,7 +8,7 @@ use lib.ListN.{length}
 use Rattle.record.specs.Base.{Str}
 use Rattle.record.specs.Commands.{Step}
 use Rattle.record.specs.Lists.{alias_of, bitfield_of, constant_of, enum_of, family_of, field_of, key_of, member_of, struct_of, value_of, variant_of, version_of}
-use Rattle.record.specs.Steps.{field_key_at, FieldPlace, FieldPlaced, constants_at, constants_of, constants_left, ConstantsFrom, aliases_at, aliases_of, AliasesFrom, values_at, values_of, values_left, ValuesFrom, enums_at, enums_of, enums_left, EnumsFrom, members_at, members_of, members_left, MembersFrom, bitfields_at, bitfields_of, bitfields_left, BitfieldsFrom, keys_at, keys_of, KeysFrom, fields_at, fields_of, FieldsFrom, structs_at, structs_of, structs_left, StructsFrom, variants_at, variants_of, variants_left, VariantsFrom, families_at, families_of, families_left, FamiliesFrom, unstored_at, unstored_of, UnstoredFrom, versions_at, versions_of, versions_left, VersionsFrom}
+use Rattle.record.specs.Steps.{field_key_at, FieldPlace, FieldPlaced, constants_at, constants_of, constants_left, ConstantsFrom, aliases_at, aliases_of, aliases_left, AliasesFrom, values_at, values_of, values_left, ValuesFrom, enums_at, enums_of, enums_left, EnumsFrom, members_at, members_of, members_left, MembersFrom, bitfields_at, bitfields_of, bitfields_left, BitfieldsFrom, keys_at, keys_of, KeysFrom, fields_at, fields_of, fields_left, FieldsFrom, structs_at, structs_of, structs_left, StructsFrom, variants_at, variants_of, variants_left, VariantsFrom, families_at, families_of, families_left, FamiliesFrom, unstored_at, unstored_of, UnstoredFrom, versions_at, versions_of, versions_left, VersionsFrom}
 use Rattle.record.specs.declared.command as D
 use Rattle.record.specs.declared.command.Cursor.{Cursor}
 
@@ -30,6 +30,9 @@ module _ (s : Str) (at : ℕ) (r : Step D.TypeAlias.TypeAlias) (f : AliasesFrom 
 
   pub aliases-now : (p : Str) (e : D.TypeAlias.TypeAlias) (k : Cursor) → r ≡ Some (e, k) → aliases_at s p at ≡ alias_of p e ∷ aliases_at s p k.at
   aliases-now p e k m = f.list p ∙ ap (aliases_of s p) m
+
+  pub aliases-nearer : (e : D.TypeAlias.TypeAlias) (k : Cursor) → r ≡ Some (e, k) → length s - k.at < length s - at
+  aliases-nearer e k m = let h : suc (length s - k.at) ≤ length s - at = subst (λ x. aliases_left s x ≤ length s - at) m f.left in omega arith
 
 module _ (s : Str) (at : ℕ) (r : Step D.Value.Value) (f : ValuesFrom s at r) where
   -- the list itself, at the step
@@ -90,6 +93,9 @@ module _ (s : Str) (at : ℕ) (r : Step D.Field.Field) (f : FieldsFrom s at r) w
 
   pub fields-now : (p : Str) (e : D.Field.Field) (k : Cursor) → r ≡ Some (e, k) → fields_at s p at ≡ field_of p e (field_key_at s p k.at) ∷ fields_at s p k.at
   fields-now p e k m = f.list p ∙ ap (fields_of s p) m
+
+  pub fields-nearer : (e : D.Field.Field) (k : Cursor) → r ≡ Some (e, k) → length s - k.at < length s - at
+  fields-nearer e k m = let h : suc (length s - k.at) ≤ length s - at = subst (λ x. fields_left s x ≤ length s - at) m f.left in omega arith
 
   pub fields-stand : (e : D.Field.Field) (k : Cursor) → r ≡ Some (e, k) → FieldPlace s at e k
   fields-stand e k m = subst (λ x. FieldPlaced s at x) m f.placed

@@ -5,13 +5,12 @@ use mathlib.Core.Bool.{Bool, true, false}
 use mathlib.Core.Logic.{◌⊎◌, inl, inr, ⊎_elim}
 use Prim.Native.Nat.{ℕ, zero, suc, ◌+◌, ◌-◌, ◌*◌, ◌/◌, ◌%◌, ◌^◌, ◌≤◌, ◌<◌}
 use native.Mathlib.Nat.{pow-suc, div-lt_iff_lt-mul, zero-add, add-zero}
-use native.Mathlib.Numerals.{sub-one}
+use native.Mathlib.Numerals.{add-one, sub-one}
 use native.Mathlib.Omega.{arith}
 use lib.Dec.{leb}
 use borrow.Author.Tests.{le-ltb, lt-ltb, le-leb, lt-leb, leb-true, leb-false}
-use lib.ListN.{length, take, drop, set, length-append, length-drop, length-take}
-use borrow.Rule.Slice.PartMut.{put_mid}
-use lib.Seq.{set_split, drop_at, take_at, length-take-le, paste-zero, drop-append-add, drop-drop}
+use lib.ListN.{length, get_or, take, drop, set, length-append, length-drop, length-take}
+use lib.Seq.{set_split, drop_at, take_at, length-take-le, paste, paste-zero, paste-suc, take-length, drop-append-add, drop-drop}
 use Rattle.record.specs.Base.{Str, digits, decimal, signed}
 use Rattle.record.specs.Fill.{placed, fronted}
 use Rattle.record.specs.Write.{largest, saturated, Puts}
@@ -78,10 +77,14 @@ module _ (n a : ℕ) (e : a ≡ 48 + n % 10) where
         let m : c ≡ 48 + n / 10 / 10 = omega arith in
         rw (le-ltb n 10 (omega arith), le-ltb (n / 10) 10 (omega arith), lt-ltb (n / 10 / 10) 10 (omega arith), m, f, e)
 
--- a copy
-pub copied : (d s e : List ℕ) (at k : ℕ) → e ≡ s → k ≡ length s → put_mid at k d e ≡ placed d at s
+-- one element of a copy
+pub stored : (d s e : List ℕ) (at o j : ℕ) → o ≡ at + j → e ≡ paste d at s j → o < length d → j < length s → set e o (get_or s j 0) ≡ paste d at s (j + 1)
+stored d s e at o j ho he hd hs = rw (he, ho, add-one) (paste-suc d at s j 0 (omega arith) hs)
+
+-- the whole of it
+pub copied : (d s e : List ℕ) (at j : ℕ) → j ≡ length s → e ≡ paste d at s j → e ≡ placed d at s
 unfolding placed
-copied d s e at k h f = rw (h, f, append_assoc) (ap (λ (t : List ℕ). take at d ++ (s ++ t)) (drop-drop (length s) at d))
+copied d s e at j hj he = he ∙ rw (hj, take-length)
 
 -- a sign is stored in front of the digits
 pub sign : (v s : ℕ) (bs : List ℕ) → 2 ^ 63 ≤ v → v < 2 ^ 64 → 1 ≤ s → s ≤ length bs → drop s bs ≡ decimal (18446744073709551615 - v + 1) → drop (s - 1) (set bs (s - 1) 45) ≡ signed v

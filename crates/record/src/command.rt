@@ -198,6 +198,8 @@ pub(crate) fn bitfield_at(s: &[u8]) -> Bitfield
     }
 }
 
+// Inlined, since a search by name reads all operands of the member alone that it finds.
+#[inline(always)]
 pub(crate) fn member_at(s: &[u8]) -> Member
     ensures { result ≡ member_at s.now }
 {

@@ -34,7 +34,9 @@ pub struct UnstoredKey {
     pub key: PluginKey,
 }
 
-// The next element of the list that goes on at a cursor.
+// The next element of the list that goes on at a cursor. It, its decoders and the search by name are inlined, so that a search reads of the elements
+// that it passes the name alone.
+#[inline(always)]
 pub fn next<E: Listed>(stream: &[u8], from: Cursor) -> Step<E>
     ensures { E.list.From stream.now from.at result }
 {
@@ -52,6 +54,7 @@ impl Listed for Head {
         (1, Between::Anything)
     }
 
+    #[inline(always)]
     fn read(s: &[u8]) -> Self {
         head_at(s)
     }
@@ -64,6 +67,7 @@ impl Listed for Constant {
         (2, Between::Anything)
     }
 
+    #[inline(always)]
     fn read(s: &[u8]) -> Self {
         constant_at(s)
     }
@@ -76,6 +80,7 @@ impl Listed for TypeAlias {
         (3, Between::Anything)
     }
 
+    #[inline(always)]
     fn read(s: &[u8]) -> Self {
         alias_at(s)
     }
@@ -88,6 +93,7 @@ impl Listed for Value {
         (5, Between::Nothing)
     }
 
+    #[inline(always)]
     fn read(s: &[u8]) -> Self {
         value_at(s)
     }
@@ -100,6 +106,7 @@ impl Listed for Enum {
         (4, Between::Anything)
     }
 
+    #[inline(always)]
     fn read(s: &[u8]) -> Self {
         enum_at(s)
     }
@@ -112,6 +119,7 @@ impl Listed for Member {
         (7, Between::Nothing)
     }
 
+    #[inline(always)]
     fn read(s: &[u8]) -> Self {
         member_at(s)
     }
@@ -124,6 +132,7 @@ impl Listed for Bitfield {
         (6, Between::Anything)
     }
 
+    #[inline(always)]
     fn read(s: &[u8]) -> Self {
         bitfield_at(s)
     }
@@ -136,6 +145,7 @@ impl Listed for PluginKey {
         (12, Between::Nothing)
     }
 
+    #[inline(always)]
     fn read(s: &[u8]) -> Self {
         key_at(s)
     }
@@ -148,6 +158,7 @@ impl Listed for Field {
         (11, Between::Keys)
     }
 
+    #[inline(always)]
     fn read(s: &[u8]) -> Self {
         field_at(s)
     }
@@ -160,6 +171,7 @@ impl Listed for Struct {
         (8, Between::Anything)
     }
 
+    #[inline(always)]
     fn read(s: &[u8]) -> Self {
         struct_at(s)
     }
@@ -172,6 +184,7 @@ impl Listed for Variant {
         (10, Between::Fields)
     }
 
+    #[inline(always)]
     fn read(s: &[u8]) -> Self {
         variant_at(s)
     }
@@ -184,6 +197,7 @@ impl Listed for Family {
         (9, Between::Anything)
     }
 
+    #[inline(always)]
     fn read(s: &[u8]) -> Self {
         family_at(s)
     }
@@ -196,6 +210,7 @@ impl Listed for UnstoredKey {
         (13, Between::Anything)
     }
 
+    #[inline(always)]
     fn read(s: &[u8]) -> Self {
         UnstoredKey { key: key_at(s) }
     }
@@ -208,6 +223,7 @@ impl Listed for Version {
         (14, Between::Anything)
     }
 
+    #[inline(always)]
     fn read(s: &[u8]) -> Self {
         version_at(s)
     }
@@ -225,6 +241,7 @@ pub trait Named: Listed {
 }
 
 // The first element of that name from a cursor on.
+#[inline(always)]
 pub fn find<E: Named>(stream: &[u8], pool: &[u8], from: Cursor, name: &[u8]) -> Step<E>
     ensures { E.naming.Found stream.now pool.now from.at name.now result }
 {

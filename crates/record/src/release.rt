@@ -31,10 +31,11 @@ fn is_decimal(part: &[u8]) -> bool
 pub fn is_release(value: &[u8]) -> bool
     ensures { result ≡ is_release value.now }
 {
+    if !is_decimal(before_byte(value, b'.')) {
+        return false;
+    }
     let rest = after_byte(value, b'.');
-    is_decimal(before_byte(value, b'.'))
-        && is_decimal(before_byte(rest, b'.'))
-        && is_decimal(after_byte(rest, b'.'))
+    is_decimal(before_byte(rest, b'.')) && is_decimal(after_byte(rest, b'.'))
 }
 
 // The number that digits write. It ends at 32 bits, so that no part, however long, overflows.

@@ -137,6 +137,9 @@ fn scalar_bound(rows: &[u8]) -> u64
     let mut total = 0;
     for row in rows.chunks_exact(9) {
         total = sum(total, u64::from(row[8]));
+        if LIMIT < total {
+            return LIMIT + 1;
+        }
     }
     total
 }

@@ -18,6 +18,15 @@ Bytes l = (k : ℕ) → Fits w8 (get_or l k 0)
 fourth : (s : Str) (i : ℕ) → get_or s (i + 2 + 1) 0 ≡ get_or s (i + 3) 0
 fourth s i = ap (λ (n : ℕ). get_or s n 0) (let z : i + 2 + 1 ≡ i + 3 = omega arith in z)
 
+pub half_is : (s : Str) (i a b c d : ℕ) → a ≡ get_or s i 0 → b ≡ get_or s (i + 1) 0 → c ≡ get_or s (i + 2) 0 → d ≡ get_or s (i + 3) 0
+    → a + 256 * b + 65536 * c + 16777216 * d ≡ u32_at s i
+unfolding u32_at u16_at
+half_is s i a b c d p q r t = omega (arith, p, q, r, t, fourth s i)
+
+pub word-is : (s : Str) (i a b : ℕ) → a ≡ u32_at s i → b ≡ u32_at s (i + 4) → a + 4294967296 * b ≡ u64_at s i
+unfolding u64_at
+word-is s i a b p q = rw (p, q)
+
 one : (a m x n : ℕ) → a < 256 → x < 256 → a + 256 * m ≡ x + 256 * n → (a ≡ x) × (m ≡ n)
 one a m x n p q e = let r : a ≡ x = omega arith in (r, omega arith)
 

@@ -9,6 +9,13 @@ pub fn byte_at(s: &[u8], at: usize) -> u8
     if at < s.len() { s[at] } else { 0 }
 }
 
+// A byte as a larger number.
+pub fn wide(x: u8) -> u64
+    ensures { (result ≡ x) × (result < 256) }
+{
+    u64::from(x)
+}
+
 // Four bytes as a number, the first the lowest.
 #[tactic(auto, unfolding(crate::specs::Le::u32_at, crate::specs::Le::u16_at))]
 pub fn half(s: &[u8], i: usize) -> u64

@@ -19,7 +19,7 @@ fn turn<R: Read>(from: &mut R) -> Option<bool> {
     let pool = read_part(from, &mut pool).unwrap_or_default();
     let past = read_part(from, &mut past).unwrap_or_default();
     let old = read_part(from, &mut old).unwrap_or_default();
-    let room = read_number(from)? as usize;
+    let room = read_number(from).unwrap_or(0) as usize;
     let expected = read_answer(from)?;
     // The message, which follows where the number is a verdict's.
     let len = if 10 < expected.number {

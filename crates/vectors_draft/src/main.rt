@@ -8,7 +8,7 @@ ghost use Rattle.std.specs.Prelude.{◌≤◌, length};
 
 use drafts::saying::DraftAnswer;
 use menqachu::{menqachu_draft_add, menqachu_draft_count, menqachu_draft_remove};
-use parts::{holds_before, read_answer, read_byte, read_number, read_part, replay};
+use parts::{holds_before, read_byte, read_cut_answer, read_number, read_part, replay};
 use std::io;
 use std::io::Read;
 
@@ -44,12 +44,11 @@ fn turn<R: Read>(from: &mut R) -> Option<bool> {
     let mut draft = [0u8; 60000];
     let mut more = [0u8; 40000];
     let mut texts = [0u8; 40000];
-    let call = read_byte(from)?;
-    let given = read_number(from)? as usize;
-    let expected = DraftAnswer {
-        answer: read_answer(from)?,
-        changed: read_number(from)? as usize,
-    };
+    let call = read_byte(from).unwrap_or(0);
+    let given = read_number(from).unwrap_or(0) as usize;
+    let (answer, _) = read_cut_answer(from);
+    let changed = read_number(from)? as usize;
+    let expected = DraftAnswer { answer, changed };
     let draft = read_part(from, &mut draft).unwrap_or_default();
     let more = read_part(from, &mut more).unwrap_or_default();
     let texts = read_part(from, &mut texts).unwrap_or_default();

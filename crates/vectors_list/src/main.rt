@@ -17,8 +17,8 @@ fn turn<R: Read>(from: &mut R) -> Option<bool> {
     let mut text = [0u8; 65536];
     let stream = read_part(from, &mut stream).unwrap_or_default();
     let pool = read_part(from, &mut pool).unwrap_or_default();
-    let side = side_of(read_byte(from)?);
-    let room = read_number(from)? as usize;
+    let side = side_of(read_byte(from).unwrap_or(0));
+    let room = read_number(from).unwrap_or(0) as usize;
     let expected = read_answer(from)?;
     // The list, which follows where the number is 0.
     let len = if expected.number == 0 {

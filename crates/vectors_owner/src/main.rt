@@ -25,8 +25,8 @@ fn turn<R: Read>(from: &mut R) -> Option<bool> {
     let stream = read_part(from, &mut stream).unwrap_or_default();
     let pool = read_part(from, &mut pool).unwrap_or_default();
     let name = read_part(from, &mut name).unwrap_or_default();
-    let kind = read_byte(from)? as u32;
-    let first = read_number(from)? as usize;
+    let kind = read_byte(from).unwrap_or(0) as u32;
+    let first = read_number(from).unwrap_or(0) as usize;
     let second = read_number(from)? as usize;
     Some(reply(stream, pool, name) == (kind, first, second))
 }

@@ -14,7 +14,7 @@ fn turn<R: Read>(from: &mut R) -> Option<bool> {
     let stream = read_part(from, &mut stream).unwrap_or_default();
     let pool = read_part(from, &mut pool).unwrap_or_default();
     let expected = Answer {
-        number: read_byte(from)? as u32,
+        number: read_byte(from).unwrap_or(0) as u32,
         side: 0,
         place: read_number(from)? as usize,
         len: 0,

@@ -23,8 +23,8 @@ fn turn<R: Read>(from: &mut R) -> Option<bool> {
     let mut pool = [0u8; 40000];
     let stream = read_part(from, &mut stream).unwrap_or_default();
     let pool = read_part(from, &mut pool).unwrap_or_default();
-    let side = side_of(read_byte(from)?);
-    let number = read_byte(from)? as u32;
+    let side = side_of(read_byte(from).unwrap_or(0));
+    let number = read_byte(from).unwrap_or(0) as u32;
     let place = read_number(from)? as usize;
     let outcome = read_record(side, &built_in(), stream, pool);
     Some(agrees(outcome, number, place))

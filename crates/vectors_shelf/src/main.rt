@@ -10,7 +10,7 @@ ghost use Rattle.std.specs.Prelude.{◌≤◌, length};
 
 use drafts::shelved::{Shelf, ShelfAnswer};
 use menqachu::{menqachu_shelf_back, menqachu_shelf_set};
-use parts::{holds_before, read_answer, read_byte, read_number, read_part, replay};
+use parts::{holds_before, read_byte, read_cut_answer, read_number, read_part, replay};
 use std::io;
 use std::io::Read;
 
@@ -91,8 +91,8 @@ fn turn<R: Read>(from: &mut R) -> Option<bool> {
     let mut name = [0u8; 400];
     let mut draft = [0u8; 60000];
     let mut held = [0u8; 200000];
-    let call = read_byte(from)?;
-    let answer = read_answer(from)?;
+    let call = read_byte(from).unwrap_or(0);
+    let (answer, _) = read_cut_answer(from);
     let changed = read_number(from)? as usize;
     let given = read_shelf(from);
     let shelf = read_shelf(from);

@@ -1,6 +1,6 @@
 use Rattle.std.proofs.Common.{rules, arith, refl, sym, ap, ◌∙◌}
 use Rattle.record.specs.Shapes.{capped}
-use Rattle.record.proofs.BoundLaws.{cap-twice, words-begin, words-next, words-end}
+use Rattle.record.proofs.BoundLaws.{cap-twice, words-begin, words-next, words-over, words-end}
 use Rattle.record.proofs.vast.scalar_bound.Goals as goal
 
 pub loop-row-init : goal.loop-row-init
@@ -17,6 +17,12 @@ loop-row-preserved c =
       c.sum-total.ensures ∙ sym (cap-twice _) ∙ ap capped (sym c.sum-total.ensures),
       words-next _ _ _ _ _ _ h.1.0 (h.1.1 ∙ i.2) c.from.ensures c.sum-total.ensures ∙ i.4,
     )
+
+pub returns-then-total-gt-LIMIT : goal.returns-then-total-gt-LIMIT
+returns-then-total-gt-LIMIT c =
+    let h = c.in-Some.ensures.steps in
+    let i = c.loop-row.invariant in
+    words-over _ _ _ _ _ _ _ h.1.0 (h.1.1 ∙ i.2) c.from.ensures c.sum-total.ensures i.4 c.if-total-gt-LIMIT.true
 
 pub returns : goal.returns
 returns c =
